@@ -1,0 +1,1 @@
+// Check bits of clause 5.1.1.

@@ -1,0 +1,38 @@
+-- The codeword of a transport block: each code block turbo coded and rate matched, one after the other (clause 5.1.5).
+-- Assumes nothing.
+use mathlib.Core.List.{List, [], _++_}
+use Prim.Native.Nat.{ℕ, zero, suc, _+_}
+use lib.ListN.{length}
+use Rattle.segmentation.specs.Segmentation.{blocks, sizeOf, rowOf, fillerOf}
+use Rattle.segmentation.specs.CodeBlocks.{withCheck, codeBlock}
+use Rattle.turbo.specs.Streams.{stream0, stream1, stream2}
+use Rattle.rate_matching.specs.SubBlocks.{rows}
+use Rattle.rate_matching.specs.Circle.{circle, startOf}
+use Rattle.rate_matching.specs.Walk.{selected}
+use Rattle.codeword.specs.Shares.{share}
+
+-- w of code block r of the sequence b
+unfoldable pub blockCircle : List ℕ → ℕ → List ℕ
+blockCircle b r =
+    circle
+    (stream0 (rowOf (length b) r) (fillerOf (length b) r) (codeBlock b r))
+    (stream1 (rowOf (length b) r) (fillerOf (length b) r) (codeBlock b r))
+    (stream2 (rowOf (length b) r) (codeBlock b r))
+
+-- R of code block r of a sequence of B bits: D = K + 4
+unfoldable pub blockRows : ℕ → ℕ → ℕ
+blockRows B r = rows (sizeOf B r + 4)
+
+-- e_r0 .. e_r(E_r − 1): what code block r sends
+unfoldable pub blockBits : List ℕ → ℕ → ℕ → ℕ → ℕ → ℕ → List ℕ
+blockBits b Q N v G r =
+    selected (blockCircle b r) (startOf (blockRows (length b) r) v) (share (blocks (length b)) Q N G r)
+
+-- the bits of n code blocks from r on, in order (clause 5.1.5)
+unfoldable pub bitsFrom : List ℕ → ℕ → ℕ → ℕ → ℕ → ℕ → ℕ → List ℕ
+bitsFrom b Q N v G r zero = []
+bitsFrom b Q N v G r (suc n) = blockBits b Q N v G r ++ bitsFrom b Q N v G (suc r) n
+
+-- the codeword of the transport block a for the allocation Q, N, G and redundancy version v
+unfoldable pub codeword : List ℕ → ℕ → ℕ → ℕ → ℕ → List ℕ
+codeword a Q N v G = bitsFrom (withCheck a) Q N v G 0 (blocks (length a + 24))

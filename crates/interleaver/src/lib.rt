@@ -1,0 +1,1 @@
+// The turbo code internal interleaver of clause 5.1.3.2.3.

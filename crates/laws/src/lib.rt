@@ -1,0 +1,1 @@
+// Shared definitions and laws: the crate has no code of its own.

@@ -1,0 +1,5 @@
+pub mod Columns
+pub mod SubBlocks
+pub mod Circle
+pub mod Walk
+pub mod Places

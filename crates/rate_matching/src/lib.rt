@@ -1,0 +1,13 @@
+// Rate matching of clause 5.1.4.1: a place in a stream and a place on the circle are two types, crossed only by the mapping functions.
+
+// Which stream, 0 to 2, and the place in it, which runs to D.
+pub struct StreamPlace(pub usize, pub usize);
+
+// A place on the circle, which runs to 96·R.
+pub struct CirclePlace(pub usize);
+
+// What a place on the circle holds: a place of a stream, or a dummy.
+pub enum Held {
+    Bit(StreamPlace),
+    Dummy,
+}

@@ -1,0 +1,3 @@
+pub mod Segmentation
+pub mod CodeBlocks
+pub mod Sizes

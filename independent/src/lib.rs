@@ -1,0 +1,18 @@
+//! Uplink shared channel coding (UL-SCH data), written from 3GPP TS 36.212 V11.5.1 and
+//! from the rules paper 01 alone, as a second opinion on the project's main program.
+//!
+//! One module a clause, in the order of the clauses. Every module transcribes the loops
+//! of the standard as they stand there; nothing is made fast at the cost of that likeness.
+//!
+//! A bit is one byte, 0 or 1. A place that carries no bit (`<NULL>` in the standard:
+//! filler and dummies) is `None`.
+
+pub mod crc; // 5.1.1
+pub mod segmentation; // 5.1.2
+pub mod table; // 5.1.3, table 5.1.3-3
+pub mod turbo; // 5.1.3.2
+pub mod rate; // 5.1.4.1
+pub mod codeword; // 5.1.5, and the whole chain
+pub mod sizes; // the call Sizes and the sizes program of 01
+pub mod stage; // every stage as readable text
+pub mod xorshift; // repeatable blocks to try
