@@ -1,7 +1,7 @@
 -- Bits as numbers: exclusive or, and the bits of a number, highest first.
 -- Assumes nothing.
 use mathlib.Core.List.{List, [], _∷_}
-use Prim.Native.Nat.{ℕ, zero, suc, _*_, _/_, _%_, _^_}
+use Prim.Native.Nat.{ℕ, zero, suc, _/_, _%_, _^_}
 use lib.Bits.{bitXor}
 
 infixl 65 _⊕_

@@ -1,8 +1,8 @@
--- Lists by rule: the entries f i, f (i + 1), .. as a list, the entries that pass a test, and a sum of entries.
+-- Lists by rule: the entries f i, f (i + 1), .. as a list, and the entries that pass a test.
 -- Assumes nothing.
 use mathlib.Core.Bool.{Bool, true, false}
 use mathlib.Core.List.{List, [], _∷_}
-use Prim.Native.Nat.{ℕ, zero, suc, _+_}
+use Prim.Native.Nat.{ℕ, zero, suc}
 
 -- f i, f (i + 1), .., n entries
 unfoldable pub tabFrom : ℕ → ℕ → (ℕ → ℕ) → List ℕ

@@ -1,0 +1,6 @@
+pub mod Writing
+pub mod Parts
+pub mod Tab
+pub mod Keep
+pub mod Computed
+pub mod Bits
