@@ -1,0 +1,155 @@
+-- The six calls of 01's slots: for each its refusals in 01's order, its answer with the state returned, and every lent byte afterwards.
+-- Assumes nothing.
+use mathlib.Core.Bool.{Bool, true, false, cond, not}
+use mathlib.Core.List.{List, [], _∷_, _++_}
+use Prim.Native.Nat.{ℕ, _+_, _*_}
+use lib.Dec.{eqb, ltb}
+use lib.ListN.{length, drop, set}
+use Rattle.refusals.specs.Refusals.{Rule, rule, firstOf}
+use Rattle.segmentation.specs.Segmentation.{blocks, sizeOf}
+use Rattle.segmentation.specs.Sizes.{badSize}
+use Rattle.codeword.specs.Build.{badAllocation, badVersion, badBits}
+use Rattle.slots.specs.declared.Head.{Head}
+use Rattle.slots.specs.declared.State.{State}
+use Rattle.slots.specs.declared.Answer.the-variants.{Done, Heard, Lacking, Refused}
+use Rattle.slots.specs.declared.Outcome.{Outcome}
+use Rattle.slots.specs.State.{storeLength, closedHead, newState, headAt, tooMany, badShape, badState}
+use Rattle.slots.specs.Room.{cleared}
+use Rattle.slots.specs.Reception.{received}
+use Rattle.slots.specs.Reading.{lacking, wrongCheck, heardBlock, threeStreams}
+use Rattle.slots.specs.Answers.{unlessRefused}
+
+-- the state with another head for a slot
+unfoldable pub withHead : State → ℕ → Head → State
+withHead state slot h = record { slots = state .slots; blocks = state .blocks; heads = set (state .heads) slot h }
+
+-- 13, 5 (store), 6: what every call on a store asks first; room is the length of the store
+unfoldable pub storeRules : State → ℕ → ℕ → List Rule
+storeRules state room slot =
+    rule (badState state) 13 ∷ rule (ltb room (storeLength state)) 5 ∷ rule (not (ltb slot (state .slots))) 6 ∷ []
+
+-- 8, 9: the slot is open for this terminal
+unfoldable pub ownerRules : State → ℕ → ℕ → List Rule
+ownerRules state slot terminal =
+    rule (not (headAt state slot .opened)) 8 ∷ rule (not (eqb (headAt state slot .terminal) terminal)) 9 ∷ []
+
+-- New: 13 with a state of S = 0 and M = 0
+unfoldable pub newOutcome : ℕ → ℕ → Outcome
+newOutcome S M =
+    unlessRefused (firstOf (rule (badShape S M) 13 ∷ [])) (newState 0 0)
+    (record { answer = Done; state = newState S M })
+
+-- Open: 13, 5, 6, 7, 1, 10
+unfoldable pub openNumber : State → ℕ → ℕ → ℕ → ℕ
+openNumber state room slot A =
+    firstOf
+    (storeRules state room slot
+    ++ (rule (headAt state slot .opened) 7 ∷ rule (badSize A) 1 ∷ rule (tooMany (state .blocks) A) 10 ∷ []))
+
+unfoldable pub openOutcome : State → ℕ → ℕ → ℕ → ℕ → Outcome
+openOutcome state room slot terminal A =
+    unlessRefused (openNumber state room slot A) state
+    (record { answer = Done; state = withHead state slot (record { opened = true; terminal = terminal; size = A }) })
+
+unfoldable pub openStore : State → ℕ → ℕ → List ℕ → List ℕ
+openStore state slot A store =
+    cond (eqb (openNumber state (length store) slot A) 0) (cleared (state .blocks) slot store) store
+
+-- the A of a slot's head
+unfoldable pub sizeAtHead : State → ℕ → ℕ
+sizeAtHead state slot = headAt state slot .size
+
+-- Receive: 13, 5, 6, 8, 9, 3, 4, 2
+unfoldable pub receiveNumber : State → ℕ → ℕ → ℕ → ℕ → ℕ → ℕ → List ℕ → ℕ
+receiveNumber state room slot terminal Q N v bits =
+    firstOf
+    (storeRules state room slot
+    ++ (ownerRules state slot terminal
+    ++ (rule (badAllocation (blocks (sizeAtHead state slot + 24)) Q N (length bits)) 3
+    ∷ rule (badVersion v) 4
+    ∷ rule (badBits bits) 2
+    ∷ [])))
+
+unfoldable pub receiveStore : State → ℕ → ℕ → ℕ → ℕ → ℕ → List ℕ → List ℕ → List ℕ
+receiveStore state slot terminal Q N v bits store =
+    cond (eqb (receiveNumber state (length store) slot terminal Q N v bits) 0)
+    (received (state .blocks) slot (sizeAtHead state slot) Q N v bits store)
+    store
+
+-- accepted: how many data places lack a bit after the reception
+unfoldable pub receiveOutcome : State → ℕ → ℕ → ℕ → ℕ → ℕ → List ℕ → List ℕ → Outcome
+receiveOutcome state slot terminal Q N v bits store =
+    unlessRefused (receiveNumber state (length store) slot terminal Q N v bits) state
+    (record {
+      answer = Heard (lacking (state .blocks) slot (sizeAtHead state slot) (receiveStore state slot terminal Q N v bits store));
+      state = state;
+    })
+
+-- Read: 13, 5, 6, 8, 9, 5 (output), then 11 with the count, then 12; size is the length of the output
+unfoldable pub readNumber : State → ℕ → ℕ → ℕ → ℕ → ℕ
+readNumber state room slot terminal size =
+    firstOf
+    (storeRules state room slot ++ (ownerRules state slot terminal ++ (rule (ltb size (sizeAtHead state slot)) 5 ∷ [])))
+
+-- the slot's data places that lack a bit
+unfoldable pub lackingAt : State → ℕ → List ℕ → ℕ
+lackingAt state slot store = lacking (state .blocks) slot (sizeAtHead state slot) store
+
+unfoldable pub wrongAt : State → ℕ → List ℕ → Bool
+wrongAt state slot store = wrongCheck (state .blocks) slot (sizeAtHead state slot) store
+
+unfoldable pub readOutcome : State → List ℕ → ℕ → ℕ → ℕ → Outcome
+readOutcome state store slot terminal size =
+    unlessRefused (readNumber state (length store) slot terminal size) state
+    (record {
+      answer =
+          cond (eqb (lackingAt state slot store) 0)
+          (cond (wrongAt state slot store) (Refused 12) Done)
+          (Lacking (lackingAt state slot store));
+      state = state;
+    })
+
+-- the block is released: no refusal, nothing lacking, the check right
+unfoldable pub released : State → List ℕ → ℕ → ℕ → ℕ → Bool
+released state store slot terminal size =
+    cond (eqb (readNumber state (length store) slot terminal size) 0)
+    (cond (eqb (lackingAt state slot store) 0) (not (wrongAt state slot store)) false)
+    false
+
+unfoldable pub readOutput : State → List ℕ → ℕ → ℕ → List ℕ → List ℕ
+readOutput state store slot terminal out =
+    cond (released state store slot terminal (length out))
+    (heardBlock (state .blocks) slot (sizeAtHead state slot) store ++ drop (sizeAtHead state slot) out)
+    out
+
+-- Streams: 13, 5, 6, 8, 9, 14, 5 (output)
+unfoldable pub streamsNumber : State → ℕ → ℕ → ℕ → ℕ → ℕ → ℕ
+streamsNumber state room slot terminal r size =
+    firstOf
+    (storeRules state room slot
+    ++ (ownerRules state slot terminal
+    ++ (rule (not (ltb r (blocks (sizeAtHead state slot + 24)))) 14
+    ∷ rule (ltb size (3 * (sizeOf (sizeAtHead state slot + 24) r + 4))) 5
+    ∷ [])))
+
+unfoldable pub streamsOutcome : State → ℕ → ℕ → ℕ → ℕ → ℕ → Outcome
+streamsOutcome state room slot terminal r size =
+    unlessRefused (streamsNumber state room slot terminal r size) state (record { answer = Done; state = state })
+
+unfoldable pub streamsOutput : State → List ℕ → ℕ → ℕ → ℕ → List ℕ → List ℕ
+streamsOutput state store slot terminal r out =
+    cond (eqb (streamsNumber state (length store) slot terminal r (length out)) 0)
+    (threeStreams (state .blocks) slot (sizeAtHead state slot + 24) store r
+    ++ drop (3 * (sizeOf (sizeAtHead state slot + 24) r + 4)) out)
+    out
+
+-- Close: 13, 6, 8, 9
+unfoldable pub closeNumber : State → ℕ → ℕ → ℕ
+closeNumber state slot terminal =
+    firstOf
+    (rule (badState state) 13 ∷ rule (not (ltb slot (state .slots))) 6 ∷ ownerRules state slot terminal)
+
+unfoldable pub closeOutcome : State → ℕ → ℕ → Outcome
+closeOutcome state slot terminal =
+    unlessRefused (closeNumber state slot terminal) state
+    (record { answer = Done; state = withHead state slot closedHead })

@@ -1,0 +1,68 @@
+-- Reading a room, 01 'Read' and 'Streams': the data places and how many of them lack a bit, the block that was heard and its transport check, the three streams of a code block.
+-- Assumes nothing.
+use mathlib.Core.Bool.{Bool, true, false, cond, not, _&&_, _||_}
+use mathlib.Core.List.{List, [], _∷_, _++_}
+use Prim.Native.Nat.{ℕ, zero, suc, _+_, _-_}
+use lib.Dec.{eqb, ltb}
+use lib.ListN.{getD, take}
+use Rattle.laws.specs.Lists.{tab, tabFrom}
+use Rattle.check_bits.specs.CheckBits.{crc, gCRC24A}
+use Rattle.segmentation.specs.Segmentation.{checkLength, blocks, sizeOf, fillerOf}
+use Rattle.rate_matching.specs.Places.{placeNumber}
+use Rattle.slots.specs.Room.{heard, byteOf}
+
+-- what a slot's room keeps for place i of stream s of code block r, for a sequence of B bits
+unfoldable pub keptAt : ℕ → ℕ → ℕ → List ℕ → ℕ → ℕ → ℕ → ℕ
+keptAt M slot B store r s i = getD store (byteOf M slot r (placeNumber (sizeOf B r + 4) s i)) 0
+
+-- 1 where data place i of code block r lacks a bit
+unfoldable pub lacks : ℕ → ℕ → ℕ → List ℕ → ℕ → ℕ → ℕ
+lacks M slot B store r i = cond (heard (keptAt M slot B store r 0 i)) 0 1
+
+-- f i + f (i + 1) + .., n terms
+unfoldable pub sumFrom : (ℕ → ℕ) → ℕ → ℕ → ℕ
+sumFrom f i zero = 0
+sumFrom f i (suc n) = f i + sumFrom f (suc i) n
+
+-- how many data places of code block r lack a bit: those of stream 0 below K, filler left out
+unfoldable pub lackingIn : ℕ → ℕ → ℕ → List ℕ → ℕ → ℕ
+lackingIn M slot B store r = sumFrom (lacks M slot B store r) (fillerOf B r) (sizeOf B r - fillerOf B r)
+
+-- how many data places of the block lack a bit
+unfoldable pub lacking : ℕ → ℕ → ℕ → List ℕ → ℕ
+lacking M slot A store = sumFrom (lackingIn M slot (A + 24) store) 0 (blocks (A + 24))
+
+-- the bits of b that code block r carries: filler and CRC24B left out
+unfoldable pub heardIn : ℕ → ℕ → ℕ → List ℕ → ℕ → List ℕ
+heardIn M slot B store r =
+    tabFrom (fillerOf B r) (sizeOf B r - checkLength B - fillerOf B r) (keptAt M slot B store r 0)
+
+-- the bits of n code blocks from r on
+unfoldable pub heardFrom : ℕ → ℕ → ℕ → List ℕ → ℕ → ℕ → List ℕ
+heardFrom M slot B store r zero = []
+heardFrom M slot B store r (suc n) = heardIn M slot B store r ++ heardFrom M slot B store (suc r) n
+
+-- b as it was heard: the block and its transport check
+unfoldable pub heardSequence : ℕ → ℕ → ℕ → List ℕ → List ℕ
+heardSequence M slot A store = heardFrom M slot (A + 24) store 0 (blocks (A + 24))
+
+-- number 12: the transport check is wrong
+unfoldable pub wrongCheck : ℕ → ℕ → ℕ → List ℕ → Bool
+wrongCheck M slot A store = not (eqb (crc 24 gCRC24A (heardSequence M slot A store)) 0)
+
+-- the A bits that a read gives
+unfoldable pub heardBlock : ℕ → ℕ → ℕ → List ℕ → List ℕ
+heardBlock M slot A store = take A (heardSequence M slot A store)
+
+-- what Streams gives for place i of stream s: 0 for absent filler, the bit where one was heard, else 2
+unfoldable pub streamByte : ℕ → ℕ → ℕ → List ℕ → ℕ → ℕ → ℕ → ℕ
+streamByte M slot B store r s i =
+    cond (ltb s 2 && ltb i (fillerOf B r)) 0
+    (cond (heard (keptAt M slot B store r s i)) (keptAt M slot B store r s i) 2)
+
+-- the three runs of D bytes, one a stream
+unfoldable pub threeStreams : ℕ → ℕ → ℕ → List ℕ → ℕ → List ℕ
+threeStreams M slot B store r =
+    tab (sizeOf B r + 4) (streamByte M slot B store r 0)
+    ++ (tab (sizeOf B r + 4) (streamByte M slot B store r 1)
+    ++ tab (sizeOf B r + 4) (streamByte M slot B store r 2))

@@ -1,0 +1,41 @@
+-- A reception, 01 'Receive': the bits are put in arrival order at the places the build would have taken them from (clauses 5.1.4.1.2 and 5.1.5).
+-- Assumes nothing.
+use mathlib.Core.List.{List, [], _∷_}
+use Prim.Native.Nat.{ℕ, zero, suc, _+_}
+use lib.ListN.{length, drop, getD, replicate}
+use Rattle.segmentation.specs.Segmentation.{blocks, sizeOf, fillerOf}
+use Rattle.turbo.specs.Streams.{withoutFiller}
+use Rattle.rate_matching.specs.Circle.{circle, startOf}
+use Rattle.rate_matching.specs.Walk.{sentPlaces}
+use Rattle.codeword.specs.Shares.{share, sharesBefore}
+use Rattle.codeword.specs.Codeword.{blockRows}
+use Rattle.slots.specs.Room.{byteOf, putBit}
+
+-- D places of 0
+unfoldable pub blank : ℕ → List ℕ
+blank D = replicate {A = ℕ} D 0
+
+-- the circle of a code block with D places a stream and F filler bits, its bits all 0: which places hold a bit is the same for every block
+unfoldable pub shape : ℕ → ℕ → List ℕ
+shape D F = circle (withoutFiller F (blank D)) (withoutFiller F (blank D)) (blank D)
+
+-- the places that a transmission of G bits sends of code block r, in sending order, for a sequence of B bits
+unfoldable pub blockPlaces : ℕ → ℕ → ℕ → ℕ → ℕ → ℕ → List ℕ
+blockPlaces B Q N v G r =
+    sentPlaces (shape (sizeOf B r + 4) (fillerOf B r)) (startOf (blockRows B r) v) (share (blocks B) Q N G r)
+
+-- the store after bits for some places of code block r of a slot, in arrival order
+unfoldable pub putBits : ℕ → ℕ → ℕ → List ℕ → List ℕ → List ℕ → List ℕ
+putBits M slot r [] bits store = store
+putBits M slot r (j ∷ js) bits store = putBits M slot r js (drop 1 bits) (putBit store (byteOf M slot r j) (getD bits 0 0))
+
+-- the store after the bits of n code blocks from r on
+unfoldable pub putBlocks : ℕ → ℕ → ℕ → ℕ → ℕ → ℕ → List ℕ → ℕ → ℕ → List ℕ → List ℕ
+putBlocks M slot B Q N v bits r zero store = store
+putBlocks M slot B Q N v bits r (suc n) store =
+    putBlocks M slot B Q N v bits (suc r) n
+    (putBits M slot r (blockPlaces B Q N v (length bits) r) (drop (sharesBefore (blocks B) Q N (length bits) r) bits) store)
+
+-- the store after a reception for a block of A bits
+unfoldable pub received : ℕ → ℕ → ℕ → ℕ → ℕ → ℕ → List ℕ → List ℕ → List ℕ
+received M slot A Q N v bits store = putBlocks M slot (A + 24) Q N v bits 0 (blocks (A + 24)) store

@@ -1,0 +1,33 @@
+// The slots of 01: a state by value, and a store of rooms that the caller lends.
+
+// A slot's head: closed, or open for a terminal with a block of `size` bits (A).
+pub struct Head {
+    pub opened: bool,
+    pub terminal: u16,
+    pub size: usize,
+}
+
+// S slots, each for M code blocks; heads from S upward are ignored.
+pub struct State {
+    pub slots: usize,
+    pub blocks: usize,
+    pub heads: [Head; 8],
+}
+
+// What a call answers.
+pub enum Answer {
+    // accepted, with nothing to tell
+    Done,
+    // an accepted reception: so many data places lack a bit
+    Heard(usize),
+    // a read with so many data places lacking
+    Lacking(usize),
+    // any other refusal, by its number
+    Refused(u8),
+}
+
+// An answer and the state to hand to the next call.
+pub struct Outcome {
+    pub answer: Answer,
+    pub state: State,
+}
