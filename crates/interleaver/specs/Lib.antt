@@ -1,2 +1,4 @@
 pub mod Table
 pub mod Place
+pub mod Rearrangement
+pub mod Into

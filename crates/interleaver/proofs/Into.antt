@@ -1,0 +1,49 @@
+-- What interleaving writes where all fits, entry by entry, and that the walk by counters writes the same.
+-- Assumes nothing.
+use mathlib.Core.Path.{_≡_, _∙_}
+use mathlib.Core.List.{List}
+use Prim.Native.Nat.{ℕ, _<_}
+use lib.ListN.{length, getD}
+use borrow.Author.Tests.{lt-ltb, eq-eqb}
+use Rattle.laws.proofs.Tab.{length-tab, getD-tab}
+use Rattle.interleaver.specs.Table.{rowCount, sizeAt, f1At, f2At}
+use Rattle.interleaver.specs.Place.{secondPlace, secondBit, interleaved}
+use Rattle.interleaver.specs.Into.{fitsRow, interleavedInto, bitBy, bitsBy, Walkable}
+use Rattle.interleaver.proofs.Rows.{row-keeps}
+
+pub length-interleaved : (row : ℕ) (c : List ℕ) → length (interleaved row c) ≡ sizeAt row
+unfolding interleaved
+length-interleaved row c = length-tab (sizeAt row) (secondBit row c)
+
+pub getD-interleaved : (row : ℕ) (c : List ℕ) (i : ℕ) → i < sizeAt row → getD (interleaved row c) i 0 ≡ getD c (secondPlace row i) 0
+unfolding interleaved secondBit
+getD-interleaved row c i h = getD-tab (sizeAt row) (secondBit row c) i 0 h
+
+-- out becomes c' where all fits
+pub into-fits : (row : ℕ) (c out : List ℕ) → row < rowCount → length c ≡ sizeAt row → length out ≡ sizeAt row → interleavedInto row c out ≡ interleaved row c
+unfolding interleavedInto fitsRow
+into-fits row c out h hc ho = simp (lt-ltb _ _ h, eq-eqb _ _ hc, eq-eqb _ _ ho)
+
+-- K, f1 and f2 are those of a row of the table, and both lists have K entries
+pub record OfRow (row K f1 f2 : ℕ) (c out : List ℕ) : Type 0 where
+  pub below : row < rowCount
+  pub size : K ≡ sizeAt row
+  pub first : f1 ≡ f1At row
+  pub second : f2 ≡ f2At row
+  pub long : length c ≡ K
+  pub room : length out ≡ K
+
+module _ {row K f1 f2 : ℕ} {c out : List ℕ} (r : OfRow row K f1 f2 c out) where
+  pub walkable : Walkable K f1 f2 c out
+  walkable = record {
+    f1-below = rw (r .size, r .first) (row-keeps row (r .below) .f1-below);
+    f2-below = rw (r .size, r .second) (row-keeps row (r .below) .f2-below);
+    most = rw (r .size) (row-keeps row (r .below) .most);
+    long = r .long;
+    room = r .room;
+  }
+
+  -- what the walk writes is what interleaving writes
+  pub writes : bitsBy K f1 f2 c ≡ interleavedInto row c out
+  unfolding bitsBy bitBy interleaved secondBit secondPlace
+  writes = rw (into-fits row c out (r .below) (r .long ∙ r .size) (r .room ∙ r .size), r .size, r .first, r .second)

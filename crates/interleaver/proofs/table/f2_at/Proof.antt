@@ -1,0 +1,16 @@
+-- `table::f2_at` meets its contract: the constant is the definition's column, entry for entry.
+-- Assumes nothing.
+use borrow.Author.Needs.{needs}
+use Rattle.interleaver.specs.Table.{f2Table, f2At}
+use Rattle.interleaver.proofs.table.f2_at.Statement.{statement}
+use Rattle.interleaver.proofs.table.f2_at.Tie as tie
+
+entry-requires : tie.Need-entry-requires
+entry-requires c κs = search needs
+
+returns : tie.Need-returns
+unfolding f2At f2Table
+returns c = c .entry .ensures
+
+pub f2-at-spec : {M : Type 1} → statement M
+f2-at-spec = tie.close (tie.spec entry-requires returns)
