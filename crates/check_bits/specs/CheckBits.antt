@@ -4,10 +4,6 @@ use mathlib.Core.List.{List, [], _∷_}
 use Prim.Native.Nat.{ℕ, _*_, _/_, _%_, _-_, _^_}
 use Rattle.laws.specs.Bits.{_⊕_, bitsOf}
 
--- the number L of check bits of CRC24A and CRC24B
-abbrev pub L24 : ℕ
-L24 = 24
-
 -- the generators gCRC24A and gCRC24B, highest power first, the top term D^24 left off
 abbrev pub gCRC24A : ℕ
 gCRC24A = 0x864CFB

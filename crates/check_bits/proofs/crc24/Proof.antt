@@ -1,0 +1,59 @@
+-- `check_bits::crc24` meets its contract. The loop's invariant: the register, gone on with the bits from `i` on, gives the remainder of all.
+-- Assumes nothing.
+use Prim.Native.Nat.{_≤_, _-_}
+use native.Mathlib.Omega.{arith}
+use lib.ListN.{length}
+use Rattle.check_bits.proofs.Running.{Running, product-fits, start, next, finish}
+use Rattle.check_bits.proofs.crc24.Statement.{statement}
+use Rattle.check_bits.proofs.crc24.Tie as tie
+
+abbrev Inv-loop : tie.InvT-loop
+Inv-loop generator bits g s₀ i₀ s i = (i ≤ length bits) × Running g bits s i
+
+abbrev μ-loop : tie.MeasureT-loop
+μ-loop generator bits g s₀ i₀ s i = length bits - i
+
+loop-holds : tie.Need-loop-holds Inv-loop μ-loop
+loop-holds c = (omega arith, start)
+
+shared-slice-read-up : tie.Need-shared-slice-read-up Inv-loop μ-loop
+shared-slice-read-up c = omega arith
+
+cast-up : tie.Need-cast-up Inv-loop μ-loop
+cast-up c = omega (arith, c .shared-slice-known .given (c .before .before .loop .i))
+
+mul-s : tie.Need-mul-s Inv-loop μ-loop
+mul-s c = record {
+  fits = product-fits (c .before .before .before .fits .generator .fits) (c .before .before .loop .inv .1 .small) (c .shared-slice-known .given (c .before .before .loop .i) .fits);
+}
+
+add-i : tie.Need-add-i Inv-loop μ-loop
+add-i c = omega arith
+
+loop-less : tie.Need-loop-less Inv-loop μ-loop
+loop-less c = omega arith
+
+loop-again : tie.Need-loop-again Inv-loop μ-loop
+loop-again c = (omega arith, next (omega arith) (c .before .before .loop .inv .1))
+
+cast-result : tie.Need-cast-result Inv-loop μ-loop
+cast-result c = omega arith
+
+returns : tie.Need-returns Inv-loop μ-loop
+returns c = finish (omega arith) (c .before .loop .inv .1)
+
+pub crc24-spec : {M : Type 1} → statement M
+crc24-spec =
+    tie.close
+    (tie.spec
+    Inv-loop
+    μ-loop
+    loop-holds
+    shared-slice-read-up
+    cast-up
+    mul-s
+    add-i
+    loop-less
+    loop-again
+    cast-result
+    returns)

@@ -1,0 +1,67 @@
+-- 'Accepted', 'since that opening' and 'last bit', demand 3: from the calls and the length of the store alone, never from what a room holds.
+-- Assumes nothing.
+use mathlib.Core.Bool.{Bool, true, false, cond, _&&_}
+use mathlib.Core.List.{List, [], _∷_}
+use Prim.Native.Nat.{ℕ, _+_}
+use lib.Dec.{eqb, ltb}
+use lib.ListN.{length, drop, getD}
+use Rattle.segmentation.specs.Segmentation.{blocks}
+use Rattle.codeword.specs.Shares.{sharesBefore}
+use Rattle.slots.specs.declared.State.{State}
+use Rattle.slots.specs.State.{storeLength, closedHead, headAt}
+use Rattle.slots.specs.Room.{unheard, meet}
+use Rattle.slots.specs.Reception.{blockPlaces}
+use Rattle.slots.specs.Calls.{withHead, newOutcome, openNumber, receiveNumber, closeNumber}
+use Rattle.history.specs.Calls.{Reception, Call, opening, receiving, reading, streaming, closing, Made, History}
+
+-- the length of the store that a call is lent, where the rooms have n bytes
+unfoldable pub lentLength : State → ℕ → List ℕ → ℕ
+lentLength state n past = cond (ltb n (storeLength state)) n (n + length past)
+
+-- the state after a history, where the rooms have n bytes: an accepted opening sets the head, an accepted closing clears it
+unfoldable pub headsAfterCall : State → ℕ → Call → State
+headsAfterCall state room (opening slot terminal A) =
+    cond (eqb (openNumber state room slot A) 0)
+    (withHead state slot (record { opened = true; terminal = terminal; size = A }))
+    state
+headsAfterCall state room (receiving slot terminal r) = state
+headsAfterCall state room (reading slot terminal size) = state
+headsAfterCall state room (streaming slot terminal block size) = state
+headsAfterCall state room (closing slot terminal) =
+    cond (eqb (closeNumber state slot terminal) 0) (withHead state slot closedHead) state
+
+unfoldable pub headsAfter : ℕ → ℕ → ℕ → History → State
+headsAfter S M n [] = newOutcome S M .state
+headsAfter S M n (m ∷ h) =
+    headsAfterCall (headsAfter S M n h) (lentLength (headsAfter S M n h) n (m .past)) (m .call)
+
+-- the accepted receptions of a slot since its last accepted opening or closing, latest first, after one more call
+unfoldable pub sinceCall : State → ℕ → ℕ → Call → List Reception → List Reception
+sinceCall state room slot (opening s terminal A) earlier =
+    cond (eqb s slot && eqb (openNumber state room s A) 0) [] earlier
+sinceCall state room slot (receiving s terminal r) earlier =
+    cond (eqb s slot && eqb (receiveNumber state room s terminal (r .Q) (r .N) (r .version) (r .bits)) 0) (r ∷ earlier) earlier
+sinceCall state room slot (reading s terminal size) earlier = earlier
+sinceCall state room slot (streaming s terminal block size) earlier = earlier
+sinceCall state room slot (closing s terminal) earlier =
+    cond (eqb s slot && eqb (closeNumber state s terminal) 0) [] earlier
+
+unfoldable pub since : ℕ → ℕ → ℕ → ℕ → History → List Reception
+since S M n slot [] = []
+since S M n slot (m ∷ h) =
+    sinceCall (headsAfter S M n h) (lentLength (headsAfter S M n h) n (m .past)) slot (m .call) (since S M n slot h)
+
+-- what is known of circle place j after bits for some places in arrival order, when `before` was known
+unfoldable pub lastAmong : List ℕ → List ℕ → ℕ → ℕ → ℕ
+lastAmong [] bits j before = before
+lastAmong (p ∷ ps) bits j before = lastAmong ps (drop 1 bits) j (cond (eqb p j) (meet before (getD bits 0 0)) before)
+
+-- the last bit that receptions for a block of A bits brought for circle place j of code block r, and unheard if there was none
+unfoldable pub lastBit : ℕ → List Reception → ℕ → ℕ → ℕ
+lastBit A [] r j = unheard
+lastBit A (x ∷ xs) r j =
+    lastAmong
+    (blockPlaces (A + 24) (x .Q) (x .N) (x .version) (length (x .bits)) r)
+    (drop (sharesBefore (blocks (A + 24)) (x .Q) (x .N) (length (x .bits)) r) (x .bits))
+    j
+    (lastBit A xs r j)

@@ -1,0 +1,45 @@
+-- True transmissions and the data places that they have sent, demand 3: counted over the history, never over a room.
+-- Assumes nothing.
+use mathlib.Core.Path.{_≡_}
+use mathlib.Core.Bool.{Bool, true, false, cond, _||_}
+use mathlib.Core.List.{List, [], _∷_}
+use Prim.Native.Nat.{ℕ, _+_, _-_}
+use lib.Dec.{eqb}
+use lib.ListN.{length}
+use Rattle.segmentation.specs.Segmentation.{blocks, sizeOf, fillerOf}
+use Rattle.rate_matching.specs.Places.{placeNumber}
+use Rattle.codeword.specs.Codeword.{codeword}
+use Rattle.slots.specs.Reception.{blockPlaces}
+use Rattle.slots.specs.Reading.{sumFrom}
+use Rattle.history.specs.Calls.{Reception}
+
+-- a true transmission of a block: what Build gives for it with the reception's Q, N, version and G
+abbrev pub True : List ℕ → Reception → Type 0
+True a x = x .bits ≡ codeword a (x .Q) (x .N) (x .version) (length (x .bits))
+
+-- all receptions are true transmissions of the one block
+abbrev pub AllTrue : List ℕ → List Reception → Type 0
+AllTrue a [] = Unit {0}
+AllTrue a (x ∷ xs) = True a x × AllTrue a xs
+
+-- the number is in the list
+unfoldable pub among : ℕ → List ℕ → Bool
+among j [] = false
+among j (p ∷ ps) = eqb p j || among j ps
+
+-- one of the receptions for a block of A bits has sent circle place j of code block r
+unfoldable pub sent : ℕ → List Reception → ℕ → ℕ → Bool
+sent A [] r j = false
+sent A (x ∷ xs) r j =
+    among j (blockPlaces (A + 24) (x .Q) (x .N) (x .version) (length (x .bits)) r) || sent A xs r j
+
+-- 1 where data place i of code block r was not sent
+unfoldable pub notSent : ℕ → List Reception → ℕ → ℕ → ℕ
+notSent A xs r i = cond (sent A xs r (placeNumber (sizeOf (A + 24) r + 4) 0 i)) 0 1
+
+unfoldable pub unsentIn : ℕ → List Reception → ℕ → ℕ
+unsentIn A xs r = sumFrom (notSent A xs r) (fillerOf (A + 24) r) (sizeOf (A + 24) r - fillerOf (A + 24) r)
+
+-- how many data places the receptions have not sent
+unfoldable pub unsent : ℕ → List Reception → ℕ
+unsent A xs = sumFrom (unsentIn A xs) 0 (blocks (A + 24))

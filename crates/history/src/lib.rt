@@ -1,0 +1,1 @@
+// Demand 3 over every history: the crate has no code of its own.
