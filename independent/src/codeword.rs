@@ -28,7 +28,7 @@ pub fn segmentation_of(a: usize) -> Result<Segmentation, u8> {
 
 /// Whether Q, N and G are as 01 asks, for C code blocks. Q and N are looked at first, so
 /// that nothing is divided by 0.
-fn allocation_fits(q: usize, n: usize, g: usize, blocks: usize) -> bool {
+pub fn allocation_fits(q: usize, n: usize, g: usize, blocks: usize) -> bool {
     [2, 4, 6].contains(&q)
         && (1..=4).contains(&n)
         && g <= G_MAX

@@ -1,8 +1,10 @@
 //! Uplink shared channel coding (UL-SCH data), written from 3GPP TS 36.212 V11.5.1 and
 //! from the rules paper 01 alone, as a second opinion on the project's main program.
 //!
-//! One module a clause, in the order of the clauses. Every module transcribes the loops
-//! of the standard as they stand there; nothing is made fast at the cost of that likeness.
+//! One module a clause, in the order of the clauses. Each transcribes the loops of the
+//! standard as they stand there; nothing is made fast at the cost of that likeness. The
+//! slots of 01 stand on them. `fast` is Build again with speed in mind, held to the literal
+//! one by the tests; the last four modules compare another program with this one.
 //!
 //! A bit is one byte, 0 or 1. A place that carries no bit (`<NULL>` in the standard:
 //! filler and dummies) is `None`.
@@ -13,6 +15,8 @@ pub mod table; // 5.1.3, table 5.1.3-3
 pub mod turbo; // 5.1.3.2
 pub mod rate; // 5.1.4.1
 pub mod codeword; // 5.1.5, and the whole chain
+pub mod slots; // New, Open, Receive, Read, Streams and Close of 01
 pub mod sizes; // the call Sizes and the sizes program of 01
 pub mod stage; // every stage as readable text
 pub mod xorshift; // repeatable blocks to try
+pub mod fast; // Build for speed

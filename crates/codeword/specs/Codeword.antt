@@ -23,10 +23,13 @@ blockCircle b r =
 unfoldable pub blockRows : ℕ → ℕ → ℕ
 blockRows B r = rows (sizeOf B r + 4)
 
--- e_r0 .. e_r(E_r − 1): what code block r sends
+-- the first E bits that code block r sends in redundancy version v
+unfoldable pub sentBits : List ℕ → ℕ → ℕ → ℕ → List ℕ
+sentBits b v r E = selected (blockCircle b r) (startOf (blockRows (length b) r) v) E
+
+-- e_r0 .. e_r(E_r − 1): what code block r sends of the G bits
 unfoldable pub blockBits : List ℕ → ℕ → ℕ → ℕ → ℕ → ℕ → List ℕ
-blockBits b Q N v G r =
-    selected (blockCircle b r) (startOf (blockRows (length b) r) v) (share (blocks (length b)) Q N G r)
+blockBits b Q N v G r = sentBits b v r (share (blocks (length b)) Q N G r)
 
 -- the bits of n code blocks from r on, in order (clause 5.1.5)
 unfoldable pub bitsFrom : List ℕ → ℕ → ℕ → ℕ → ℕ → ℕ → ℕ → List ℕ

@@ -1,8 +1,174 @@
-// The turbo encoder of clause 5.1.3.2.
+// The turbo encoder of clause 5.1.3.2: from a code block to its three streams.
+use interleaver::block;
+use interleaver::table;
+ghost use mathlib.Core.Path.{_≡_};
+ghost use mathlib.Core.Bool.{cond};
+ghost use mathlib.Core.List.{_++_};
+ghost use Prim.Native.Nat.{_+_, _≤_, _<_, _^_};
+ghost use lib.ListN.{length, drop};
+ghost use Rattle.interleaver.specs.Table.{rowCount, sizeAt};
+ghost use Rattle.interleaver.specs.Place.{interleaved};
+ghost use Rattle.turbo.specs.Encoder.{start, parities, after};
+ghost use Rattle.turbo.specs.Streams.{withoutFiller, firstEnd, secondEnd, stream0, stream1, stream2};
+ghost use Rattle.turbo.specs.Encode.{encodable, fit, Encodable, tailOf, completed};
+
+// <NULL>: no bit stands here. A bit is 0 or 1.
+pub const NULL: u8 = 2;
 
 // The shift register of a constituent encoder, the newest bit first.
 pub struct Registers {
     pub d1: u8,
     pub d2: u8,
     pub d3: u8,
+}
+
+// The tail bits of a constituent encoder: x_K, x_K+1, x_K+2 and z_K, z_K+1, z_K+2.
+pub struct Tail {
+    pub x0: u8,
+    pub x1: u8,
+    pub x2: u8,
+    pub z0: u8,
+    pub z1: u8,
+    pub z2: u8,
+}
+
+// Whether a code block of `k` bits is one of the row's, with its filler in it, and the streams have the lengths for it.
+fn is_encodable(row: usize, filler: usize, k: usize, n0: usize, n1: usize, n2: usize) -> bool
+    requires { ⌜ k < 2 ^ 63 ⌝ }
+    ensures { λ r. ⌜ r ≡ encodable row filler k n0 n1 n2 ⌝ }
+{
+    let n = k + 4;
+    (row < table::ROWS)
+        & (k == table::size_at(row))
+        & (filler <= k)
+        & (n0 == n)
+        & (n1 == n)
+        & (n2 == n)
+}
+
+// Copies bits to the front of `out`.
+fn copy(bits: &[u8], out: &mut [u8])
+    requires { ⌜ length (now bits) ≤ length (now out) ⌝ }
+    ensures { λ r. ⌜ now (out .exit) ≡ now (bits .entry) ++ drop (length (now (bits .entry))) (now (out .entry)) ⌝ }
+{
+    let mut i = 0;
+    while i < bits.len() {
+        out[i] = bits[i];
+        i += 1;
+    }
+}
+
+// One constituent encoder: each input bit gives way to its output bit, so that no second list is needed. Gives the registers
+// after the last bit.
+fn encode_in_place(bits: &mut [u8]) -> Registers
+    ensures outputs { λ r. ⌜ now (bits .exit) ≡ parities start (now (bits .entry)) ⌝ }
+    ensures registers { λ r. ⌜ r ≡ after start (now (bits .entry)) ⌝ }
+{
+    let mut d1: u8 = 0;
+    let mut d2: u8 = 0;
+    let mut d3: u8 = 0;
+    let mut i = 0;
+    while i < bits.len() {
+        let entering = bits[i] ^ (d2 ^ d3);
+        bits[i] = entering ^ d1 ^ d3;
+        d3 = d2;
+        d2 = d1;
+        d1 = entering;
+        i += 1;
+    }
+    Registers { d1, d2, d3 }
+}
+
+// The tail from the registers after the last bit. The input is the feedback, so a zero enters at each of the three steps.
+fn tail_of(s: Registers) -> Tail
+    ensures { λ r. ⌜ r ≡ tailOf s ⌝ }
+{
+    Tail {
+        x0: s.d2 ^ s.d3,
+        x1: s.d1 ^ s.d2,
+        x2: s.d1,
+        z0: s.d1 ^ s.d3,
+        z1: s.d2,
+        z2: s.d1,
+    }
+}
+
+// Sets the first `count` places to <NULL>.
+fn set_absent(d: &mut [u8], count: usize)
+    requires { ⌜ count ≤ length (now d) ⌝ }
+    ensures { λ r. ⌜ now (d .exit) ≡ withoutFiller count (now (d .entry)) ⌝ }
+{
+    let mut i = 0;
+    while i < count {
+        d[i] = NULL;
+        i += 1;
+    }
+}
+
+// Puts the tail at the end of a stream and sets its filler places to <NULL>.
+fn complete(d: &mut [u8], filler: usize, tail: [u8; 4])
+    requires { ⌜ filler + 4 ≤ length (now d) ⌝ }
+    ensures { λ r. ⌜ now (d .exit) ≡ completed filler (now (d .entry)) tail ⌝ }
+{
+    let k = d.len() - 4;
+    copy(&tail, &mut d[k..]);
+    set_absent(d, filler);
+}
+
+// The first encoder: its outputs at the front of `d1`.
+fn encode_first(c: &[u8], d1: &mut [u8]) -> Tail
+    requires { ⌜ length (now c) ≤ length (now d1) ⌝ }
+    ensures outputs { λ r. ⌜ now (d1 .exit) ≡ parities start (now (c .entry)) ++ drop (length (now (c .entry))) (now (d1 .entry)) ⌝ }
+    ensures tail { λ r. ⌜ r ≡ tailOf (firstEnd (now (c .entry))) ⌝ }
+{
+    let k = c.len();
+    copy(c, d1);
+    tail_of(encode_in_place(&mut d1[..k]))
+}
+
+// The second encoder, which takes the bits in the interleaver's order: its outputs at the front of `d2`.
+fn encode_second(row: usize, c: &[u8], d2: &mut [u8]) -> Tail
+    requires { ⌜ (row < rowCount) × (length (now c) ≡ sizeAt row) × (length (now c) ≤ length (now d2)) ⌝ }
+    ensures outputs { λ r. ⌜ now (d2 .exit) ≡ parities start (interleaved row (now (c .entry))) ++ drop (length (now (c .entry))) (now (d2 .entry)) ⌝ }
+    ensures tail { λ r. ⌜ r ≡ tailOf (secondEnd row (now (c .entry))) ⌝ }
+{
+    let k = c.len();
+    block::interleave(row, c, &mut d2[..k]);
+    tail_of(encode_in_place(&mut d2[..k]))
+}
+
+// The three streams, where all lengths are right. Filler is absent from streams 0 and 1; stream 2 holds a bit at every place.
+fn encode_streams(row: usize, filler: usize, c: &[u8], d0: &mut [u8], d1: &mut [u8], d2: &mut [u8])
+    requires { ⌜ Encodable row filler (length (now c)) (length (now d0)) (length (now d1)) (length (now d2)) ⌝ }
+    ensures first { λ r. ⌜ now (d0 .exit) ≡ stream0 row filler (now (c .entry)) ⌝ }
+    ensures second { λ r. ⌜ now (d1 .exit) ≡ stream1 row filler (now (c .entry)) ⌝ }
+    ensures third { λ r. ⌜ now (d2 .exit) ≡ stream2 row (now (c .entry)) ⌝ }
+{
+    copy(c, d0);
+    let first = encode_first(c, d1);
+    let second = encode_second(row, c, d2);
+    complete(d0, filler, [first.x0, first.z1, second.x0, second.z1]);
+    complete(d1, filler, [first.z0, first.x2, second.z0, second.x2]);
+    complete(d2, 0, [first.x1, first.z2, second.x1, second.z2]);
+}
+
+// Writes the three streams of a code block `c` of a row's size whose first `filler` bits are filler. Writes nothing where there
+// is no such row or a length is another one.
+pub fn encode(row: usize, filler: usize, c: &[u8], d0: &mut [u8], d1: &mut [u8], d2: &mut [u8])
+    ensures first { λ r. ⌜ now (d0 .exit) ≡
+        cond (fit row filler (now (c .entry)) (now (d0 .entry)) (now (d1 .entry)) (now (d2 .entry)))
+        (stream0 row filler (now (c .entry)))
+        (now (d0 .entry)) ⌝ }
+    ensures second { λ r. ⌜ now (d1 .exit) ≡
+        cond (fit row filler (now (c .entry)) (now (d0 .entry)) (now (d1 .entry)) (now (d2 .entry)))
+        (stream1 row filler (now (c .entry)))
+        (now (d1 .entry)) ⌝ }
+    ensures third { λ r. ⌜ now (d2 .exit) ≡
+        cond (fit row filler (now (c .entry)) (now (d0 .entry)) (now (d1 .entry)) (now (d2 .entry)))
+        (stream2 row (now (c .entry)))
+        (now (d2 .entry)) ⌝ }
+{
+    if is_encodable(row, filler, c.len(), d0.len(), d1.len(), d2.len()) {
+        encode_streams(row, filler, c, d0, d1, d2);
+    }
 }

@@ -1,0 +1,77 @@
+-- What an accepted allocation keeps to (01, 'Sizes and numbers'), and how the bytes of given bits are looked at together.
+-- Assumes nothing.
+use mathlib.Core.Path.{_≡_, refl, sym, _∙_, ap}
+use mathlib.Core.Bool.{Bool, true, false, not, _||_}
+use mathlib.Core.List.{List, [], _∷_}
+use Prim.Native.Nat.{ℕ, zero, suc, _+_, _-_, _*_, _/_, _%_, _≤_, _<_}
+use native.Mathlib.Nat.{mul-le-mul}
+use native.Mathlib.Omega.{arith}
+use lib.Dec.{eqb, ltb}
+use lib.Bits.{bitOr, bitAnd, or-lt, or-add-and, and-le-l, and-le-r}
+use borrow.Author.Tests.{eqb-true, eqb-false, ltb-true, ltb-false, lt-ltb, le-ltb, not-false}
+use Rattle.codeword.specs.Shares.{symbols}
+use Rattle.codeword.specs.Build.{badModulation, badLayers, badAllocation, badBits}
+
+-- one of two tests, both false where the whole is
+pub or-false : (a b : Bool) → (a || b) ≡ false → (a ≡ false) × (b ≡ false)
+or-false true b h = let z : _≡_ {A = ℕ} 0 1 = cc in absurd (omega arith)
+or-false false b h = (refl, h)
+
+pub modulation : (Q : ℕ) → badModulation Q ≡ false → (0 < Q) × (Q ≤ 6)
+unfolding badModulation
+modulation Q h = go (eqb Q 2) (eqb Q 4) (eqb Q 6) refl refl refl (not-false _ h)
+  where
+    go : (s t u : Bool) → eqb Q 2 ≡ s → eqb Q 4 ≡ t → eqb Q 6 ≡ u → (s || (t || u)) ≡ true → (0 < Q) × (Q ≤ 6)
+    go true t u e f g h = omega (arith, eqb-true Q 2 e)
+    go false true u e f g h = omega (arith, eqb-true Q 4 f)
+    go false false true e f g h = omega (arith, eqb-true Q 6 g)
+    go false false false e f g h = let z : _≡_ {A = ℕ} 0 1 = cc in absurd (omega arith)
+
+pub layers : (N : ℕ) → badLayers N ≡ false → (0 < N) × (N ≤ 4)
+unfolding badLayers
+layers N h =
+    let both = or-false (eqb N 0) (ltb 4 N) h in
+    omega (arith, eqb-false N 0 (both .0), ltb-false 4 N (both .1))
+
+-- N·Q of an accepted allocation
+pub step : (Q N : ℕ) → (0 < Q) × (Q ≤ 6) → (0 < N) × (N ≤ 4) → (0 < N * Q) × (N * Q ≤ 24)
+step Q N q n =
+    let low : 1 * 1 ≤ N * Q = mul-le-mul (n .0) (q .0) in
+    let high : N * Q ≤ 4 * 6 = mul-le-mul (n .1) (q .1) in
+    omega arith
+
+-- what an accepted allocation keeps to
+pub record Allocated (C Q N G : ℕ) : Type 0 where
+  pub modulation-fits : (0 < Q) × (Q ≤ 6)
+  pub layers-fit : (0 < N) × (N ≤ 4)
+  pub step-fits : (0 < N * Q) × (N * Q ≤ 24)
+  pub most : G ≤ 172800
+  pub multiple : G % (N * Q) ≡ 0
+  pub enough : C ≤ symbols Q N G
+
+pub allocated : (C Q N G : ℕ) → badAllocation C Q N G ≡ false → Allocated C Q N G
+unfolding badAllocation
+allocated C Q N G h =
+    let q = or-false _ _ h in
+    let n = or-false _ _ (q .1) in
+    let g = or-false _ _ (n .1) in
+    let m = or-false _ _ (g .1) in
+    record {
+      modulation-fits = modulation Q (q .0);
+      layers-fit = layers N (n .0);
+      step-fits = step Q N (modulation Q (q .0)) (layers N (n .0));
+      most = ltb-false 172800 G (g .0);
+      multiple = eqb-true _ _ (not-false _ (m .0));
+      enough = ltb-false (symbols Q N G) C (m .1);
+    }
+
+-- the bytes seen together are above 1 where one of them is
+pub seen-more : (a b : ℕ) → ltb 1 (bitOr a b) ≡ (ltb 1 a || ltb 1 b)
+seen-more a b = go (ltb 1 a) (ltb 1 b) refl refl
+  where
+    go : (s t : Bool) → ltb 1 a ≡ s → ltb 1 b ≡ t → ltb 1 (bitOr a b) ≡ (s || t)
+    go true t e f = lt-ltb 1 (bitOr a b) (omega (arith, or-add-and a b, and-le-r a b, ltb-true 1 a e))
+    go false true e f = lt-ltb 1 (bitOr a b) (omega (arith, or-add-and a b, and-le-l a b, ltb-true 1 b f))
+    go false false e f =
+        let h : bitOr a b < 2 = or-lt 1 a b (omega (arith, ltb-false 1 a e)) (omega (arith, ltb-false 1 b f)) in
+        le-ltb 1 (bitOr a b) (omega arith)

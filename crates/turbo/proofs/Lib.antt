@@ -1,0 +1,5 @@
+pub mod Encoder
+pub mod Streams
+pub mod InPlace
+pub mod Completing
+pub mod Encodable
