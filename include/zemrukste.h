@@ -12,7 +12,7 @@
  * - Every number of a size_t may be given: what is out of range is refused, not undefined.
  * - The calls keep nothing between them: no global state, no memory taken, no file or
  *   clock, no error variable. They always return and may be made from several threads at
- *   once, as long as no two of them share an output.
+ *   once, as long as no two of them share an output; a block may be shared.
  * - The numbers given back are those of the project's rules. 0 is "accepted"; any other
  *   number is a refusal, and a refusal has written nothing. Where several refusals apply,
  *   the first in the order listed with the call is given.
@@ -36,7 +36,7 @@ extern "C" {
 
 /* The numbers given back, and what to do about each. */
 #define ZEMRUKSTE_OK 0
-/* The block's length A is not 1 to 30,576: send another transport block size. */
+/* The block's length A is not 1 to 30,576: choose a transport block size in that range. */
 #define ZEMRUKSTE_BAD_LENGTH 1
 /* A byte of the block is neither 0 nor 1: the caller's bits are damaged or packed; unpack
    them to one bit a byte, first bit first. */

@@ -32,7 +32,7 @@ pub fn allocation_fits(q: usize, n: usize, g: usize, blocks: usize) -> bool {
     [2, 4, 6].contains(&q)
         && (1..=4).contains(&n)
         && g <= G_MAX
-        && g % (n * q) == 0
+        && g.is_multiple_of(n * q)
         && g / (n * q) >= blocks
 }
 

@@ -276,7 +276,7 @@ fn pack_some(bits: &[u8]) -> u64 {
 /// The word as 64 bytes: in byte i of each eight only bit i is let stand, then made 1.
 fn unpack(word: u64, bits: &mut [u8; WORD]) {
     for (eight, byte) in bits.as_chunks_mut::<8>().0.iter_mut().zip(word.to_le_bytes()) {
-        let chosen = u64::from(byte) * 0x0101_0101_0101_0101 & 0x8040_2010_0804_0201;
+        let chosen = (u64::from(byte) * 0x0101_0101_0101_0101) & 0x8040_2010_0804_0201;
         let ones = (chosen + 0x7F7F_7F7F_7F7F_7F7F) >> 7 & 0x0101_0101_0101_0101;
         *eight = ones.to_le_bytes();
     }
@@ -306,7 +306,7 @@ const fn crc_tables(generator: u32) -> CrcTables {
         let mut remainder = byte as u32;
         let mut bit = 0;
         while bit < 8 {
-            remainder = remainder >> 1 ^ (remainder & 1) * reversed;
+            remainder = (remainder >> 1) ^ ((remainder & 1) * reversed);
             bit += 1;
         }
         tables[0][byte] = remainder;

@@ -20,3 +20,7 @@ pub mod sizes; // the call Sizes and the sizes program of 01
 pub mod stage; // every stage as readable text
 pub mod xorshift; // repeatable blocks to try
 pub mod fast; // Build for speed
+pub mod protocol; // how a bridge to another program is asked and answers
+pub mod cases; // what it is asked
+pub mod compare; // asks it and compares
+pub mod stub; // a bridge to this program, sound or with a planted fault

@@ -1,6 +1,7 @@
 //! The command line of the second program.
 
-use independent::{sizes, stage, xorshift};
+use independent::compare::{self, Options};
+use independent::{sizes, stage, stub, xorshift};
 use std::fs::File;
 use std::io::{self, Read, Write};
 use std::os::fd::AsFd;
@@ -19,6 +20,15 @@ independent stage NAME BITS Q N VERSION G
     VERSION  redundancy version: 0 to 3
     G        length of the codeword
     what Build refuses prints: refused, tab, number
+independent compare [--seed N] [--cases N] [--every N] [--case N] COMMAND...
+    compares the program behind the bridge COMMAND with this one: exit status 0 if all
+    cases pass, 1 if not
+    --seed N   what the cases are made from, 1 if not given
+    --cases N  how many builds are random, beside those always made; 20000 if not given
+    --every N  send only each Nth case
+    --case N   send only case N
+independent bridge-stub [--fault NAME]
+    a bridge to this program itself, to try compare; the faults are in src/stub.rs
 independent help
     this text
 ";
@@ -30,13 +40,61 @@ fn main() -> ExitCode {
     let arguments: Vec<String> =
         std::env::args_os().skip(1).map(|a| a.to_string_lossy().into_owned()).collect();
     let words: Vec<&str> = arguments.iter().map(String::as_str).collect();
-    match answer(&words).and_then(|output| print(&output)) {
-        Ok(()) => ExitCode::SUCCESS,
+    match run(&words) {
+        Ok(status) => status,
         Err(message) => {
             eprintln!("independent: {message}");
             ExitCode::from(2)
         }
     }
+}
+
+/// Runs a command to its exit status, or says what is wrong with it.
+fn run(words: &[&str]) -> Result<ExitCode, String> {
+    match words {
+        ["compare", rest @ ..] => return compare_status(rest),
+        ["bridge-stub", rest @ ..] => bridge_stub(rest)?,
+        _ => print(&answer(words)?)?,
+    }
+    Ok(ExitCode::SUCCESS)
+}
+
+fn compare_status(words: &[&str]) -> Result<ExitCode, String> {
+    let outcome = compare::run(&compare_options(words)?)?;
+    println!("{} passed, {} failed", outcome.passed, outcome.failed);
+    Ok(ExitCode::from(u8::from(outcome.failed > 0)))
+}
+
+/// Options, then the bridge's command.
+fn compare_options(words: &[&str]) -> Result<Options, String> {
+    let mut options =
+        Options { seed: 1, random: compare::RANDOM_BUILDS, every: 1, only: None, command: Vec::new() };
+    let mut rest = words;
+    while let [option, value, later @ ..] = rest {
+        match *option {
+            "--seed" => options.seed = number(value)?,
+            "--cases" => options.random = number(value)?,
+            "--every" => options.every = number::<usize>(value)?.max(1),
+            "--case" => options.only = Some(number(value)?),
+            _ => break,
+        }
+        rest = later;
+    }
+    match rest.first() {
+        Some(name) if !name.starts_with("--") => options.command = rest.iter().map(|w| w.to_string()).collect(),
+        _ => return Err("compare takes options, then the bridge's command".into()),
+    }
+    Ok(options)
+}
+
+fn bridge_stub(words: &[&str]) -> Result<(), String> {
+    let fault = match words {
+        [] => None,
+        ["--fault", name] => Some(stub::fault(name).ok_or(format!("no such fault: {name}"))?),
+        _ => return Err("bridge-stub takes --fault NAME or nothing".into()),
+    };
+    let ended = stub::run(io::stdin(), io::stdout(), fault);
+    ended.map_err(|error| format!("bridge-stub: {error}"))
 }
 
 /// What a command prints, or what is wrong with it.

@@ -17,7 +17,7 @@ impl Generator {
     }
 
     /// The next 64 bits.
-    pub fn next(&mut self) -> u64 {
+    pub fn number(&mut self) -> u64 {
         self.0 ^= self.0 >> 12;
         self.0 ^= self.0 << 25;
         self.0 ^= self.0 >> 27;
@@ -26,7 +26,7 @@ impl Generator {
 
     /// A number from 0 to `bound` - 1.
     pub fn below(&mut self, bound: usize) -> usize {
-        (u128::from(self.next()) * bound as u128 >> 64) as usize
+        ((u128::from(self.number()) * bound as u128) >> 64) as usize
     }
 
     /// One of several.
@@ -38,5 +38,5 @@ impl Generator {
 /// A block of `length` bits from a seed.
 pub fn block(length: usize, seed: u64) -> Vec<u8> {
     let mut generator = Generator::new(seed);
-    (0..length).map(|_| (generator.next() >> 63) as u8).collect()
+    (0..length).map(|_| (generator.number() >> 63) as u8).collect()
 }

@@ -75,12 +75,13 @@ fn refusals_are_answers() {
 #[test]
 fn help_names_every_command() {
     let help = printed(&["help"]);
-    assert!(["sizes", "stage", "help"].iter().all(|c| help.contains(&format!("independent {c}"))));
+    let commands = ["sizes", "stage", "compare", "bridge-stub", "help"];
+    assert!(commands.iter().all(|c| help.contains(&format!("independent {c}"))));
 }
 
 #[test]
 fn bad_arguments() {
-    let bad: [&[&str]; 13] = [
+    let bad: [&[&str]; 20] = [
         &[],
         &["size"],
         &["sizes", "16"],
@@ -94,6 +95,13 @@ fn bad_arguments() {
         &["stage", "codeword", "1", "2", "1", "+0", "24"],
         &["stage", "codeword", "@16", "2", "1", "0", "24"],
         &["stage", "codeword", "@65537:1", "2", "1", "0", "24"],
+        &["compare"],
+        &["compare", "--seed", "1"],
+        &["compare", "--seed", "one", "true"],
+        &["compare", "--sead", "1", "true"],
+        &["compare", "--case", "99999999", "true"],
+        &["bridge-stub", "--fault"],
+        &["bridge-stub", "--fault", "none"],
     ];
     for arguments in bad {
         let output = run(arguments, Stdio::null());

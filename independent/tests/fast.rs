@@ -61,7 +61,7 @@ fn every_number_of_code_blocks_allocation_and_version() {
         for case in 0..48 {
             let (q, n, version) = (2 + 2 * (case / 16), 1 + case / 4 % 4, case % 4);
             let a = from + random.below(to - from + 1);
-            let block = xorshift::block(a, random.next());
+            let block = xorshift::block(a, random.number());
             let blocks = sizes(a).unwrap().blocks;
             let turn = mother_code(a);
             let some = random.below(turn);

@@ -455,7 +455,7 @@ fn seeded_histories() {
                     let expected = if known[slot].is_some() { refused(7) } else { Ok(()) };
                     assert_eq!(answer, expected);
                     if answer.is_ok() {
-                        let block = xorshift::block(a, random.next());
+                        let block = xorshift::block(a, random.number());
                         known[slot] = Some(Known { terminal, block, heard: HashMap::new() });
                     }
                     state = after;

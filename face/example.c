@@ -1,0 +1,71 @@
+/* What the cell's scheduler does: asks for the sizes of a block, builds its codeword, and meets a refusal.
+ * It prints what it got. Only write(2) of the C library is used, so that the program needs no C headers but the compiler's own. */
+#include "zemrukste.h"
+
+long write(int fd, const void *bytes, size_t count);
+
+static void put(const char *text)
+{
+    size_t n = 0;
+    while (text[n] != 0)
+        n++;
+    write(1, text, n);
+}
+
+static void put_number(uint32_t number)
+{
+    char digits[10];
+    size_t at = sizeof digits;
+    do {
+        digits[--at] = (char)('0' + number % 10);
+        number /= 10;
+    } while (number != 0);
+    write(1, digits + at, sizeof digits - at);
+}
+
+static uint32_t number_at(const uint8_t *bytes)
+{
+    return (uint32_t)bytes[0] | (uint32_t)bytes[1] << 8 | (uint32_t)bytes[2] << 16 | (uint32_t)bytes[3] << 24;
+}
+
+int main(void)
+{
+    static const uint8_t block[1] = {1};
+    static const char *const names[6] = {"blocks", "longs", "long", "shorts", "short", "filler"};
+    uint8_t sizes[24];
+    uint8_t out[25] = {0};
+    char text[24];
+    uint32_t number;
+    size_t i;
+
+    put("sizes of a block of 6121 bits:");
+    if (zemrukste_sizes(6121, sizes, sizeof sizes) != 0)
+        return 1;
+    for (i = 0; i < 6; i++) {
+        put(" ");
+        put(names[i]);
+        put(" ");
+        put_number(number_at(sizes + 4 * i));
+    }
+    put("\n");
+
+    put("codeword of the block 1, Q = 2, N = 1, version 0, G = 24: ");
+    out[24] = 7;
+    if (zemrukste_build(block, sizeof block, 2, 1, 0, 24, out, sizeof out) != 0)
+        return 1;
+    for (i = 0; i < 24; i++)
+        text[i] = (char)('0' + out[i]);
+    write(1, text, sizeof text);
+    put(out[24] == 7 ? "\n" : " and a byte past G was written\n");
+
+    put("the same with version 4: refused with ");
+    number = zemrukste_build(block, sizeof block, 2, 1, 4, 24, out, sizeof out);
+    put_number(number);
+    put("\n");
+
+    put("no block at all: refused with ");
+    number = zemrukste_build(0, 0, 2, 1, 0, 24, out, sizeof out);
+    put_number(number);
+    put("\n");
+    return 0;
+}

@@ -1,0 +1,404 @@
+//! The cases that a comparison sends: from a seed, always the same ones in the same order.
+//!
+//! A case is a description; the block's bits are made when they are needed.
+
+use crate::codeword::{segmentation_of, A_MAX, G_MAX};
+use crate::protocol::{BLOCK_MAX, OUTPUT_MAX};
+use crate::table::TABLE;
+use crate::xorshift::{self, Generator};
+
+#[derive(Clone, Debug)]
+pub struct Case {
+    /// What the case is there for.
+    pub group: &'static str,
+    pub asked: Asked,
+    pub output_length: usize,
+    /// What the output holds before the call: never a bit.
+    pub fill: u8,
+    pub null_block: bool,
+    pub null_output: bool,
+}
+
+#[derive(Clone, Debug)]
+pub enum Asked {
+    Build(Build),
+    Sizes(usize),
+}
+
+#[derive(Clone, Debug)]
+pub struct Build {
+    pub block: Block,
+    pub q: usize,
+    pub n: usize,
+    pub version: usize,
+    pub g: usize,
+}
+
+#[derive(Clone, Debug)]
+pub struct Block {
+    pub length: usize,
+    pub content: Content,
+    /// A byte that is no bit, and where it stands.
+    pub damage: Option<(usize, u8)>,
+}
+
+#[derive(Clone, Copy, Debug)]
+pub enum Content {
+    /// `xorshift::block` of this seed.
+    Random(u64),
+    All(u8),
+}
+
+impl Block {
+    pub fn bytes(&self) -> Vec<u8> {
+        let mut bytes = match self.content {
+            Content::Random(seed) => xorshift::block(self.length, seed),
+            Content::All(bit) => vec![bit; self.length],
+        };
+        if let Some((place, byte)) = self.damage {
+            bytes[place] = byte;
+        }
+        bytes
+    }
+}
+
+/// The least and the largest A of each number of code blocks.
+const BLOCKS: [(usize, usize); 5] =
+    [(1, 6_120), (6_121, 12_216), (12_217, 18_336), (18_337, 24_456), (24_457, A_MAX)];
+
+const QS: [usize; 3] = [2, 4, 6];
+const NS: [usize; 4] = [1, 2, 3, 4];
+
+/// Numbers that only a full-width argument carries.
+const HUGE: [usize; 6] = [1 << 16, 1 << 31, 1 << 32, (1 << 32) + 2, 1 << 63, usize::MAX];
+
+/// All cases of a seed, `random` of them being random builds.
+pub fn all(seed: u64, random: usize) -> Vec<Case> {
+    let mut maker = Maker { random: Generator::new(seed), cases: Vec::new() };
+    maker.sizes();
+    maker.grid();
+    maker.longest();
+    maker.rows();
+    maker.edges();
+    maker.block_lengths();
+    maker.single_faults();
+    maker.several_faults();
+    maker.random_builds(random);
+    maker.cases
+}
+
+/// 3 * D - 2 * F over all code blocks: what one turn of every circle sends.
+fn turn(a: usize) -> usize {
+    let s = segmentation_of(a).expect("A is in range");
+    (0..s.blocks).map(|r| 3 * (s.size(r) + 4) - 2 * s.filler_in(r)).sum()
+}
+
+fn blocks_of(a: usize) -> usize {
+    segmentation_of(a).expect("A is in range").blocks
+}
+
+struct Maker {
+    random: Generator,
+    cases: Vec<Case>,
+}
+
+impl Maker {
+    // Sizes.
+
+    fn sizes(&mut self) {
+        for a in 0..=30_600 {
+            self.size("every A", a, 24);
+        }
+        for a in HUGE.into_iter().chain([40_000, 65_535, 65_537, 100_000]) {
+            self.size("large A", a, 24);
+            self.size("large A", a.wrapping_add(16), 24);
+        }
+        for a in [0, 1, 16, 6_121, 12_216, A_MAX, A_MAX + 1, usize::MAX] {
+            for output_length in (0..24).chain([25, 28, 32, 48, 100, 4_096]) {
+                self.size("output length of Sizes", a, output_length);
+            }
+            self.size("null output of Sizes", a, 0);
+            self.last().null_output = true;
+        }
+    }
+
+    fn size(&mut self, group: &'static str, a: usize, output_length: usize) {
+        self.push(group, Asked::Sizes(a), output_length);
+    }
+
+    // Builds that are accepted.
+
+    /// Every C, Q, N and version: G at its least, with every remainder of G' by C, at
+    /// one turn of the circles and past several.
+    fn grid(&mut self) {
+        for (blocks, (from, to)) in (1..).zip(BLOCKS) {
+            for (q, n, version) in allocations() {
+                let symbol = q * n;
+                let a = self.between(from, to);
+                self.exact("least G", a, (q, n, version, symbol * blocks));
+                for remainder in 0..blocks {
+                    let a = self.between(from, to);
+                    let each = self.between(1, turn(a) / symbol / blocks);
+                    let g = symbol * (blocks * each + remainder);
+                    self.exact("remainder of G' by C", a, (q, n, version, g));
+                }
+                let a = self.between(from, to);
+                let symbols = turn(a) / symbol;
+                self.exact("one turn, or just short", a, (q, n, version, symbol * symbols));
+                self.exact("just over one turn", a, (q, n, version, symbol * (symbols + blocks)));
+                let a = if blocks == 1 { self.between(1, 600) } else { from };
+                let most = (4 * turn(a)).min(G_MAX) / symbol;
+                let g = symbol * self.between(most / 2, most);
+                self.exact("several turns", a, (q, n, version, g));
+            }
+        }
+    }
+
+    /// G = 172,800, which every N * Q divides.
+    fn longest(&mut self) {
+        for (case, (q, n, version)) in allocations().enumerate() {
+            let (from, to) = BLOCKS[case % 5];
+            let a = self.between(from, to);
+            self.exact("largest G", a, (q, n, version, G_MAX));
+        }
+        for a in [1, 16, 6_120, 6_121, A_MAX] {
+            self.exact("largest G", a, (6, 4, 0, G_MAX));
+        }
+    }
+
+    /// Every row of the table: without filler, and with as much as the row can have.
+    fn rows(&mut self) {
+        for (case, row) in TABLE.iter().enumerate() {
+            let before = if case == 0 { 24 } else { TABLE[case - 1].k };
+            for a in [row.k - 24, (before + 1).max(25) - 24] {
+                let (q, n) = self.allocation();
+                let version = self.random.below(4);
+                let g = q * n * (turn(a) / (q * n) + self.between(1, 4));
+                self.exact("every row of the table", a, (q, n, version, g));
+            }
+        }
+    }
+
+    /// Every length next to where C changes, and the smallest.
+    fn edges(&mut self) {
+        let near = BLOCKS.into_iter().flat_map(|(from, to)| [from, from + 1, to - 1, to]);
+        for a in near.chain(2..48) {
+            for version in 0..4 {
+                let (q, n) = self.allocation();
+                let symbols = turn(a) / (q * n) + 2;
+                let g = q * n * self.between(blocks_of(a), symbols);
+                self.exact("edges of A", a, (q, n, version, g));
+            }
+        }
+    }
+
+    fn random_builds(&mut self, count: usize) {
+        for _ in 0..count {
+            let a = self.some_length();
+            let (q, n) = self.allocation();
+            let version = self.random.below(4);
+            let g = self.some_codeword(a, q * n);
+            let beyond = match self.random.below(4) {
+                0 => self.between(1, 100),
+                1 => 1,
+                _ => 0,
+            };
+            self.build("random", a, (q, n, version, g), g + beyond);
+        }
+    }
+
+    /// Small blocks most often, every C often enough.
+    fn some_length(&mut self) -> usize {
+        let (from, to) = match self.random.below(20) {
+            0..=7 => (1, 200),
+            8..=13 => BLOCKS[0],
+            14..=16 => BLOCKS[1],
+            17 => BLOCKS[2],
+            18 => BLOCKS[3],
+            _ => BLOCKS[4],
+        };
+        self.between(from, to)
+    }
+
+    fn some_codeword(&mut self, a: usize, symbol: usize) -> usize {
+        let (blocks, whole, most) = (blocks_of(a), turn(a) / symbol, G_MAX / symbol);
+        let (from, to) = match self.random.below(8) {
+            0 => (blocks, blocks + 20),
+            1..=4 => (blocks, whole),
+            5..=6 => (whole - whole.min(10), whole + 10),
+            _ => (whole, whole + whole.min(6_000 / symbol).max(whole / 4)),
+        };
+        symbol * self.between(from.max(blocks), to.max(blocks)).min(most)
+    }
+
+    // Builds that are refused.
+
+    /// Refusal 1, A = 0 also as a null pointer, and the lengths just inside.
+    fn block_lengths(&mut self) {
+        for version in 0..4 {
+            for a in [1, 2, A_MAX - 1, A_MAX] {
+                self.exact("A just in range", a, (2, 1, version, 240));
+            }
+            for a in [0, A_MAX + 1, A_MAX + 2, 30_600, 32_768, 40_000, BLOCK_MAX - 1, BLOCK_MAX] {
+                self.exact("A out of range", a, (2, 1, version, 240));
+            }
+            self.exact("A = 0 as null", 0, (2, 1, version, 240));
+            self.last().null_block = true;
+            self.build("A = 0 as null", 0, (2, 1, version, 240), 0);
+            self.last().null_block = true;
+            self.last().null_output = true;
+        }
+    }
+
+    /// One thing wrong at a time, or just right.
+    fn single_faults(&mut self) {
+        for (blocks, (from, to)) in (1..).zip(BLOCKS) {
+            for (q, n) in QS.into_iter().flat_map(|q| NS.map(|n| (q, n))) {
+                let a = self.between(from, to);
+                let version = self.random.below(4);
+                let symbol = q * n;
+                let g = symbol * self.between(blocks, blocks + 40);
+                for bad in (0..=13).filter(|q| !QS.contains(q)).chain(HUGE) {
+                    self.exact("Q out of range", a, (bad, n, version, g));
+                }
+                for bad in [0, 5, 6, 7, 8, 12].into_iter().chain(HUGE) {
+                    self.exact("N out of range", a, (q, bad, version, g));
+                }
+                for (q, n) in [(1 << 63, 2), (1 << 32, 1 << 32), (0, 0), (usize::MAX, usize::MAX), (3, 5)] {
+                    self.exact("Q and N out of range", a, (q, n, version, g));
+                }
+                self.codeword_lengths(a, (q, n, version), blocks);
+                for bad in (4..=8).chain([255, 256]).chain(HUGE) {
+                    self.exact("version out of range", a, (q, n, bad, g));
+                }
+                self.output_lengths(a, (q, n, version, g));
+                self.damaged_blocks(a, (q, n, version, g));
+            }
+        }
+    }
+
+    fn codeword_lengths(&mut self, a: usize, (q, n, version): (usize, usize, usize), blocks: usize) {
+        let symbol = q * n;
+        let mut bad = vec![0, 1, symbol * (blocks - 1), symbol * blocks - 1, G_MAX + 1, G_MAX + 2, G_MAX + 16];
+        bad.extend([G_MAX + symbol, 2 * G_MAX, usize::MAX - usize::MAX % symbol]);
+        bad.extend(HUGE.map(|huge| huge - huge % symbol));
+        bad.extend(HUGE);
+        for remainder in 1..symbol {
+            bad.push(symbol * self.between(blocks, blocks + 60) + remainder);
+        }
+        bad.push(G_MAX - 1);
+        // Outputs of that length only for one allocation: they are long.
+        let longest = if symbol == 2 { OUTPUT_MAX } else { 500 };
+        for g in bad {
+            self.build("G out of range or no multiple", a, (q, n, version, g), g.min(longest));
+        }
+        self.exact("G at its least", a, (q, n, version, symbol * blocks));
+        self.exact("G at its least and one symbol", a, (q, n, version, symbol * (blocks + 1)));
+    }
+
+    fn output_lengths(&mut self, a: usize, numbers: (usize, usize, usize, usize)) {
+        let g = numbers.3;
+        for length in [0, 1, g / 2, g - 1] {
+            self.build("output too short", a, numbers, length);
+        }
+        self.build("output too short, null", a, numbers, 0);
+        self.last().null_output = true;
+        for length in [g, g + 1, g + 2, g + 1_000] {
+            self.build("output long enough", a, numbers, length);
+        }
+        if numbers.0 == 2 {
+            self.build("output far longer", a, numbers, OUTPUT_MAX);
+        }
+    }
+
+    fn damaged_blocks(&mut self, a: usize, numbers: (usize, usize, usize, usize)) {
+        for place in [0, a - 1, self.random.below(a)] {
+            for byte in [2, 255, 3, 128] {
+                self.exact("a byte above 1", a, numbers);
+                self.damage(place, byte);
+            }
+        }
+    }
+
+    /// Every set of faults at once, so that the order of the refusals shows.
+    fn several_faults(&mut self) {
+        for (from, to) in BLOCKS {
+            for faults in 0..32 {
+                let has = |fault: usize| faults >> fault & 1 == 1;
+                for bad_length in [0, A_MAX + 1] {
+                    let a = if has(0) { bad_length } else { self.between(from, to) };
+                    let (mut q, mut n) = self.allocation();
+                    let mut g = q * n * 12;
+                    match self.random.below(3) {
+                        _ if !has(1) => {}
+                        0 => q = self.random.choose(&[0, 3, 8]),
+                        1 => n = self.random.choose(&[0, 5]),
+                        _ => g = self.random.choose(&[0, g + 1, G_MAX + q * n]),
+                    }
+                    let version = if has(2) { self.between(4, 6) } else { self.random.below(4) };
+                    let length = if has(3) { (g / 2).min(1_000) } else { g };
+                    self.build("several faults", a, (q, n, version, g), length);
+                    if has(4) && a > 0 {
+                        let place = self.random.choose(&[0, a - 1]);
+                        self.damage(place, 2);
+                    }
+                }
+            }
+        }
+    }
+
+    // Helps.
+
+    fn between(&mut self, from: usize, to: usize) -> usize {
+        from + self.random.below(to - from + 1)
+    }
+
+    fn allocation(&mut self) -> (usize, usize) {
+        (self.random.choose(&QS), self.random.choose(&NS))
+    }
+
+    /// A build whose output is as long as the codeword, as far as a bridge has room.
+    fn exact(&mut self, group: &'static str, a: usize, numbers: (usize, usize, usize, usize)) {
+        self.build(group, a, numbers, numbers.3);
+    }
+
+    /// A build on a random block, now and then on one of zeros or of ones.
+    fn build(
+        &mut self,
+        group: &'static str,
+        length: usize,
+        (q, n, version, g): (usize, usize, usize, usize),
+        output_length: usize,
+    ) {
+        let content = match self.random.below(10) {
+            0 => Content::All(0),
+            1 => Content::All(1),
+            _ => Content::Random(self.random.number()),
+        };
+        let block = Block { length, content, damage: None };
+        let asked = Asked::Build(Build { block, q, n, version, g });
+        self.push(group, asked, output_length.min(OUTPUT_MAX));
+    }
+
+    fn push(&mut self, group: &'static str, asked: Asked, output_length: usize) {
+        let fill = self.between(2, 255) as u8;
+        self.cases.push(Case { group, asked, output_length, fill, null_block: false, null_output: false });
+    }
+
+    fn last(&mut self) -> &mut Case {
+        self.cases.last_mut().expect("a case has been pushed")
+    }
+
+    /// Puts a byte into the block of the last case.
+    fn damage(&mut self, place: usize, byte: u8) {
+        if let Asked::Build(build) = &mut self.last().asked {
+            build.block.damage = Some((place, byte));
+        }
+    }
+}
+
+/// Every Q, N and version.
+fn allocations() -> impl Iterator<Item = (usize, usize, usize)> {
+    let pairs = QS.into_iter().flat_map(|q| NS.map(|n| (q, n)));
+    pairs.flat_map(|(q, n)| [0, 1, 2, 3].map(|version| (q, n, version)))
+}

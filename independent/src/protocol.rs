@@ -1,0 +1,117 @@
+//! The binary form in which a bridge is asked and answers, the same as at the top of
+//! `face/bridge.c`. Numbers are lowest byte first.
+//!
+//! A request is 56 bytes: its kind (1 Build, 2 Sizes), null pointers (1 block, 2 output),
+//! the fill, five zeros, then block length (or A), Q, N, version, G and output length as 8
+//! bytes each; Build's block comes behind it. An answer is 8 bytes: the number given back
+//! as 4, then 1 if the block is unchanged, three zeros; the output comes behind it between
+//! two guards. Before the call every byte of output and guards is the fill.
+
+use std::io::{self, ErrorKind, Read, Write};
+
+/// Bytes on each side of an output.
+pub const GUARD: usize = 64;
+
+/// The most a bridge takes.
+pub const BLOCK_MAX: usize = 65_536;
+pub const OUTPUT_MAX: usize = 262_144;
+
+const REQUEST: usize = 56;
+const ANSWER: usize = 8;
+const BUILD: u8 = 1;
+const SIZES: u8 = 2;
+const NULL_BLOCK: u8 = 1;
+const NULL_OUTPUT: u8 = 2;
+
+/// What a bridge is asked to call.
+#[derive(Debug, PartialEq, Eq)]
+pub enum Call {
+    Build { block: Vec<u8>, q: usize, n: usize, version: usize, g: usize },
+    Sizes { a: usize },
+}
+
+#[derive(Debug, PartialEq, Eq)]
+pub struct Request {
+    pub call: Call,
+    pub output_length: usize,
+    pub fill: u8,
+    /// Lent as null pointers, with length 0 alone.
+    pub null_block: bool,
+    pub null_output: bool,
+}
+
+#[derive(Debug, PartialEq, Eq)]
+pub struct Answer {
+    /// 0 for accepted, else 01's number.
+    pub number: u32,
+    pub block_kept: bool,
+    /// The output between its guards.
+    pub output: Vec<u8>,
+}
+
+impl Request {
+    pub fn write(&self, to: &mut impl Write) -> io::Result<()> {
+        let (kind, block, numbers): (u8, &[u8], [usize; 5]) = match &self.call {
+            Call::Build { block, q, n, version, g } => (BUILD, block, [block.len(), *q, *n, *version, *g]),
+            Call::Sizes { a } => (SIZES, &[], [*a, 0, 0, 0, 0]),
+        };
+        let nulls = u8::from(self.null_block) * NULL_BLOCK + u8::from(self.null_output) * NULL_OUTPUT;
+        to.write_all(&[kind, nulls, self.fill, 0, 0, 0, 0, 0])?;
+        for number in numbers.into_iter().chain([self.output_length]) {
+            to.write_all(&(number as u64).to_le_bytes())?;
+        }
+        to.write_all(block)
+    }
+
+    /// The next request, or none at the end of the input.
+    pub fn read(from: &mut impl Read) -> io::Result<Option<Request>> {
+        let mut head = [0; REQUEST];
+        if from.read(&mut head[..1])? == 0 {
+            return Ok(None);
+        }
+        from.read_exact(&mut head[1..])?;
+        let numbers = head[8..].as_chunks::<8>().0;
+        let number = |place: usize| u64::from_le_bytes(numbers[place]) as usize;
+        let output_length = limited(number(5), OUTPUT_MAX)?;
+        let call = match head[0] {
+            BUILD => {
+                let mut block = vec![0; limited(number(0), BLOCK_MAX)?];
+                from.read_exact(&mut block)?;
+                Call::Build { block, q: number(1), n: number(2), version: number(3), g: number(4) }
+            }
+            SIZES => Call::Sizes { a: number(0) },
+            _ => return Err(ErrorKind::InvalidData.into()),
+        };
+        let [null_block, null_output] = [NULL_BLOCK, NULL_OUTPUT].map(|null| head[1] & null != 0);
+        Ok(Some(Request { call, output_length, fill: head[2], null_block, null_output }))
+    }
+}
+
+impl Answer {
+    pub fn write(&self, to: &mut impl Write) -> io::Result<()> {
+        to.write_all(&self.number.to_le_bytes())?;
+        to.write_all(&[self.block_kept.into(), 0, 0, 0])?;
+        to.write_all(&self.output)
+    }
+
+    /// The answer to a request with an output of this length.
+    pub fn read(from: &mut impl Read, output_length: usize) -> io::Result<Answer> {
+        let mut head = [0; ANSWER];
+        from.read_exact(&mut head)?;
+        let mut output = vec![0; GUARD + output_length + GUARD];
+        from.read_exact(&mut output)?;
+        let [n0, n1, n2, n3, kept, zeros @ ..] = head;
+        if kept > 1 || zeros != [0; 3] {
+            return Err(ErrorKind::InvalidData.into());
+        }
+        Ok(Answer { number: u32::from_le_bytes([n0, n1, n2, n3]), block_kept: kept == 1, output })
+    }
+}
+
+fn limited(length: usize, most: usize) -> io::Result<usize> {
+    if length <= most {
+        Ok(length)
+    } else {
+        Err(ErrorKind::InvalidData.into())
+    }
+}

@@ -1,0 +1,208 @@
+//! A bridge to this program itself, so that the comparison can be tried: sound, or with a
+//! fault planted that the comparison must find.
+
+use crate::codeword;
+use crate::compare::sizes_into;
+use crate::crc;
+use crate::fast::Workspace;
+use crate::protocol::{Answer, Call, Request, GUARD};
+use crate::rate;
+use crate::segmentation::{self, Segmentation};
+use crate::turbo;
+use std::io::{self, BufReader, Read, Write};
+
+#[derive(Clone, Copy, Debug, PartialEq, Eq)]
+pub enum Fault {
+    LongFirst,
+    EarlyShares,
+    StartAtZero,
+    NoShift,
+    DummiesSent,
+    FillerAbsent,
+    TransportCrcTwice,
+    TailOrder,
+    WritesPastG,
+    WritesBeforeOutput,
+    WritesOnRefusal,
+    WritesBlock,
+    VersionWraps,
+    LateVersion,
+    LateBits,
+    OneSymbolTooMany,
+    NoShortSize,
+    SizesOrder,
+    EndsEarly,
+    Garbles,
+}
+
+use Fault::*;
+
+/// The faults by their names.
+pub const FAULTS: [(&str, Fault); 20] = [
+    ("long-first", LongFirst),                  // long code blocks come first
+    ("early-shares", EarlyShares),              // the early code blocks have the larger share
+    ("start-at-zero", StartAtZero),             // the walk starts at place 0
+    ("no-shift", NoShift),                      // stream 2 is read like the others
+    ("dummies-sent", DummiesSent),              // absent places are sent as 0
+    ("filler-absent", FillerAbsent),            // the filler's places in stream 2 are absent
+    ("transport-crc-twice", TransportCrcTwice), // CRC24A in CRC24B's stead
+    ("tail-order", TailOrder),                  // tails of streams 1 and 2 swapped
+    ("writes-past-g", WritesPastG),             // one byte more than the codeword
+    ("writes-before-output", WritesBeforeOutput), // one byte in front of it
+    ("writes-on-refusal", WritesOnRefusal),     // refusal 2 after the first byte
+    ("writes-block", WritesBlock),              // the block is changed
+    ("version-wraps", VersionWraps),            // the version's low byte alone is looked at
+    ("late-version", LateVersion),              // 5 before 4
+    ("late-bits", LateBits),                    // the last byte of the block is not looked at
+    ("one-symbol-too-many", OneSymbolTooMany),  // G just above 172,800 is refused with 5
+    ("no-short-size", NoShortSize),             // K- is 0 wherever there are no short blocks
+    ("sizes-order", SizesOrder),                // 5 before 1
+    ("ends-early", EndsEarly),                  // ends after 1,000 answers
+    ("garbles", Garbles),                       // answers out of form
+];
+
+pub fn fault(name: &str) -> Option<Fault> {
+    FAULTS.iter().find(|(known, _)| *known == name).map(|(_, fault)| *fault)
+}
+
+/// Answers requests until the input ends.
+pub fn run(input: impl Read, mut output: impl Write, fault: Option<Fault>) -> io::Result<()> {
+    let mut input = BufReader::with_capacity(1 << 16, input);
+    let mut stub = Stub { fault, workspace: Workspace::default() };
+    let mut answers = 0;
+    let mut bytes = Vec::new();
+    while let Some(request) = Request::read(&mut input)? {
+        if fault == Some(EndsEarly) && answers == 1_000 {
+            break;
+        }
+        bytes.clear();
+        stub.answer(request).write(&mut bytes)?;
+        if fault == Some(Garbles) && answers == 1_000 {
+            bytes[7] = 1;
+        }
+        output.write_all(&bytes)?;
+        output.flush()?;
+        answers += 1;
+    }
+    Ok(())
+}
+
+struct Stub {
+    fault: Option<Fault>,
+    workspace: Workspace,
+}
+
+impl Stub {
+    fn has(&self, fault: Fault) -> bool {
+        self.fault == Some(fault)
+    }
+
+    fn answer(&mut self, request: Request) -> Answer {
+        let length = request.output_length;
+        let mut output = vec![request.fill; GUARD + length + GUARD];
+        let lent = &mut output[GUARD..GUARD + length];
+        let answer = match request.call {
+            Call::Build { block, q, n, version, g } => self.build(&block, q, n, version, g, lent),
+            Call::Sizes { a } => self.sizes(a, lent),
+        };
+        if self.has(WritesBeforeOutput) && answer.is_ok() {
+            output[GUARD - 1] = 0;
+        }
+        let number = answer.map_or_else(u32::from, |()| 0);
+        Answer { number, block_kept: !(self.has(WritesBlock) && number == 0), output }
+    }
+
+    fn sizes(&self, a: usize, output: &mut [u8]) -> Result<(), u8> {
+        if self.has(SizesOrder) && output.len() < 24 {
+            return Err(codeword::SHORT_OUTPUT);
+        }
+        sizes_into(a, output)?;
+        if self.has(NoShortSize) && output[12] == 0 {
+            output[16..20].fill(0);
+        }
+        Ok(())
+    }
+
+    /// Build for speed, unless a fault is planted.
+    fn build(
+        &mut self,
+        block: &[u8],
+        q: usize,
+        n: usize,
+        version: usize,
+        g: usize,
+        output: &mut [u8],
+    ) -> Result<(), u8> {
+        let Some(fault) = self.fault else {
+            return self.workspace.build_into(block, q, n, version, g, output);
+        };
+        let version = if fault == VersionWraps { version & 0xFF } else { version };
+        let mut checked = block.to_vec();
+        if fault == LateBits && !block.is_empty() {
+            checked[block.len() - 1] &= 1;
+        }
+        let sound = codeword::check(&checked, q, n, version, g, output.len());
+        match sound {
+            Err(codeword::BAD_ALLOCATION) if fault == OneSymbolTooMany && g == codeword::G_MAX + q.wrapping_mul(n) => {
+                return Err(codeword::SHORT_OUTPUT);
+            }
+            Err(codeword::BAD_VERSION) if fault == LateVersion && output.len() < g => {
+                return Err(codeword::SHORT_OUTPUT);
+            }
+            Err(codeword::BAD_BIT) if fault == WritesOnRefusal => output[0] = block[0] & 1,
+            _ => {}
+        }
+        sound?;
+        output[..g].copy_from_slice(&chain(fault, &checked, q * n, version, g));
+        if fault == WritesPastG && output.len() > g {
+            output[g] = 0;
+        }
+        Ok(())
+    }
+}
+
+/// The literal chain with a fault.
+fn chain(fault: Fault, block: &[u8], symbol: usize, version: usize, g: usize) -> Vec<u8> {
+    let b = crc::attach(block, &crc::CRC24A);
+    let mut s = Segmentation::of(b.len());
+    if fault == LongFirst {
+        s = Segmentation { longs: s.shorts, long: s.short, shorts: s.longs, short: s.long, ..s };
+    }
+    let mut shares = rate::shares(g, symbol, s.blocks);
+    if fault == EarlyShares {
+        shares.reverse();
+    }
+    let mut codeword = Vec::new();
+    for (r, mut c) in segmentation::code_blocks(&b, &s).into_iter().enumerate() {
+        if fault == TransportCrcTwice && s.blocks > 1 {
+            c.truncate(c.len() - s.parity);
+            c = crc::attach(&c, &crc::CRC24A);
+        }
+        codeword.extend(rate_matched(fault, &c, s.filler_in(r), version, shares[r]));
+    }
+    codeword
+}
+
+fn rate_matched(fault: Fault, c: &[u8], filler: usize, version: usize, e_length: usize) -> Vec<u8> {
+    let mut d = turbo::encode(c, filler);
+    match fault {
+        FillerAbsent => d[2][..filler].fill(None),
+        TailOrder => {
+            let [_, d1, d2] = &mut d;
+            d1[c.len()..].swap_with_slice(&mut d2[c.len()..]);
+        }
+        _ => {}
+    }
+    let mut w = rate::circle(&d);
+    match fault {
+        NoShift => {
+            let v2 = rate::sub_block_01(&d[2]);
+            let from = v2.len();
+            v2.into_iter().enumerate().for_each(|(k, bit)| w[from + 2 * k + 1] = bit);
+        }
+        DummiesSent => w.iter_mut().for_each(|place| *place = place.or(Some(0))),
+        _ => {}
+    }
+    let start = if fault == StartAtZero { 0 } else { rate::start(w.len(), version) };
+    rate::walk(&w, start, e_length)
+}
