@@ -1,3 +1,4 @@
 pub mod Shares
 pub mod Codeword
 pub mod Build
+pub mod Sending

@@ -2,3 +2,5 @@ pub mod Calls
 pub mod Run
 pub mod Accepted
 pub mod Sent
+pub mod Answered
+pub mod Holds

@@ -3,3 +3,4 @@ pub mod SubBlocks
 pub mod Circle
 pub mod Walk
 pub mod Places
+pub mod Matcher

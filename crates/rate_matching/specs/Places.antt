@@ -1,14 +1,20 @@
 -- Places in a stream and places on the circle, clauses 5.1.4.1.1 and 5.1.4.1.2 read place by place: which stream place a circle place holds, and where a stream place lies.
 -- Assumes nothing.
-use mathlib.Core.Bool.{Bool, true, false, cond}
-use Prim.Native.Nat.{ℕ, zero, suc, _+_, _-_, _*_, _/_, _%_}
-use lib.Dec.{ltb, eqb}
+use mathlib.Core.Bool.{cond, _&&_}
+use mathlib.Core.List.{List}
+use Prim.Native.Nat.{ℕ, zero, suc, _+_, _-_, _*_, _/_, _%_, _<_}
+use lib.Dec.{ltb, leb, eqb}
+use lib.ListN.{getD}
+use Rattle.turbo.specs.Streams.{NULL}
 use Rattle.rate_matching.specs.declared.StreamPlace.{StreamPlace}
 use Rattle.rate_matching.specs.declared.CirclePlace.{CirclePlace}
 use Rattle.rate_matching.specs.declared.Held.{Held}
 use Rattle.rate_matching.specs.declared.Held.the-variants.{Bit, Dummy}
+use Rattle.rate_matching.specs.declared.Lies.{Lies}
+use Rattle.rate_matching.specs.declared.Lies.the-variants.{At, Nowhere}
 use Rattle.rate_matching.specs.Columns.{column}
 use Rattle.rate_matching.specs.SubBlocks.{rows, dummies, readPlain, readShifted}
+use Rattle.rate_matching.specs.Circle.{circleLength}
 
 -- what y place p of stream s is: a dummy, or the stream's place p − N_D
 unfoldable pub heldY : ℕ → ℕ → ℕ → Held
@@ -44,3 +50,35 @@ placeNumber D s i =
 -- the circle place that holds a stream place
 unfoldable pub placeOf : ℕ → StreamPlace → CirclePlace
 placeOf D p = record { 0 = placeNumber D (p .0) (p .1) }
+
+-- no code block's streams are longer: D = K + 4 for K = 6,144
+abbrev pub longest : ℕ
+longest = 6148
+
+-- what a circle place holds; a dummy where streams of D places have no such circle place
+unfoldable pub heldWithin : ℕ → CirclePlace → Held
+heldWithin D j = cond (leb D longest && ltb (j .0) (circleLength (rows D))) (heldAt D j) Dummy
+
+-- where a stream place lies; nowhere if streams of D places have no such place
+unfoldable pub liesAt : ℕ → StreamPlace → Lies
+liesAt D p = cond (leb D longest && (ltb (p .0) 3 && ltb (p .1) D)) (At (placeOf D p)) Nowhere
+
+-- the three streams of D places have the place p
+pub record InStreams (D : ℕ) (p : StreamPlace) : Type 0 where
+  pub stream : p .0 < 3
+  pub place : p .1 < D
+
+-- the circle of streams of D places has the place j
+abbrev pub OnCircle : ℕ → CirclePlace → Type 0
+OnCircle D j = j .0 < circleLength (rows D)
+
+-- d(s)
+unfoldable pub streamOf : List ℕ → List ℕ → List ℕ → ℕ → List ℕ
+streamOf d0 d1 d2 zero = d0
+streamOf d0 d1 d2 (suc zero) = d1
+streamOf d0 d1 d2 (suc (suc s)) = d2
+
+-- the entry that stands where a circle place holds so: the stream's own, or <NULL> for a dummy
+unfoldable pub entryOf : List ℕ → List ℕ → List ℕ → Held → ℕ
+entryOf d0 d1 d2 (Bit p) = getD (streamOf d0 d1 d2 (p .0)) (p .1) 0
+entryOf d0 d1 d2 Dummy = NULL

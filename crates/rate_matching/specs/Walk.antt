@@ -1,8 +1,9 @@
 -- Bit selection of clause 5.1.4.1.2: which places of the circle a transmission sends, in sending order, and the standard's own loop beside it.
 -- Assumes nothing.
+use mathlib.Core.Path.{_≡_}
 use mathlib.Core.Bool.{Bool, true, false}
 use mathlib.Core.List.{List, [], _∷_, _++_, map}
-use Prim.Native.Nat.{ℕ, zero, suc, _+_, _-_, _%_}
+use Prim.Native.Nat.{ℕ, zero, suc, _+_, _-_, _%_, _<_}
 use lib.Dec.{ltb}
 use lib.ListN.{length, getD}
 use Rattle.laws.specs.Lists.{tab, tabFrom, keep}
@@ -12,9 +13,13 @@ use Rattle.turbo.specs.Streams.{NULL}
 unfoldable pub onCircle : List ℕ → ℕ → ℕ
 onCircle w j = getD w j 0
 
+-- an entry that is a bit, not <NULL>
+unfoldable pub isBit : ℕ → Bool
+isBit x = ltb x NULL
+
 -- w_j ≠ <NULL>
 unfoldable pub holdsBit : List ℕ → ℕ → Bool
-holdsBit w j = ltb (onCircle w j) NULL
+holdsBit w j = isBit (onCircle w j)
 
 -- the number itself
 unfoldable pub itself : ℕ → ℕ
@@ -49,3 +54,11 @@ loop (suc fuel) w k0 j (suc k) =
       | true ↦ onCircle w ((k0 + j) % length w) ∷ loop fuel w k0 (suc j) k
       | false ↦ loop fuel w k0 (suc j) (suc k)
     ]
+
+-- x is one of the entries
+abbrev pub Among : ℕ → List ℕ → Type 0
+Among x l = (i : ℕ) × (i < length l) × (getD l i 0 ≡ x)
+
+-- no entry stands twice
+abbrev pub NoneTwice : List ℕ → Type 0
+NoneTwice l = (a b : ℕ) → a < length l → b < length l → getD l a 0 ≡ getD l b 0 → a ≡ b

@@ -1,4 +1,11 @@
 // Rate matching of clause 5.1.4.1: a place in a stream and a place on the circle are two types, crossed only by the mapping functions.
+mod mapping;
+mod matcher;
+mod table;
+
+pub use mapping::held_at;
+pub use mapping::place_of;
+pub use matcher::rate_match;
 
 // Which stream, 0 to 2, and the place in it, which runs to D.
 pub struct StreamPlace(pub usize, pub usize);
@@ -10,4 +17,10 @@ pub struct CirclePlace(pub usize);
 pub enum Held {
     Bit(StreamPlace),
     Dummy,
+}
+
+// Where a place of a stream lies on the circle; nowhere if the streams have no such place.
+pub enum Lies {
+    At(CirclePlace),
+    Nowhere,
 }

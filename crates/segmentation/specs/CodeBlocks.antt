@@ -23,6 +23,11 @@ payload b r =
     take (sizeOf (length b) r - checkLength (length b))
     (drop (takenBefore (length b) r) (replicate {A = ℕ} (filler (length b)) 0 ++ b))
 
+-- the payloads of the code blocks before r, one after the other
+unfoldable pub payloadsBefore : List ℕ → ℕ → List ℕ
+payloadsBefore b zero = []
+payloadsBefore b (suc r) = payloadsBefore b r ++ payload b r
+
 -- c_r0 .. c_r(K_r − 1): with CRC24B where C > 1
 unfoldable pub codeBlock : List ℕ → ℕ → List ℕ
 codeBlock b r = payload b r ++ cond (eqb (blocks (length b)) 1) [] (checkBits 24 gCRC24B (payload b r))

@@ -1,3 +1,5 @@
 pub mod Segmentation
+pub mod Wording
 pub mod CodeBlocks
 pub mod Sizes
+pub mod Into

@@ -1,6 +1,6 @@
 -- Code block segmentation, clause 5.1.2, first part: the number of code blocks and their sizes, from the number B of bits with the transport check.
 -- Assumes nothing.
-use mathlib.Core.Bool.{Bool, true, false, cond}
+use mathlib.Core.Bool.{true, false, cond}
 use Prim.Native.Nat.{ℕ, zero, suc, _+_, _-_, _*_, _/_}
 use lib.Dec.{leb, ltb, eqb}
 use Rattle.interleaver.specs.Table.{sizeAt, rowCount}

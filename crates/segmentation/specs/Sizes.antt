@@ -19,6 +19,14 @@ unfoldable pub segmentsOf : ℕ → Segments
 segmentsOf B =
     record { blocks = blocks B; longs = longs B; long = long B; shorts = shorts B; short = short B; filler = filler B; row = longRow B }
 
+-- nothing: what stands for the segmentation of a block out of range
+unfoldable pub noSegments : Segments
+noSegments = record { blocks = 0; longs = 0; long = 0; shorts = 0; short = 0; filler = 0; row = 0 }
+
+-- the segmentation of a block of A bits: B = A + 24
+unfoldable pub segmentsFor : ℕ → Segments
+segmentsFor A = cond (badSize A) noSegments (segmentsOf (A + 24))
+
 -- C, C+, K+, C−, K− and F of a block of A bits: B = A + 24
 unfoldable pub sizesOf : ℕ → Sizes
 sizesOf A =

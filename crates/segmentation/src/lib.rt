@@ -1,4 +1,13 @@
 // Code block segmentation of clause 5.1.2.
+pub mod block;
+
+ghost use mathlib.Core.Path.{_≡_};
+ghost use Prim.Native.Nat.{_≤_, _<_};
+ghost use Rattle.interleaver.specs.Table.{rowCount};
+ghost use Rattle.segmentation.specs.Segmentation.{firstRow};
+ghost use Rattle.segmentation.specs.Sizes.{badSize, segmentsOf, segmentsFor, sizesAnswer};
+
+// The segmentation of a block, in the names of the clause.
 pub struct Segments {
     // C
     pub blocks: usize,
@@ -24,7 +33,111 @@ pub struct Sizes {
     pub filler: usize,
 }
 
+// What the call Sizes answers.
 pub enum SizesAnswer {
     Given(Sizes),
     Refused(u8),
+}
+
+// The segmentation of a block of `a` bits; all numbers 0 where `a` is out of range.
+pub fn segments_for(a: usize) -> Segments
+    ensures { λ r. ⌜ r ≡ segmentsFor a ⌝ }
+{
+    if bad_size(a) {
+        return Segments {
+            blocks: 0,
+            longs: 0,
+            long: 0,
+            shorts: 0,
+            short: 0,
+            filler: 0,
+            row: 0,
+        };
+    }
+    let b = a + 24;
+    if b <= 6144 { single(b) } else { several(b) }
+}
+
+// The call Sizes of 01: the numbers of a block of `a` bits, or refusal 1.
+pub fn sizes_for(a: usize) -> SizesAnswer
+    ensures { λ r. ⌜ r ≡ sizesAnswer a ⌝ }
+{
+    if bad_size(a) {
+        return SizesAnswer::Refused(1);
+    }
+    let s = segments_for(a);
+    SizesAnswer::Given(Sizes {
+        blocks: s.blocks,
+        longs: s.longs,
+        long: s.long,
+        shorts: s.shorts,
+        short: s.short,
+        filler: s.filler,
+    })
+}
+
+// A block of `a` bits is out of range.
+fn bad_size(a: usize) -> bool
+    ensures { λ r. ⌜ r ≡ badSize a ⌝ }
+{
+    a == 0 || 30576 < a
+}
+
+// The segmentation of `b` bits that fit one code block.
+fn single(b: usize) -> Segments
+    requires { ⌜ b ≤ 6144 ⌝ }
+    ensures { λ r. ⌜ r ≡ segmentsOf b ⌝ }
+{
+    let row = first_row(1, b);
+    let long = interleaver::table::size_at(row);
+    Segments {
+        blocks: 1,
+        longs: 1,
+        long,
+        shorts: 0,
+        short: 0,
+        filler: long - b,
+        row,
+    }
+}
+
+// The segmentation of `b` bits that take several code blocks, each with its 24 check bits.
+fn several(b: usize) -> Segments
+    requires { ⌜ (6144 < b) × (b ≤ 30600) ⌝ }
+    ensures { λ r. ⌜ r ≡ segmentsOf b ⌝ }
+{
+    // the ceiling of b / (Z - L)
+    let blocks = (b + 6119) / 6120;
+    let need = b + blocks * 24;
+    let row = first_row(blocks, need);
+    let long = interleaver::table::size_at(row);
+    // 40 is too small for K+ here, so there is a row before
+    let short = interleaver::table::size_at(row - 1);
+    let shorts = (blocks * long - need) / (long - short);
+    let longs = blocks - shorts;
+    Segments {
+        blocks,
+        longs,
+        long,
+        shorts,
+        short,
+        filler: longs * long + shorts * short - need,
+        row,
+    }
+}
+
+// The first row of the table with blocks·K ≥ need, or the number of rows where there is none. The table is copied once.
+fn first_row(blocks: usize, need: usize) -> usize
+    requires { ⌜ blocks ≤ 5 ⌝ }
+    ensures { λ r. ⌜ r ≡ firstRow blocks need 0 rowCount ⌝ }
+{
+    let ks = interleaver::table::sizes();
+    let mut row = 0;
+    while row < interleaver::table::ROWS {
+        if need <= blocks * (ks[row] as usize) {
+            return row;
+        }
+        row += 1;
+    }
+    row
 }

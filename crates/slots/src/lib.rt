@@ -1,4 +1,10 @@
 // The slots of 01: a state by value, and a store of rooms that the caller lends.
+mod opening;
+mod states;
+
+pub use opening::close;
+pub use opening::new;
+pub use opening::open;
 
 // A slot's head: closed, or open for a terminal with a block of `size` bits (A).
 pub struct Head {

@@ -1,0 +1,33 @@
+-- What the parts of Build may take for granted: an accepted call, a share that is asked for, a code block that is sent.
+-- Assumes nothing.
+use mathlib.Core.Path.{_≡_}
+use mathlib.Core.Bool.{false}
+use mathlib.Core.List.{List}
+use Prim.Native.Nat.{ℕ, _+_, _*_, _≤_, _<_}
+use lib.ListN.{length}
+use Rattle.segmentation.specs.declared.Segments.{Segments}
+use Rattle.segmentation.specs.Segmentation.{blocks}
+use Rattle.segmentation.specs.Sizes.{badSize, segmentsOf}
+use Rattle.codeword.specs.Build.{badAllocation}
+
+-- an accepted Build of G bits
+pub record Accepted (a : List ℕ) (Q N v G : ℕ) : Type 0 where
+  pub size : badSize (length a) ≡ false
+  pub allocation : badAllocation (blocks (length a + 24)) Q N G ≡ false
+  pub version : v ≤ 3
+
+-- the share of code block r of C, where N·Q and G are in their ranges
+pub record Sharing (C Q N G r : ℕ) : Type 0 where
+  pub some : 0 < C
+  pub few : C ≤ 5
+  pub below : r < C
+  pub step-some : 0 < N * Q
+  pub step-few : N * Q ≤ 24
+  pub most : G ≤ 172800
+
+-- code block r of a block of A bits, whose segmentation is s
+pub record Sending (A : ℕ) (s : Segments) (r v : ℕ) : Type 0 where
+  pub size : badSize A ≡ false
+  pub segments : s ≡ segmentsOf (A + 24)
+  pub below : r < blocks (A + 24)
+  pub version : v ≤ 3

@@ -1,0 +1,266 @@
+-- What an answer depends on, 01 'Slots': the arguments, S, M, the lent lengths, this head and this room, and through number 13 the other heads.
+-- Assumes nothing.
+use mathlib.Core.Path.{_≡_, refl, sym, _∙_, ap, ap₂, subst, subst₂}
+use mathlib.Core.Bool.{Bool, true, false, cond, not}
+use mathlib.Core.List.{List, _++_}
+use Prim.Native.Nat.{ℕ, _+_, _*_, _≤_, _<_}
+use native.Mathlib.Decide.{decLt}
+use native.Mathlib.Omega.{arith}
+use lib.Dec.{eqb}
+use lib.ListN.{length, getD, drop}
+use borrow.Author.Tests.{eqb-true}
+use Rattle.segmentation.specs.Segmentation.{blocks, sizeOf}
+use Rattle.slots.specs.declared.Answer.{Answer}
+use Rattle.slots.specs.declared.Answer.the-variants.{Done, Heard, Lacking, Refused}
+use Rattle.slots.specs.declared.Head.{Head}
+use Rattle.slots.specs.declared.Outcome.{Outcome}
+use Rattle.slots.specs.declared.State.{State}
+use Rattle.slots.specs.State.{storeLength, closedHead, roomLength, roomStart, headAt, badState}
+use Rattle.slots.specs.Answers.{unlessRefused}
+use Rattle.slots.specs.Room.{cleared}
+use Rattle.slots.specs.Reception.{received}
+use Rattle.slots.specs.Reading.{lacking, wrongCheck, heardBlock, threeStreams}
+use Rattle.slots.specs.Calls.{withHead, storeRules, ownerRules, sizeAtHead, openNumber, openOutcome, receiveNumber, receiveOutcome, readNumber, lackingAt, wrongAt, readOutcome, released, readOutput, streamsNumber, streamsOutcome, streamsOutput, closeNumber, closeOutcome}
+use Rattle.slots.proofs.RoomLaws.{room-within, cleared-in}
+use Rattle.slots.proofs.HeadLaws.{open-size, its-head, no-head, closed-head}
+use Rattle.slots.proofs.Acceptance.{receives, reads, streams}
+use Rattle.history.specs.Calls.{Reception, Call, opening, receiving, reading, streaming, closing}
+use Rattle.history.specs.Run.{storeAfterCall}
+use Rattle.history.specs.Accepted.{headsAfterCall}
+use Rattle.history.specs.Answered.{answerTo, slotOf, SameRoom, SameSlot}
+use Rattle.history.proofs.State.{room-lent, open-writes, receive-writes}
+use Rattle.history.proofs.SameRoom.{same-lacking, same-wrong, same-block, same-streams, same-received}
+use Rattle.history.proofs.Others.{reception-fits}
+
+-- the same number, and where it is 0 the same answer
+same-answer : (number number′ : ℕ) (state state′ : State) (o o′ : Outcome) → number ≡ number′ → (number ≡ 0 → o .answer ≡ o′ .answer)
+    → unlessRefused number state o .answer ≡ unlessRefused number′ state′ o′ .answer
+unfolding unlessRefused
+same-answer number number′ state state′ o o′ e f = rw (← e) (go (eqb number 0) refl)
+  where
+    go : (b : Bool) → eqb number 0 ≡ b
+        → cond b o (record { answer = Refused number; state = state }) .answer ≡ cond b o′ (record { answer = Refused number; state = state′ }) .answer
+    go true t = f (eqb-true number 0 t)
+    go false t = refl
+
+-- the same test, and where it is true the same list
+same-output : (number number′ : ℕ) (new new′ out : List ℕ) → number ≡ number′ → (number ≡ 0 → new ≡ new′)
+    → cond (eqb number 0) new out ≡ cond (eqb number′ 0) new′ out
+same-output number number′ new new′ out e f = rw (← e) (go (eqb number 0) refl)
+  where
+    go : (b : Bool) → eqb number 0 ≡ b → cond b new out ≡ cond b new′ out
+    go true t = f (eqb-true number 0 t)
+    go false t = refl
+
+module _ (slot : ℕ) (state other : State) (store otherStore : List ℕ) (same : SameSlot slot state other store otherStore) where
+  same-size : sizeAtHead state slot ≡ sizeAtHead other slot
+  unfolding sizeAtHead
+  same-size = ap (λ h. h .size) (same .head)
+
+  same-need : storeLength state ≡ storeLength other
+  unfolding storeLength
+  same-need = cc
+
+  same-open : (A : ℕ) → openNumber state (length store) slot A ≡ openNumber other (length otherStore) slot A
+  unfolding openNumber storeRules
+  same-open A = cc (same-need)
+
+  same-receive : (terminal Q N v : ℕ) (bits : List ℕ) → receiveNumber state (length store) slot terminal Q N v bits ≡ receiveNumber other (length otherStore) slot terminal Q N v bits
+  unfolding receiveNumber storeRules ownerRules
+  same-receive terminal Q N v bits = cc (same-need, same-size)
+
+  same-read : (terminal size : ℕ) → readNumber state (length store) slot terminal size ≡ readNumber other (length otherStore) slot terminal size
+  unfolding readNumber storeRules ownerRules
+  same-read terminal size = cc (same-need, same-size)
+
+  same-stream : (terminal r size : ℕ) → streamsNumber state (length store) slot terminal r size ≡ streamsNumber other (length otherStore) slot terminal r size
+  unfolding streamsNumber storeRules ownerRules
+  same-stream terminal r size = cc (same-need, same-size)
+
+  same-close : (terminal : ℕ) → closeNumber state slot terminal ≡ closeNumber other slot terminal
+  unfolding closeNumber ownerRules
+  same-close terminal = cc
+
+  -- ---- what is read of an open slot
+
+  module _ (sound : badState state ≡ false) (below : slot < state .slots) (opened : headAt state slot .opened ≡ true) where
+    same-lackingAt : lackingAt state slot store ≡ lackingAt other slot otherStore
+    unfolding lackingAt
+    same-lackingAt =
+        let size = open-size state sound slot below opened in
+        same-lacking (state .blocks) slot (sizeAtHead state slot) (size .0) (size .1) store otherStore (same .room)
+        ∙ ap₂ (λ (M A : ℕ). lacking M slot A otherStore) (same .blocks) same-size
+
+    same-wrongAt : wrongAt state slot store ≡ wrongAt other slot otherStore
+    unfolding wrongAt
+    same-wrongAt =
+        let size = open-size state sound slot below opened in
+        same-wrong (state .blocks) slot (sizeAtHead state slot) (size .0) (size .1) store otherStore (same .room)
+        ∙ ap₂ (λ (M A : ℕ). wrongCheck M slot A otherStore) (same .blocks) same-size
+
+    same-blockAt : heardBlock (state .blocks) slot (sizeAtHead state slot) store ≡ heardBlock (other .blocks) slot (sizeAtHead other slot) otherStore
+    same-blockAt =
+        let size = open-size state sound slot below opened in
+        same-block (state .blocks) slot (sizeAtHead state slot) (size .0) (size .1) store otherStore (same .room)
+        ∙ ap₂ (λ (M A : ℕ). heardBlock M slot A otherStore) (same .blocks) same-size
+
+    same-streamsAt : (r : ℕ) → r < blocks (sizeAtHead state slot + 24)
+        → threeStreams (state .blocks) slot (sizeAtHead state slot + 24) store r ≡ threeStreams (other .blocks) slot (sizeAtHead other slot + 24) otherStore r
+    same-streamsAt r l =
+        let size = open-size state sound slot below opened in
+        same-streams (state .blocks) slot (sizeAtHead state slot) (size .0) (size .1) store otherStore (same .room) r l
+        ∙ ap₂ (λ (M A : ℕ). threeStreams M slot (A + 24) otherStore r) (same .blocks) same-size
+
+  -- ---- the room after a call
+
+  -- an accepted opening or reception has the slot's room in both stores
+  room-in : slot < state .slots → storeLength state ≤ length store → roomStart (state .blocks) slot + roomLength (state .blocks) ≤ length store
+  unfolding storeLength
+  room-in below long = omega (arith, room-within (state .slots) (state .blocks) slot below, long)
+
+  -- the same test, and where it is true the same room
+  same-written : (call : Call) (b : Bool) (new new′ : List ℕ) → storeAfterCall state store call ≡ cond b new store
+      → storeAfterCall other otherStore call ≡ cond b new′ otherStore → (b ≡ true → SameRoom (state .blocks) slot new new′)
+      → SameRoom (state .blocks) slot (storeAfterCall state store call) (storeAfterCall other otherStore call)
+  same-written call true new new′ p q f = subst₂ (SameRoom (state .blocks) slot) (sym p) (sym q) (f refl)
+  same-written call false new new′ p q f = subst₂ (SameRoom (state .blocks) slot) (sym p) (sym q) (same .room)
+
+  same-opened : (terminal A : ℕ)
+      → SameRoom (state .blocks) slot (storeAfterCall state store (opening slot terminal A)) (storeAfterCall other otherStore (opening slot terminal A))
+  same-opened terminal A =
+      same-written (opening slot terminal A) (eqb number 0) _ _
+      (open-writes state store slot terminal A (eqb number 0) refl)
+      (open-writes other otherStore slot terminal A (eqb number 0) (ap (λ (n : ℕ). eqb n 0) (sym (same-open A))))
+      unheard-both
+    where
+      number : ℕ
+      number = openNumber state (length store) slot A
+
+      unheard-both : eqb number 0 ≡ true → SameRoom (state .blocks) slot (cleared (state .blocks) slot store) (cleared (other .blocks) slot otherStore)
+      unheard-both e k l =
+          let long = room-lent state (length store) slot A (eqb-true number 0 e) in
+          cleared-in (state .blocks) slot store long (roomStart (state .blocks) slot + k) (omega arith, omega arith)
+          ∙ sym (cleared-in (state .blocks) slot otherStore (omega (arith, same .long)) (roomStart (state .blocks) slot + k) (omega arith, omega arith))
+          ∙ ap (λ (M : ℕ). getD (cleared M slot otherStore) (roomStart (state .blocks) slot + k) 0) (same .blocks)
+
+  same-put : (terminal : ℕ) (x : Reception)
+      → SameRoom (state .blocks) slot (storeAfterCall state store (receiving slot terminal x)) (storeAfterCall other otherStore (receiving slot terminal x))
+  same-put terminal x =
+      same-written (receiving slot terminal x) (eqb number 0) _ _
+      (receive-writes state store slot terminal x (eqb number 0) refl)
+      (receive-writes other otherStore slot terminal x (eqb number 0) (ap (λ (n : ℕ). eqb n 0) (sym (same-receive terminal (x .Q) (x .N) (x .version) (x .bits)))))
+      put-both
+    where
+      number : ℕ
+      number = receiveNumber state (length store) slot terminal (x .Q) (x .N) (x .version) (x .bits)
+
+      put : ℕ → ℕ → List ℕ → List ℕ
+      put M A l = received M slot A (x .Q) (x .N) (x .version) (x .bits) l
+
+      put-both : eqb number 0 ≡ true
+          → SameRoom (state .blocks) slot (put (state .blocks) (sizeAtHead state slot) store) (put (other .blocks) (sizeAtHead other slot) otherStore)
+      put-both e =
+          let z : number ≡ 0 = eqb-true number 0 e in
+          let a = receives state (length store) slot terminal (x .Q) (x .N) (x .version) (x .bits) z in
+          let size = open-size state (a .sound) slot (a .below) (a .opened) in
+          let long = room-in (a .below) (a .long) in
+          subst (SameRoom (state .blocks) slot (put (state .blocks) (sizeAtHead state slot) store))
+          (ap₂ (λ (M A : ℕ). put M A otherStore) (same .blocks) same-size)
+          (same-received (state .blocks) slot (sizeAtHead state slot) (size .0) (size .1) store otherStore (same .room) (x .Q) (x .N) (x .version) (x .bits)
+          (reception-fits state (length store) slot terminal x z .1) long (omega (arith, same .long)))
+
+  same-heard : (terminal : ℕ) (x : Reception) → receiveNumber state (length store) slot terminal (x .Q) (x .N) (x .version) (x .bits) ≡ 0
+      → lacking (state .blocks) slot (sizeAtHead state slot) (storeAfterCall state store (receiving slot terminal x))
+      ≡ lacking (other .blocks) slot (sizeAtHead other slot) (storeAfterCall other otherStore (receiving slot terminal x))
+  same-heard terminal x e =
+      let a = receives state (length store) slot terminal (x .Q) (x .N) (x .version) (x .bits) e in
+      let size = open-size state (a .sound) slot (a .below) (a .opened) in
+      same-lacking (state .blocks) slot (sizeAtHead state slot) (size .0) (size .1) _ _ (same-put terminal x)
+      ∙ ap₂ (λ (M A : ℕ). lacking M slot A (storeAfterCall other otherStore (receiving slot terminal x))) (same .blocks) same-size
+
+  -- ---- the promise: the answer, and what the outputs hold
+
+  pub answer-depends : (call : Call) → slotOf call ≡ slot → answerTo state store call ≡ answerTo other otherStore call
+  unfolding answerTo slotOf storeAfterCall openOutcome receiveOutcome readOutcome streamsOutcome closeOutcome
+  answer-depends (opening s terminal A) e = rw e (same-answer _ _ state other _ _ (same-open A) (λ z. refl))
+  answer-depends (receiving s terminal x) e =
+      rw e (same-answer _ _ state other _ _ (same-receive terminal (x .Q) (x .N) (x .version) (x .bits)) (λ z. ap Heard (same-heard terminal x z)))
+  answer-depends (reading s terminal size) e = rw e (same-answer _ _ state other _ _ (same-read terminal size) read)
+    where
+      read : readNumber state (length store) slot terminal size ≡ 0
+          → _≡_ {A = Answer} (cond (eqb (lackingAt state slot store) 0) (cond (wrongAt state slot store) (Refused 12) Done) (Lacking (lackingAt state slot store)))
+          (cond (eqb (lackingAt other slot otherStore) 0) (cond (wrongAt other slot otherStore) (Refused 12) Done) (Lacking (lackingAt other slot otherStore)))
+      read z =
+          let a = reads state (length store) slot terminal size z in
+          ap₂ (λ (n : ℕ) (b : Bool). cond (eqb n 0) (cond b (Refused 12) Done) (Lacking n))
+          (same-lackingAt (a .sound) (a .below) (a .opened))
+          (same-wrongAt (a .sound) (a .below) (a .opened))
+  answer-depends (streaming s terminal block size) e = rw e (same-answer _ _ state other _ _ (same-stream terminal block size) (λ z. refl))
+  answer-depends (closing s terminal) e = rw e (same-answer _ _ state other _ _ (same-close terminal) (λ z. refl))
+
+  pub read-depends : (terminal : ℕ) (out : List ℕ) → readOutput state store slot terminal out ≡ readOutput other otherStore slot terminal out
+  unfolding readOutput released
+  read-depends terminal out = rw (← same-read terminal (length out)) (go (eqb number 0) refl)
+    where
+      number : ℕ
+      number = readNumber state (length store) slot terminal (length out)
+
+      -- what is written if the read releases
+      written : State → List ℕ → Bool → List ℕ
+      written t l b =
+          cond (cond b (cond (eqb (lackingAt t slot l) 0) (not (wrongAt t slot l)) false) false)
+          (heardBlock (t .blocks) slot (sizeAtHead t slot) l ++ drop (sizeAtHead t slot) out)
+          out
+
+      go : (b : Bool) → eqb number 0 ≡ b → written state store b ≡ written other otherStore b
+      go true z =
+          let a = reads state (length store) slot terminal (length out) (eqb-true number 0 z) in
+          ap₂ (λ (t : Bool) (l : List ℕ). cond t l out)
+          (ap₂ (λ (n : ℕ) (b : Bool). cond (eqb n 0) (not b) false)
+          (same-lackingAt (a .sound) (a .below) (a .opened))
+          (same-wrongAt (a .sound) (a .below) (a .opened)))
+          (ap₂ (λ (l : List ℕ) (A : ℕ). l ++ drop A out) (same-blockAt (a .sound) (a .below) (a .opened)) same-size)
+      go false z = refl
+
+  pub streams-depends : (terminal r : ℕ) (out : List ℕ) → streamsOutput state store slot terminal r out ≡ streamsOutput other otherStore slot terminal r out
+  unfolding streamsOutput
+  streams-depends terminal r out = same-output _ _ _ _ out (same-stream terminal r (length out)) written
+    where
+      written : streamsNumber state (length store) slot terminal r (length out) ≡ 0
+          → threeStreams (state .blocks) slot (sizeAtHead state slot + 24) store r ++ drop (3 * (sizeOf (sizeAtHead state slot + 24) r + 4)) out
+          ≡ threeStreams (other .blocks) slot (sizeAtHead other slot + 24) otherStore r ++ drop (3 * (sizeOf (sizeAtHead other slot + 24) r + 4)) out
+      written z =
+          let a = streams state (length store) slot terminal r (length out) z in
+          ap₂ (λ (l : List ℕ) (A : ℕ). l ++ drop (3 * (sizeOf (A + 24) r + 4)) out)
+          (same-streamsAt (a .sound) (a .below) (a .opened) r (a .block))
+          same-size
+
+  -- ---- the promise: the room and the head afterwards
+
+  pub room-depends : (call : Call) → slotOf call ≡ slot → SameRoom (state .blocks) slot (storeAfterCall state store call) (storeAfterCall other otherStore call)
+  unfolding slotOf storeAfterCall
+  room-depends (opening s terminal A) e = rw e (same-opened terminal A)
+  room-depends (receiving s terminal x) e = rw e (same-put terminal x)
+  room-depends (reading s terminal size) e = same .room
+  room-depends (streaming s terminal block size) e = same .room
+  room-depends (closing s terminal) e = same .room
+
+  pub head-depends : length (state .heads) ≡ length (other .heads) → (call : Call) → slotOf call ≡ slot
+      → headAt (headsAfterCall state (length store) call) slot ≡ headAt (headsAfterCall other (length otherStore) call) slot
+  unfolding headsAfterCall slotOf
+  head-depends long (opening s terminal A) e = rw (e, ← same-open A) (go (eqb (openNumber state (length store) slot A) 0) (record { opened = true; terminal = terminal; size = A }))
+    where
+      go : (b : Bool) (h : Head) → headAt (cond b (withHead state slot h) state) slot ≡ headAt (cond b (withHead other slot h) other) slot
+      go true h = elim (decLt slot (length (state .heads))) [
+        | yes l ↦ its-head state slot h l ∙ sym (its-head other slot h (omega arith))
+        | no l ↦ no-head state slot h (omega arith) ∙ sym (no-head other slot h (omega arith))
+      ]
+      go false h = same .head
+  head-depends long (receiving s terminal x) e = same .head
+  head-depends long (reading s terminal size) e = same .head
+  head-depends long (streaming s terminal block size) e = same .head
+  head-depends long (closing s terminal) e = rw (e, ← same-close terminal) (go (eqb (closeNumber state slot terminal) 0))
+    where
+      go : (b : Bool) → headAt (cond b (withHead state slot closedHead) state) slot ≡ headAt (cond b (withHead other slot closedHead) other) slot
+      go true = closed-head state slot ∙ sym (closed-head other slot)
+      go false = same .head

@@ -1,0 +1,250 @@
+-- Demand 3: after any history a place of an open slot's room holds the last bit accepted for it since that opening, and unheard where there was none.
+-- Assumes nothing.
+use mathlib.Core.Path.{_≡_, refl, sym, _∙_, ap, ap₂, subst, subst₂, subst₃}
+use mathlib.Core.Bool.{Bool, true, false, cond, _&&_, false≢true}
+use mathlib.Core.List.{List, [], _∷_}
+use Prim.Native.Nat.{ℕ, _+_, _≤_, _<_}
+use native.Mathlib.Decide.{ℕ-discrete}
+use native.Mathlib.Omega.{arith}
+use lib.Dec.{eqb}
+use lib.ListN.{length, getD}
+use borrow.Author.Tests.{eqb-true, eq-eqb, ne-eqb}
+use Rattle.segmentation.specs.Segmentation.{blocks}
+use Rattle.slots.specs.declared.Head.{Head}
+use Rattle.slots.specs.declared.State.{State}
+use Rattle.slots.specs.State.{perBlock, storeLength, closedHead, headAt, badShape}
+use Rattle.slots.specs.Room.{unheard, byteOf}
+use Rattle.slots.specs.Reception.{received}
+use Rattle.slots.specs.Calls.{withHead, sizeAtHead, openNumber, receiveNumber, closeNumber}
+use Rattle.slots.proofs.RoomLaws.{AllPlaces, room-within, rooms-apart, byte-in-room, cleared-in, received-past}
+use Rattle.slots.proofs.HeadLaws.{open-size, closed-head, new-head}
+use Rattle.slots.proofs.Accepted.{openable}
+use Rattle.slots.proofs.Acceptance.{receives}
+use Rattle.history.specs.Calls.{Reception, Call, opening, receiving, reading, streaming, closing, Made, History}
+use Rattle.history.specs.Run.{World, lent, storeAfterCall, step, begin, run}
+use Rattle.history.specs.Accepted.{lentLength, headsAfterCall, headsAfter, sinceCall, since, lastBit}
+use Rattle.history.specs.Answered.{slotOf}
+use Rattle.history.specs.Holds.{Holds}
+use Rattle.history.proofs.State.{open-writes, receive-writes, room-lent, rooms-lent, length-lent, rooms-long, heads}
+use Rattle.history.proofs.Heads.{Good, good-call, new-is, run-good, refused-state}
+use Rattle.history.proofs.Received.{brought, received-here}
+use Rattle.history.proofs.Others.{head-stays, reception-fits, lent-at, rooms-whole, same-rooms, step-at, rooms-stay}
+
+-- the same bytes in the room
+holds-on : {M slot A : ℕ} {xs : List Reception} {rooms after : List ℕ} → blocks (A + 24) ≤ M
+    → ((r j : ℕ) → r < M → j < perBlock → getD after (byteOf M slot r j) 0 ≡ getD rooms (byteOf M slot r j) 0)
+    → Holds M slot A xs rooms → Holds M slot A xs after
+holds-on fits same h = record {
+  last = λ r j l k. same r j (omega arith) k ∙ h .last r j l k;
+  rest = λ r j l g k. same r j g k ∙ h .rest r j l g k;
+}
+
+-- a call on another slot counts for nothing
+since-other : (state : State) (room slot : ℕ) (call : Call) (earlier : List Reception) → (slot ≡ slotOf call → ⊥)
+    → sinceCall state room slot call earlier ≡ earlier
+unfolding sinceCall slotOf
+since-other state room slot (opening s terminal A) earlier n = rw (ne-eqb s slot (λ e. n (sym e)))
+since-other state room slot (receiving s terminal r) earlier n = rw (ne-eqb s slot (λ e. n (sym e)))
+since-other state room slot (reading s terminal size) earlier n = refl
+since-other state room slot (streaming s terminal block size) earlier n = refl
+since-other state room slot (closing s terminal) earlier n = rw (ne-eqb s slot (λ e. n (sym e)))
+
+-- what is to be shown of a slot with a head, after receptions, of the rooms
+abbrev Kept : ℕ → ℕ → Head → List Reception → List ℕ → Type 0
+Kept M slot h xs rooms = h .opened ≡ true → Holds M slot (h .size) xs rooms
+
+-- ---- one call
+
+module _ (w : World) (past : List ℕ) where
+  -- the state, M, and the store that is lent
+  abbrev state : State
+  state = w .state
+
+  abbrev M : ℕ
+  M = w .state .blocks
+
+  abbrev store : List ℕ
+  store = lent w past
+
+  -- the rooms after a call
+  abbrev rooms : Call → List ℕ
+  rooms call = step w (record { call = call; past = past }) .rooms
+
+  -- what the calls say of the head and of the receptions
+  abbrev KeptAfter : ℕ → List Reception → Call → Type 0
+  KeptAfter slot xs call =
+      Kept M slot (headAt (headsAfterCall state (length store) call) slot) (sinceCall state (length store) slot call xs) (rooms call)
+
+  -- where all rooms are there
+  within : (slot r j : ℕ) → slot < state .slots → r < M → j < perBlock → storeLength state ≤ length store → byteOf M slot r j < length (w .rooms)
+  unfolding storeLength
+  within slot r j below h l long =
+      let whole = rooms-whole w (record { call = reading 0 0 0; past = past }) long in
+      omega (arith, whole, room-within (state .slots) M slot below, byte-in-room M slot r j h l)
+
+  module _ (slot : ℕ) (below : slot < state .slots) where
+    -- an open slot of a sound state has room for its code blocks
+    open-fits : {after : State} → Good (state .slots) M after → headAt after slot .opened ≡ true → blocks (headAt after slot .size + 24) ≤ M
+    unfolding sizeAtHead
+    open-fits {after} good o =
+        let l : slot < after .slots = omega (arith, good .slots) in
+        omega (arith, good .blocks, open-size after (good .sound) slot l o .1)
+
+    module _ (g : Good (state .slots) M state) (xs : List Reception) (kept : Kept M slot (headAt state slot) xs (w .rooms)) where
+      -- a call on another slot
+      on-other : (call : Call) → (slot ≡ slotOf call → ⊥) → KeptAfter slot xs call
+      on-other call other =
+          subst₂ (λ (h : Head) (l : List Reception). Kept M slot h l (rooms call))
+          (sym (head-stays state (length store) slot call other))
+          (sym (since-other state (length store) slot call xs other))
+          (λ o. holds-on (open-fits g o) bytes (kept o))
+        where
+          bytes : (r j : ℕ) → r < M → j < perBlock → getD (rooms call) (byteOf M slot r j) 0 ≡ getD (w .rooms) (byteOf M slot r j) 0
+          bytes r j h l =
+              rooms-stay w (record { call = call; past = past }) (byteOf M slot r j)
+              (λ i. other (rooms-apart M slot (slotOf call) (byteOf M slot r j) (byte-in-room M slot r j h l) i))
+
+      -- a call that leaves the store
+      same-store : (call : Call) → storeAfterCall state store call ≡ store → Kept M slot (headAt state slot) xs (rooms call)
+      same-store call e =
+          subst (Kept M slot (headAt state slot) xs) (sym (same-rooms w (record { call = call; past = past }) e)) kept
+
+      opening-here : (terminal A : ℕ) → KeptAfter slot xs (opening slot terminal A)
+      unfolding headsAfterCall sinceCall lastBit
+      opening-here terminal A =
+          rw (eq-eqb slot slot refl) (go (eqb number 0) refl (good-call g (length store) call))
+        where
+          call : Call
+          call = opening slot terminal A
+
+          number : ℕ
+          number = openNumber state (length store) slot A
+
+          after : Bool → State
+          after b = cond b (withHead state slot (record { opened = true; terminal = terminal; size = A })) state
+
+          go : (b : Bool) → eqb number 0 ≡ b → Good (state .slots) M (after b)
+              → Kept M slot (headAt (after b) slot) (cond (true && b) [] xs) (rooms call)
+          go true e good = λ o. record {
+            last = λ r j l k. bytes r j (omega (arith, open-fits good o)) k;
+            rest = λ r j l h k. bytes r j h k;
+          }
+            where
+              bytes : (r j : ℕ) → r < M → j < perBlock → getD (rooms call) (byteOf M slot r j) 0 ≡ unheard
+              bytes r j h k =
+                  let accepted : number ≡ 0 = eqb-true number 0 e in
+                  step-at w (record { call = call; past = past }) (byteOf M slot r j) (within slot r j below h k (openable state (length store) slot A refl accepted .slot-stored .enough))
+                  ∙ ap (λ (l : List ℕ). getD l (byteOf M slot r j) 0) (open-writes state store slot terminal A true e)
+                  ∙ cleared-in M slot store (room-lent state (length store) slot A accepted) (byteOf M slot r j) (byte-in-room M slot r j h k)
+          go false e good = same-store call (open-writes state store slot terminal A false e)
+
+      receiving-here : (terminal : ℕ) (x : Reception) → KeptAfter slot xs (receiving slot terminal x)
+      unfolding headsAfterCall sinceCall lastBit sizeAtHead
+      receiving-here terminal x = rw (eq-eqb slot slot refl) (go (eqb number 0) refl)
+        where
+          call : Call
+          call = receiving slot terminal x
+
+          number : ℕ
+          number = receiveNumber state (length store) slot terminal (x .Q) (x .N) (x .version) (x .bits)
+
+          go : (b : Bool) → eqb number 0 ≡ b → Kept M slot (headAt state slot) (cond (true && b) (x ∷ xs) xs) (rooms call)
+          go true e = λ o. record {
+            last = λ r j l k.
+                let h : r < M = omega (arith, fits .0) in
+                bytes r j h k
+                ∙ received-here M slot A (x .Q) (x .N) (x .version) (x .bits) store (fits .1) r j l k (there r j h k)
+                ∙ ap (brought (A + 24) (x .Q) (x .N) (x .version) (x .bits) r j) (before r j h k ∙ kept o .last r j l k);
+            rest = λ r j l h k.
+                bytes r j h k
+                ∙ received-past M slot A (x .Q) (x .N) (x .version) (x .bits) store (fits .0) (fits .1) r j l k
+                ∙ before r j h k
+                ∙ kept o .rest r j l h k;
+          }
+            where
+              A : ℕ
+              A = headAt state slot .size
+
+              m : Made
+              m = record { call = call; past = past }
+
+              accepted : number ≡ 0
+              accepted = eqb-true number 0 e
+
+              fits : (blocks (A + 24) ≤ M) × AllPlaces (A + 24) (x .Q) (x .N) (x .version) (length (x .bits))
+              fits = reception-fits state (length store) slot terminal x accepted
+
+              here : (r j : ℕ) → r < M → j < perBlock → byteOf M slot r j < length (w .rooms)
+              here r j h k = within slot r j below h k (receives state (length store) slot terminal (x .Q) (x .N) (x .version) (x .bits) accepted .long)
+
+              there : (r j : ℕ) → r < M → j < perBlock → byteOf M slot r j < length store
+              there r j h k = omega (arith, here r j h k, rooms-lent w past)
+
+              bytes : (r j : ℕ) → r < M → j < perBlock
+                  → getD (rooms call) (byteOf M slot r j) 0 ≡ getD (received M slot A (x .Q) (x .N) (x .version) (x .bits) store) (byteOf M slot r j) 0
+              bytes r j h k =
+                  step-at w m (byteOf M slot r j) (here r j h k)
+                  ∙ ap (λ (l : List ℕ). getD l (byteOf M slot r j) 0) (receive-writes state store slot terminal x true e)
+
+              before : (r j : ℕ) → r < M → j < perBlock → getD store (byteOf M slot r j) 0 ≡ getD (w .rooms) (byteOf M slot r j) 0
+              before r j h k = lent-at w m (byteOf M slot r j) (here r j h k)
+          go false e = same-store call (receive-writes state store slot terminal x false e)
+
+      closing-here : (terminal : ℕ) → KeptAfter slot xs (closing slot terminal)
+      unfolding headsAfterCall sinceCall storeAfterCall closedHead
+      closing-here terminal = rw (eq-eqb slot slot refl) (go (eqb (closeNumber state slot terminal) 0))
+        where
+          go : (b : Bool) → Kept M slot (headAt (cond b (withHead state slot closedHead) state) slot) (cond (true && b) [] xs) (rooms (closing slot terminal))
+          go true = λ o. absurd (false≢true (sym (ap (λ (h : Head). h .opened) (closed-head state slot)) ∙ o))
+          go false = same-store (closing slot terminal) refl
+
+      on-this : (call : Call) → slot ≡ slotOf call → KeptAfter slot xs call
+      unfolding headsAfterCall sinceCall storeAfterCall slotOf
+      on-this (opening s terminal A) e = rw (← e) (opening-here terminal A)
+      on-this (receiving s terminal x) e = rw (← e) (receiving-here terminal x)
+      on-this (reading s terminal size) e = same-store (reading s terminal size) refl
+      on-this (streaming s terminal block size) e = same-store (streaming s terminal block size) refl
+      on-this (closing s terminal) e = rw (← e) (closing-here terminal)
+
+      kept-on : (call : Call) → KeptAfter slot xs call
+      kept-on call = elim (ℕ-discrete slot (slotOf call)) [ yes e ↦ on-this call e | no n ↦ on-other call n ]
+
+-- ---- a history
+
+module _ (S M : ℕ) (store₀ : List ℕ) (slot : ℕ) where
+  -- the length of the rooms
+  abbrev long : ℕ
+  long = length (begin S M store₀ .rooms)
+
+  from-accepted : badShape S M ≡ false → slot < S → (h : History)
+      → Kept M slot (headAt (headsAfter S M long h) slot) (since S M long slot h) (run S M store₀ h .rooms)
+  unfolding headsAfter since run closedHead
+  from-accepted accepted below [] = λ o.
+      absurd (false≢true (sym (ap (λ (t : State). headAt t slot .opened) (new-is S M accepted) ∙ ap (λ (k : Head). k .opened) (new-head S M slot)) ∙ o))
+  from-accepted accepted below (m ∷ h) =
+      let w = run S M store₀ h in
+      let good = run-good S M accepted store₀ h in
+      let own : Good (w .state .slots) (w .state .blocks) (w .state) = record { slots = refl; blocks = refl; eight = good .eight; sound = good .sound } in
+      let xs = since S M long slot h in
+      let earlier : Kept (w .state .blocks) slot (headAt (w .state) slot) xs (w .rooms) =
+      subst₂ (λ (n : ℕ) (t : State). Kept n slot (headAt t slot) xs (w .rooms)) (sym (good .blocks)) (sym (heads S M store₀ h)) (from-accepted accepted below h) in
+      subst₃ (λ (n : ℕ) (t : State) (room : ℕ). Kept n slot (headAt (headsAfterCall t room (m .call)) slot) (sinceCall t room slot (m .call) xs) (step w m .rooms))
+      (good .blocks)
+      (heads S M store₀ h)
+      (length-lent w (m .past) ∙ ap₂ (λ (t : State) (n : ℕ). lentLength t n (m .past)) (heads S M store₀ h) (rooms-long S M store₀ h))
+      (kept-on w (m .past) slot (omega (arith, good .slots)) own xs earlier (m .call))
+
+  from-refused : badShape S M ≡ true → (h : History)
+      → Kept M slot (headAt (headsAfter S M long h) slot) (since S M long slot h) (run S M store₀ h .rooms)
+  unfolding closedHead
+  from-refused refused h o =
+      absurd (false≢true (sym (ap (λ (t : State). headAt t slot .opened) (refused-state S M refused long h) ∙ ap (λ (k : Head). k .opened) (new-head 0 0 slot)) ∙ o))
+
+  -- THE promise on receptions: any S, M, store, history and slot
+  pub holds : slot < S → (h : History) → headAt (headsAfter S M long h) slot .opened ≡ true
+      → Holds M slot (headAt (headsAfter S M long h) slot .size) (since S M long slot h) (run S M store₀ h .rooms)
+  holds below h = go (badShape S M) refl
+    where
+      go : (b : Bool) → badShape S M ≡ b → Kept M slot (headAt (headsAfter S M long h) slot) (since S M long slot h) (run S M store₀ h .rooms)
+      go true e = from-refused e h
+      go false e = from-accepted e below h

@@ -1,0 +1,101 @@
+-- What is read of a slot's room, and what a reception leaves in it, follow from the bytes of that room alone.
+-- Assumes nothing.
+use mathlib.Core.Path.{_≡_, refl, sym, _∙_, ap, ap₂}
+use mathlib.Core.Bool.{false, cond, not, _&&_}
+use mathlib.Core.List.{List, _++_}
+use Prim.Native.Nat.{ℕ, zero, suc, _+_, _-_, _*_, _≤_, _<_}
+use native.Mathlib.Decide.{decLt}
+use native.Mathlib.Omega.{arith}
+use lib.Arith.{digits-lt}
+use lib.Dec.{eqb, ltb}
+use lib.ListN.{length, getD, take}
+use Rattle.laws.specs.Lists.{tab}
+use Rattle.laws.proofs.Tab.{tabFrom-ext, tab-ext}
+use Rattle.check_bits.specs.CheckBits.{crc, gCRC24A}
+use Rattle.segmentation.specs.Segmentation.{checkLength, blocks, sizeOf, fillerOf}
+use Rattle.segmentation.specs.Sizes.{badSize}
+use Rattle.rate_matching.specs.Places.{placeNumber}
+use Rattle.slots.specs.State.{perBlock, roomLength, roomStart}
+use Rattle.slots.specs.Room.{heard, byteOf}
+use Rattle.slots.specs.Reception.{received}
+use Rattle.slots.specs.Reading.{keptAt, lacks, sumFrom, lackingIn, lacking, heardIn, heardFrom, heardSequence, wrongCheck, heardBlock, streamByte, threeStreams}
+use Rattle.slots.proofs.RoomLaws.{AllPlaces, by-place, byte-in-room, received-past}
+use Rattle.slots.proofs.PlaceBounds.{place-below}
+use Rattle.history.specs.Answered.{SameRoom}
+use Rattle.history.proofs.Received.{brought, received-here}
+
+sumFrom-ext : (f g : ℕ → ℕ) (i n : ℕ) → ((k : ℕ) → i ≤ k → k < i + n → f k ≡ g k) → sumFrom f i n ≡ sumFrom g i n
+unfolding sumFrom
+sumFrom-ext f g i zero h = refl
+sumFrom-ext f g i (suc n) h = ap₂ _+_ (h i (omega arith) (omega arith)) (sumFrom-ext f g (suc i) n (λ k a b. h k (omega arith) (omega arith)))
+
+-- a room for M code blocks that is open for a block of A bits, in two stores
+module _ (M slot A : ℕ) (admitted : badSize A ≡ false) (fits : blocks (A + 24) ≤ M) (store other : List ℕ) (same : SameRoom M slot store other) where
+  same-byte : (r j : ℕ) → r < M → j < perBlock → getD store (byteOf M slot r j) 0 ≡ getD other (byteOf M slot r j) 0
+  unfolding byteOf roomLength
+  same-byte r j h l = same (r * perBlock + j) (digits-lt h l)
+
+  same-kept : (r s i : ℕ) → r < blocks (A + 24) → s < 3 → i < sizeOf (A + 24) r + 4
+      → keptAt M slot (A + 24) store r s i ≡ keptAt M slot (A + 24) other r s i
+  unfolding keptAt
+  same-kept r s i h u l = same-byte r (placeNumber (sizeOf (A + 24) r + 4) s i) (omega arith) (place-below A admitted r s i u l)
+
+  -- how many data places lack a bit
+  pub same-lacking : lacking M slot A store ≡ lacking M slot A other
+  unfolding lacking lackingIn lacks
+  same-lacking = sumFrom-ext _ _ 0 (blocks (A + 24))
+      (λ r a h. sumFrom-ext _ _ (fillerOf (A + 24) r) (sizeOf (A + 24) r - fillerOf (A + 24) r)
+      (λ i b l. ap (λ (x : ℕ). cond (heard x) 0 1) (same-kept r 0 i (omega arith) (omega arith) (omega arith))))
+
+  same-heardFrom : (r n : ℕ) → r + n ≤ blocks (A + 24) → heardFrom M slot (A + 24) store r n ≡ heardFrom M slot (A + 24) other r n
+  unfolding heardFrom heardIn
+  same-heardFrom r zero h = refl
+  same-heardFrom r (suc n) h =
+      ap₂ _++_
+      (tabFrom-ext (fillerOf (A + 24) r) (sizeOf (A + 24) r - checkLength (A + 24) - fillerOf (A + 24) r) _ _
+      (λ i a b. same-kept r 0 i (omega arith) (omega arith) (omega arith)))
+      (same-heardFrom (suc r) n (omega arith))
+
+  -- the block with its transport check
+  pub same-sequence : heardSequence M slot A store ≡ heardSequence M slot A other
+  unfolding heardSequence
+  same-sequence = same-heardFrom 0 (blocks (A + 24)) (omega arith)
+
+  pub same-wrong : wrongCheck M slot A store ≡ wrongCheck M slot A other
+  unfolding wrongCheck
+  same-wrong = ap (λ (l : List ℕ). not (eqb (crc 24 gCRC24A l) 0)) same-sequence
+
+  pub same-block : heardBlock M slot A store ≡ heardBlock M slot A other
+  unfolding heardBlock
+  same-block = ap (take A) same-sequence
+
+  -- the three streams of a code block
+  pub same-streams : (r : ℕ) → r < blocks (A + 24) → threeStreams M slot (A + 24) store r ≡ threeStreams M slot (A + 24) other r
+  unfolding threeStreams streamByte
+  same-streams r h = ap₂ _++_ (one 0 (omega arith)) (ap₂ _++_ (one 1 (omega arith)) (one 2 (omega arith)))
+    where
+      one : (s : ℕ) → s < 3 → tab (sizeOf (A + 24) r + 4) (streamByte M slot (A + 24) store r s) ≡ tab (sizeOf (A + 24) r + 4) (streamByte M slot (A + 24) other r s)
+      one s u = tab-ext (sizeOf (A + 24) r + 4) _ _
+          (λ i l. ap (λ (x : ℕ). cond (ltb s 2 && ltb i (fillerOf (A + 24) r)) 0 (cond (heard x) x 2)) (same-kept r s i h u l))
+
+  -- what a reception leaves
+  pub same-received : (Q N v : ℕ) (bits : List ℕ) → AllPlaces (A + 24) Q N v (length bits)
+      → roomStart M slot + roomLength M ≤ length store → roomStart M slot + roomLength M ≤ length other
+      → SameRoom M slot (received M slot A Q N v bits store) (received M slot A Q N v bits other)
+  same-received Q N v bits places long long′ =
+      by-place M slot (λ (at : ℕ). getD (received M slot A Q N v bits store) at 0 ≡ getD (received M slot A Q N v bits other) at 0) at-place
+    where
+      at-place : (r j : ℕ) → r < M → j < perBlock
+          → getD (received M slot A Q N v bits store) (byteOf M slot r j) 0 ≡ getD (received M slot A Q N v bits other) (byteOf M slot r j) 0
+      at-place r j h l =
+          let inside = byte-in-room M slot r j h l in
+          elim (decLt r (blocks (A + 24))) [
+            | yes g ↦
+                received-here M slot A Q N v bits store places r j g l (omega arith)
+                ∙ ap (brought (A + 24) Q N v bits r j) (same-byte r j h l)
+                ∙ sym (received-here M slot A Q N v bits other places r j g l (omega arith))
+            | no g ↦
+                received-past M slot A Q N v bits store fits places r j (omega arith) l
+                ∙ same-byte r j h l
+                ∙ sym (received-past M slot A Q N v bits other fits places r j (omega arith) l)
+          ]

@@ -1,0 +1,11 @@
+pub mod Columns
+pub mod Places
+pub mod Circle
+pub mod Kept
+pub mod Walk
+pub mod MatcherRooms
+pub mod MatcherPadded
+pub mod MatcherColumns
+pub mod MatcherRing
+pub mod MatcherTurns
+pub mod MatcherBlock

@@ -1,0 +1,122 @@
+-- Laws of the matcher's last stage: a ring copied turn after turn, and that `selected` is the ring of one turn's bits repeated so.
+-- Assumes nothing.
+use mathlib.Core.Path.{_≡_, refl, sym, _∙_, ap}
+use mathlib.Core.Logic.{⊎-elim}
+use mathlib.Core.List.{List, [], _∷_, _++_, append-nil}
+use Prim.Native.Nat.{ℕ, _+_, _-_, _%_, _≤_, _<_}
+use native.Mathlib.Nat.{add-sub-cancel-left, eq-zero-or-pos, zero-add, zero-mod, mod-one, mod-eq-of-lt, mod-add-mod, add-mod-right}
+use native.Mathlib.Omega.{arith}
+use lib.ListN.{length, getD, take, length-map, List·getD-eq-default}
+use lib.Seq.{ext-getD, length-take-le, take-length, getD-take}
+use borrow.Rule.Slice.PartMut.{midOf, putMid, same-len-mid}
+use Rattle.laws.specs.Lists.{tab, tabFrom}
+use Rattle.laws.proofs.Tab.{length-tabFrom, getD-tabFrom, tabFrom-split, map-tab, tab-ext, tab-rest}
+use Rattle.laws.proofs.Parts.{length-mid, length-put}
+use Rattle.laws.proofs.Writing.{Writing, start, same, pushPart, finish-all}
+use Rattle.rate_matching.specs.Walk.{onCircle, turn, turnAfterTurn, sentPlaces, selected}
+use Rattle.rate_matching.specs.Matcher.{turnBits, ringOf}
+use Rattle.rate_matching.proofs.Walk.{turn-entries, selected-is}
+use Rattle.rate_matching.proofs.MatcherRing.{ringOf-none, ringOf-some}
+
+module _ (ring : List ℕ) (i : ℕ) (some : 0 < length ring) (whole : i % length ring ≡ 0) where
+  -- from a turn's begin on, the ring from its begin on
+  pub turn-front : (m : ℕ) → m ≤ length ring → tabFrom i m (turnAfterTurn ring) ≡ take m ring
+  unfolding turnAfterTurn
+  turn-front m h = ext-getD 0 (tabFrom i m (turnAfterTurn ring)) (take m ring) (length-tabFrom i m (turnAfterTurn ring) ∙ sym (length-take-le m ring h)) each
+    where
+      within : (k : ℕ) → k < m → (i + k) % length ring ≡ k
+      within k l =
+          sym (mod-add-mod i (length ring) k)
+          ∙ ap (λ (r : ℕ). (r + k) % length ring) whole
+          ∙ ap (λ (r : ℕ). r % length ring) (zero-add k)
+          ∙ mod-eq-of-lt (omega arith)
+
+      each : (k : ℕ) → k < length (tabFrom i m (turnAfterTurn ring)) → getD (tabFrom i m (turnAfterTurn ring)) k 0 ≡ getD (take m ring) k 0
+      each k l =
+          let b : k < m = omega (arith, length-tabFrom i m (turnAfterTurn ring)) in
+          getD-tabFrom i m (turnAfterTurn ring) k 0 b ∙ ap (λ (j : ℕ). getD ring j 0) (within k b) ∙ sym (getD-take m ring k 0 b)
+
+  -- one turn more
+  pub turn-next : (E : ℕ) → i + length ring ≤ E
+      → tabFrom i (E - i) (turnAfterTurn ring) ≡ ring ++ tabFrom (i + length ring) (E - (i + length ring)) (turnAfterTurn ring)
+  turn-next E h =
+      ap (λ (k : ℕ). tabFrom i k (turnAfterTurn ring)) sum
+      ∙ tabFrom-split i (length ring) (E - (i + length ring)) (turnAfterTurn ring)
+      ∙ ap (λ (l : List ℕ). l ++ tabFrom (i + length ring) (E - (i + length ring)) (turnAfterTurn ring)) (turn-front (length ring) (omega arith) ∙ take-length ring)
+    where
+      sum : E - i ≡ length ring + (E - (i + length ring))
+      sum = omega arith
+
+-- a whole number of turns is written, up to place i, and `left` places are left
+pub record Turning (ring out₀ out : List ℕ) (i left : ℕ) : Type 0 where
+  pub sum : left + i ≡ length out₀
+  pub whole : i % length ring ≡ 0
+  pub wrote : Writing out₀ out i (tabFrom i (length out₀ - i) (turnAfterTurn ring)) (tab (length out₀) (turnAfterTurn ring))
+
+module _ {ring out₀ : List ℕ} where
+  pub turning-start : Turning ring out₀ out₀ 0 (length out₀)
+  turning-start = record {
+    sum = omega arith;
+    whole = zero-mod (length ring);
+    wrote = same (sym (tab-rest (length out₀) (turnAfterTurn ring))) start;
+  }
+
+  module _ {out : List ℕ} {i left : ℕ} (t : Turning ring out₀ out i left) where
+    long : left + i ≡ length out
+    long = t .sum ∙ sym (t .wrote .long)
+
+    -- the part that is lent for a whole turn, and for the last
+    pub turn-lent : length ring ≤ left → length (midOf i (i + length ring - i) out) ≡ length ring
+    turn-lent h = length-mid i (i + length ring) out (omega arith) ∙ add-sub-cancel-left i (length ring)
+
+    pub last-lent : left < length ring → length (midOf i (length out - i) out) ≡ length (take left ring)
+    last-lent h = length-mid i (length out) out (omega arith) ∙ omega (arith, length-take-le left ring (omega arith))
+
+    pub last-back : (part : List ℕ) → length part ≡ length (midOf i (length out - i) out) → length (putMid i (length out - i) out part) ≡ length out₀
+    last-back part e = same-len-mid i (length out - i) out part e ∙ t .wrote .long
+
+    pub turning-next : {part : List ℕ} → 0 < length ring → length ring ≤ left → part ≡ ring
+        → Turning ring out₀ (putMid i (i + length ring - i) out part) (i + length ring) (left - length ring)
+    turning-next some h s = record {
+      sum = omega (arith, t .sum);
+      whole = add-mod-right i (length ring) ∙ t .whole;
+      wrote = pushPart s (omega arith) (omega arith) (omega (arith, ap length s)) (same (turn-next ring i some (t .whole) (length out₀) (omega (arith, t .sum))) (t .wrote));
+    }
+
+    pub turning-last : {part : List ℕ} → 0 < length ring → left < length ring → part ≡ take left ring
+        → putMid i (length out - i) out part ≡ tab (length out₀) (turnAfterTurn ring)
+    turning-last {part} some h s = finish-all full refl (pushPart s (omega arith) (omega arith) fits (same future (t .wrote)))
+      where
+        fits : length part ≡ length out - i
+        fits = omega (arith, ap length s, length-take-le left ring (omega arith))
+
+        full : length (putMid i (length out - i) out part) ≤ length out
+        full = omega (arith, length-put i (length out) out part (omega arith) fits)
+
+        rest : length out₀ - i ≡ left
+        rest = omega (arith, t .sum)
+
+        future : tabFrom i (length out₀ - i) (turnAfterTurn ring) ≡ take left ring ++ []
+        future = ap (λ (n : ℕ). tabFrom i n (turnAfterTurn ring)) rest ∙ turn-front ring i some (t .whole) left (omega arith) ∙ sym (append-nil (take left ring))
+
+-- ---- what is sent
+
+pub selected-ring : (w : List ℕ) (k0 E : ℕ) → k0 ≤ length w → selected w k0 E ≡ tab E (turnAfterTurn (ringOf w k0))
+unfolding selected sentPlaces turnAfterTurn turnBits
+selected-ring w k0 E h = ⊎-elim none some (eq-zero-or-pos (length (turn w k0)))
+  where
+    long : length (turnBits w k0) ≡ length (turn w k0)
+    long = ap length (sym (turn-entries w k0 h)) ∙ length-map (turn w k0) (onCircle w)
+
+    -- no place holds a bit: each place sent is 0
+    none : length (turn w k0) ≡ 0 → selected w k0 E ≡ tab E (turnAfterTurn (ringOf w k0))
+    none z =
+        map-tab E (turnAfterTurn (turn w k0)) (onCircle w)
+        ∙ tab-ext E (λ (k : ℕ). onCircle w (turnAfterTurn (turn w k0) k)) (turnAfterTurn (onCircle w 0 ∷ []))
+        (λ k l. ap (onCircle w) (List·getD-eq-default (turn w k0) 0 (omega arith)) ∙ ap (λ (i : ℕ). getD (onCircle w 0 ∷ []) i 0) (sym (mod-one k)))
+        ∙ ap (λ (r : List ℕ). tab E (turnAfterTurn r)) (sym (ringOf-none w k0 (long ∙ z)))
+
+    some : 0 < length (turn w k0) → selected w k0 E ≡ tab E (turnAfterTurn (ringOf w k0))
+    some p =
+        selected-is w k0 E p
+        ∙ ap (λ (r : List ℕ). tab E (turnAfterTurn r)) (turn-entries w k0 h ∙ sym (ringOf-some w k0 (omega (arith, long))))

@@ -1,0 +1,271 @@
+-- The maps between stream places and circle places, clauses 5.1.4.1.1 and 5.1.4.1.2, are inverse to one another: no place of a stream is lost, none lies twice.
+-- Of the column table only its rule is used. Assumes nothing.
+use mathlib.Core.Path.{_≡_, refl, sym, _∙_, ap, subst}
+use mathlib.Core.Logic.{_↔_}
+use mathlib.Core.Bool.{Bool, true, false, cond, _&&_}
+use Prim.Native.Nat.{ℕ, zero, suc, _+_, _-_, _*_, _/_, _%_, _≤_, _<_}
+use native.Mathlib.Nat.{add-assoc, add-sub-cancel-left, mod-lt, mod-eq-of-lt, mod-add-mod, add-mod-right, div-lt-iff-lt-mul, div-add-mod'}
+use native.Mathlib.Omega.{arith}
+use lib.Arith.{digits-lt, digits-div, digits-mod}
+use lib.Dec.{ltb, leb, eqb}
+use borrow.Author.Tests.{lt-ltb, le-ltb, eq-eqb, ne-eqb, ltb-true, ltb-false, eqb-true, eqb-false}
+use Rattle.rate_matching.specs.declared.StreamPlace.{StreamPlace}
+use Rattle.rate_matching.specs.declared.CirclePlace.{CirclePlace}
+use Rattle.rate_matching.specs.declared.Held.the-variants.{Bit, Dummy}
+use Rattle.rate_matching.specs.declared.Lies.the-variants.{At, Nowhere}
+use Rattle.rate_matching.specs.Columns.{column}
+use Rattle.rate_matching.specs.SubBlocks.{rows, dummies, readPlain, readShifted}
+use Rattle.rate_matching.specs.Circle.{circleLength}
+use Rattle.rate_matching.specs.Places.{heldY, heldByTurns, heldAt, plainPlace, shiftedPlace, placeNumber, placeOf, longest, heldWithin, liesAt, InStreams, OnCircle}
+use Rattle.rate_matching.proofs.Columns.{column-rule}
+
+-- ---- the rows and the dummies
+
+pub dummies-lt : (D : ℕ) → dummies D < 32
+unfolding rows dummies
+dummies-lt D = omega arith
+
+-- the dummies and the stream fill the rows
+pub dummies-add : (D : ℕ) → dummies D + D ≡ 32 * rows D
+unfolding rows dummies
+dummies-add D = omega arith
+
+-- ---- the plain rule and its places are inverse
+
+low : (c m : ℕ) → c < 32 → (c + 32 * m) % 32 ≡ c
+low c m h = omega arith
+
+high : (c m : ℕ) → c < 32 → (c + 32 * m) / 32 ≡ m
+high c m h = omega arith
+
+module _ (R k : ℕ) (h : k < 32 * R) where
+  row-lt : k % R < R
+  row-lt = mod-lt k (omega arith)
+
+  column-below : k / R < 32
+  column-below = div-lt-iff-lt-mul {k = R} {x = k} (omega arith) .1 h
+
+  pub read-lt : readPlain R k < 32 * R
+  unfolding readPlain
+  read-lt = omega (arith, row-lt, column-rule (k / R) column-below .0)
+
+  place-read : plainPlace R (readPlain R k) ≡ k
+  unfolding readPlain plainPlace
+  place-read =
+      let c = column-rule (k / R) column-below in
+      rw (low (column (k / R)) (k % R) (c .0), high (column (k / R)) (k % R) (c .0), c .1) (div-add-mod' k R)
+
+  pub place-lt : plainPlace R k < 32 * R
+  unfolding plainPlace
+  place-lt = digits-lt (column-rule (k % 32) (omega arith) .0) (omega arith)
+
+  read-place : readPlain R (plainPlace R k) ≡ k
+  unfolding readPlain plainPlace
+  read-place =
+      let r : k / 32 < R = omega arith in
+      rw (digits-div (column (k % 32)) r, digits-mod (column (k % 32)) r, column-rule (k % 32) (omega arith) .1) (omega arith)
+
+-- ---- one further round a ring of n, and one back
+
+pub once-round : (n p q : ℕ) → p < n → q ≡ p + n → q % n ≡ p
+once-round n p q h e = ap (λ (x : ℕ). x % n) e ∙ add-mod-right p n ∙ mod-eq-of-lt h
+
+on-back : (n p : ℕ) → p < n → ((p + (n - 1)) % n + 1) % n ≡ p
+on-back n p h = mod-add-mod (p + (n - 1)) n 1 ∙ once-round n p (p + (n - 1) + 1) h (omega arith)
+
+back-on : (n p : ℕ) → p < n → ((p + 1) % n + (n - 1)) % n ≡ p
+back-on n p h = mod-add-mod (p + 1) n (n - 1) ∙ once-round n p (p + 1 + (n - 1)) h (omega arith)
+
+-- ---- all three streams alike
+
+-- the reading rule, shifted or plain
+abbrev pub readBy : Bool → ℕ → ℕ → ℕ
+readBy true = readShifted
+readBy false = readPlain
+
+-- where the rule reads a y place
+abbrev pub lieBy : Bool → ℕ → ℕ → ℕ
+lieBy true = shiftedPlace
+lieBy false = plainPlace
+
+-- the circle place where stream s has its place x after the interleaver
+abbrev pub at : ℕ → ℕ → ℕ → ℕ
+at R zero x = x
+at R (suc zero) x = 32 * R + 2 * x
+at R (suc (suc s)) x = 32 * R + (2 * x + 1)
+
+pub at-lt : (R s x : ℕ) → s < 3 → x < 32 * R → at R s x < circleLength R
+unfolding circleLength
+at-lt R zero x u h = omega arith
+at-lt R (suc zero) x u h = omega arith
+at-lt R (suc (suc s)) x u h = omega arith
+
+-- what holds at each stream's places after the interleaver holds at each circle place
+pub by-stream : (R : ℕ) (P : ℕ → Type 0) → ((s x : ℕ) → s < 3 → x < 32 * R → P (at R s x)) → (j : ℕ) → j < circleLength R → P j
+unfolding circleLength
+by-stream R P f j h = first (ltb j (32 * R)) refl
+  where
+    turns : (q : ℕ) → q ≡ j - 32 * R → 32 * R ≤ j → (b : Bool) → eqb (q % 2) 0 ≡ b → P j
+    turns q e l true t = subst P (omega (arith, eqb-true (q % 2) 0 t)) (f 1 (q / 2) (omega arith) (omega arith))
+    turns q e l false t = subst P (omega (arith, eqb-false (q % 2) 0 t)) (f 2 (q / 2) (omega arith) (omega arith))
+
+    first : (b : Bool) → ltb j (32 * R) ≡ b → P j
+    first true t = f 0 j (omega arith) (ltb-true j (32 * R) t)
+    first false t = turns (j - 32 * R) refl (ltb-false j (32 * R) t) (eqb ((j - 32 * R) % 2) 0) refl
+
+module _ (R : ℕ) where
+  pub readBy-lt : (b : Bool) (k : ℕ) → k < 32 * R → readBy b R k < 32 * R
+  unfolding readShifted
+  readBy-lt true k h = mod-lt _ (omega arith)
+  readBy-lt false k h = read-lt R k h
+
+  pub lieBy-lt : (b : Bool) (k : ℕ) → k < 32 * R → lieBy b R k < 32 * R
+  unfolding shiftedPlace
+  lieBy-lt true k h = place-lt R ((k + (32 * R - 1)) % (32 * R)) (mod-lt (k + (32 * R - 1)) (omega arith))
+  lieBy-lt false k h = place-lt R k h
+
+  readBy-lieBy : (b : Bool) (k : ℕ) → k < 32 * R → readBy b R (lieBy b R k) ≡ k
+  unfolding readPlain readShifted shiftedPlace
+  readBy-lieBy true k h =
+      ap (λ (y : ℕ). (y + 1) % (32 * R)) (read-place R ((k + (32 * R - 1)) % (32 * R)) (mod-lt (k + (32 * R - 1)) (omega arith)))
+      ∙ on-back (32 * R) k h
+  readBy-lieBy false k h = read-place R k h
+
+  lieBy-readBy : (b : Bool) (k : ℕ) → k < 32 * R → lieBy b R (readBy b R k) ≡ k
+  unfolding readPlain readShifted shiftedPlace
+  lieBy-readBy true k h = ap (plainPlace R) (back-on (32 * R) (readPlain R k) (read-lt R k h)) ∙ place-read R k h
+  lieBy-readBy false k h = place-read R k h
+
+past-first : (D q : ℕ) → heldAt D (record { 0 = 32 * rows D + q }) ≡ heldByTurns D q
+unfolding heldAt
+past-first D q = simp (le-ltb (32 * rows D + q) (32 * rows D) (omega arith), add-sub-cancel-left)
+
+by-turns : (D q x : ℕ) (b : Bool) → eqb (q % 2) 0 ≡ b → q / 2 ≡ x
+    → heldByTurns D q ≡ cond b (heldY D 1 (readPlain (rows D) x)) (heldY D 2 (readShifted (rows D) x))
+unfolding heldByTurns
+by-turns D q x b t e = simp (t, e)
+
+-- what the circle place of stream s's place x after the interleaver holds
+pub held-at : (D s x : ℕ) → s < 3 → x < 32 * rows D → heldAt D (record { 0 = at (rows D) s x }) ≡ heldY D s (readBy (eqb s 2) (rows D) x)
+unfolding heldAt
+held-at D zero x u h = simp (lt-ltb x (32 * rows D) h)
+held-at D (suc zero) x u h = past-first D (2 * x) ∙ by-turns D (2 * x) x true (eq-eqb (2 * x % 2) 0 (omega arith)) (omega arith)
+held-at D (suc (suc zero)) x u h =
+    past-first D (2 * x + 1) ∙ by-turns D (2 * x + 1) x false (ne-eqb ((2 * x + 1) % 2) 0 (λ e. omega arith)) (omega arith)
+held-at D (suc (suc (suc s))) x u h = absurd (omega arith)
+
+place-at : (D s i : ℕ) → s < 3 → placeNumber D s i ≡ at (rows D) s (lieBy (eqb s 2) (rows D) (dummies D + i))
+unfolding placeNumber
+place-at D zero i u = refl
+place-at D (suc zero) i u = refl
+place-at D (suc (suc zero)) i u = add-assoc (32 * rows D) (2 * shiftedPlace (rows D) (dummies D + i)) 1
+place-at D (suc (suc (suc s))) i u = absurd (omega arith)
+
+-- ---- the y places: the dummies, then the stream
+
+pub heldY-dummy : (D s y : ℕ) → y < dummies D → heldY D s y ≡ Dummy
+unfolding heldY
+heldY-dummy D s y h = simp (lt-ltb y (dummies D) h)
+
+pub heldY-bit : (D s i : ℕ) → heldY D s (dummies D + i) ≡ Bit (s, i)
+unfolding heldY
+heldY-bit D s i = simp (le-ltb (dummies D + i) (dummies D) (omega arith), add-sub-cancel-left)
+
+no-bit : {p : StreamPlace} → Dummy ≡ Bit p → ⊥
+no-bit e = let z : _≡_ {A = ℕ} 0 1 = cc in omega arith
+
+-- a y place that holds a bit is past the dummies
+heldY-inverse : (D s y : ℕ) (p : StreamPlace) → heldY D s y ≡ Bit p → (p .0 ≡ s) × (dummies D + p .1 ≡ y)
+unfolding heldY
+heldY-inverse D s y p e = go (ltb y (dummies D)) refl e
+  where
+    go : (b : Bool) → ltb y (dummies D) ≡ b → cond b Dummy (Bit (s, y - dummies D)) ≡ Bit p → (p .0 ≡ s) × (dummies D + p .1 ≡ y)
+    go true t e = absurd (no-bit e)
+    go false t e = let f : p .0 ≡ s = cc in let g : p .1 ≡ y - dummies D = cc in (f, omega (arith, ltb-false y (dummies D) t))
+
+-- ---- both ways
+
+module _ (D : ℕ) (p : StreamPlace) (w : InStreams D p) where
+  y-lt : dummies D + p .1 < 32 * rows D
+  y-lt = omega (arith, dummies-add D, w .place)
+
+  -- where the stream place comes out of its interleaver
+  lies : ℕ
+  lies = lieBy (eqb (p .0) 2) (rows D) (dummies D + p .1)
+
+  lies-lt : lies < 32 * rows D
+  unfolding lies
+  lies-lt = lieBy-lt (rows D) (eqb (p .0) 2) (dummies D + p .1) y-lt
+
+  pub place-on-circle : OnCircle D (placeOf D p)
+  unfolding placeOf lies
+  place-on-circle = rw (place-at D (p .0) (p .1) (w .stream)) (at-lt (rows D) (p .0) lies (w .stream) lies-lt)
+
+  pub held-place : heldAt D (placeOf D p) ≡ Bit p
+  unfolding placeOf lies
+  held-place =
+      ap (λ (n : ℕ). heldAt D (record { 0 = n })) (place-at D (p .0) (p .1) (w .stream))
+      ∙ held-at D (p .0) lies (w .stream) lies-lt
+      ∙ ap (heldY D (p .0)) (readBy-lieBy (rows D) (eqb (p .0) 2) (dummies D + p .1) y-lt)
+      ∙ heldY-bit D (p .0) (p .1)
+
+pub place-held : (D : ℕ) (j : CirclePlace) (p : StreamPlace) → OnCircle D j → heldAt D j ≡ Bit p → InStreams D p × (placeOf D p ≡ j)
+unfolding placeOf
+place-held D j p h = by-stream (rows D) Back back (j .0) h
+  where
+    Back : ℕ → Type 0
+    Back n = heldAt D (record { 0 = n }) ≡ Bit p → InStreams D p × (placeOf D p ≡ record { 0 = n })
+
+    back : (s x : ℕ) → s < 3 → x < 32 * rows D → Back (at (rows D) s x)
+    back s x u l e =
+        let y : ℕ = readBy (eqb s 2) (rows D) x in
+        let i : (p .0 ≡ s) × (dummies D + p .1 ≡ y) = heldY-inverse D s y p (sym (held-at D s x u l) ∙ e) in (
+          record { stream = rw (i .0) u; place = omega (arith, dummies-add D, readBy-lt (rows D) (eqb s 2) x l) },
+          ap (λ (n : ℕ). record { 0 = n })
+              (ap (λ (n : ℕ). placeNumber D n (p .1)) (i .0)
+              ∙ place-at D s (p .1) u
+              ∙ ap (λ (n : ℕ). at (rows D) s (lieBy (eqb s 2) (rows D) n)) (i .1)
+              ∙ ap (at (rows D) s) (lieBy-readBy (rows D) (eqb s 2) x l)),
+        )
+
+pub places-distinct : (D : ℕ) (p q : StreamPlace) → InStreams D p → InStreams D q → placeOf D p ≡ placeOf D q → p ≡ q
+places-distinct D p q u w e =
+    let b : Bit p ≡ Bit q = sym (held-place D p u) ∙ ap (heldAt D) e ∙ held-place D q w in
+    cc
+
+-- ---- the mapping functions' answers: a circle place holds a stream place exactly where that stream place lies
+
+nowhere : {j : CirclePlace} → Nowhere ≡ At j → ⊥
+nowhere e = let z : _≡_ {A = ℕ} 0 1 = cc in omega arith
+
+module _ (D : ℕ) (j : CirclePlace) (p : StreamPlace) where
+  held-then-lies : heldWithin D j ≡ Bit p → liesAt D p ≡ At j
+  unfolding heldWithin liesAt
+  held-then-lies e = go (leb D longest) refl (ltb (j .0) (circleLength (rows D))) refl e
+    where
+      go : (a : Bool) → leb D longest ≡ a → (b : Bool) → ltb (j .0) (circleLength (rows D)) ≡ b
+          → cond (a && b) (heldAt D j) Dummy ≡ Bit p → liesAt D p ≡ At j
+      go true t true u e =
+          let w = place-held D j p (ltb-true (j .0) (circleLength (rows D)) u) e in
+          simp (t, lt-ltb (p .0) 3 (w .0 .stream), lt-ltb (p .1) D (w .0 .place), w .1)
+      go true t false u e = absurd (no-bit e)
+      go false t b u e = absurd (no-bit e)
+
+  lies-then-held : liesAt D p ≡ At j → heldWithin D j ≡ Bit p
+  unfolding heldWithin liesAt
+  lies-then-held e = go (leb D longest) refl (ltb (p .0) 3) refl (ltb (p .1) D) refl e
+    where
+      go : (a : Bool) → leb D longest ≡ a → (b : Bool) → ltb (p .0) 3 ≡ b → (d : Bool) → ltb (p .1) D ≡ d
+          → cond (a && (b && d)) (At (placeOf D p)) Nowhere ≡ At j → heldWithin D j ≡ Bit p
+      go true t true u true v e =
+          let w : InStreams D p = record { stream = ltb-true (p .0) 3 u; place = ltb-true (p .1) D v } in
+          let f : placeOf D p ≡ j = cc in
+          let o : OnCircle D j = subst (OnCircle D) f (place-on-circle D p w) in
+          let h : heldAt D j ≡ Bit p = ap (heldAt D) (sym f) ∙ held-place D p w in
+          simp (t, lt-ltb (j .0) (circleLength (rows D)) o, h)
+      go true t true u false v e = absurd (nowhere e)
+      go true t false u d v e = absurd (nowhere e)
+      go false t b u d v e = absurd (nowhere e)
+
+  pub both-ways : (heldWithin D j ≡ Bit p) ↔ (liesAt D p ≡ At j)
+  both-ways = (held-then-lies, lies-then-held)

@@ -1,0 +1,88 @@
+-- `mapping::lies_on_circle` meets its contract: each return is one case of the definition; what the two rules ensure bounds the sums.
+-- Assumes nothing.
+use borrow.Author.Needs.{needs}
+use native.Mathlib.Omega.{arith}
+use borrow.Author.Tests.{eq-eqb, ne-eqb}
+use Rattle.rate_matching.specs.SubBlocks.{rows, dummies}
+use Rattle.rate_matching.specs.Places.{placeNumber, placeOf}
+use Rattle.rate_matching.proofs.mapping.lies_on_circle.Statement.{statement}
+use Rattle.rate_matching.proofs.mapping.lies_on_circle.Tie as tie
+
+rows-of-requires : tie.Need-rows-of-requires
+rows-of-requires c κs = search needs
+
+mul-first : tie.Need-mul-first
+unfolding rows
+mul-first c = omega arith
+
+sub-p : tie.Need-sub-p
+unfolding rows
+sub-p c = omega arith
+
+add-p : tie.Need-add-p
+unfolding rows
+add-p c = omega arith
+
+plain-place-requires : tie.Need-plain-place-requires
+unfolding rows
+plain-place-requires c κs = omega arith
+
+returns : tie.Need-returns
+unfolding placeOf placeNumber dummies
+returns c = simp (c .plain-place .ensures .0, ← c .before .before .before .rows-of .ensures, eq-eqb _ _ (c .before .if1 .taken))
+
+plain-place-requires-2 : tie.Need-plain-place-requires-2
+unfolding rows
+plain-place-requires-2 c κs = omega arith
+
+mul-t11 : tie.Need-mul-t11
+unfolding rows
+mul-t11 c = omega arith
+
+add-t12 : tie.Need-add-t12
+unfolding rows
+add-t12 c = omega arith
+
+returns-2 : tie.Need-returns-2
+unfolding placeOf placeNumber dummies
+returns-2 c = simp (c .plain-place2 .ensures .0, ← c .before .before .before .before .rows-of .ensures, ne-eqb _ _ (c .before .before .if1 .left), eq-eqb _ _ (c .before .if2 .taken))
+
+shifted-place-requires : tie.Need-shifted-place-requires
+unfolding rows
+shifted-place-requires c κs = omega arith
+
+mul-t13 : tie.Need-mul-t13
+unfolding rows
+mul-t13 c = omega arith
+
+add-t14 : tie.Need-add-t14
+unfolding rows
+add-t14 c = omega arith
+
+add-t15 : tie.Need-add-t15
+unfolding rows
+add-t15 c = omega arith
+
+returns-3 : tie.Need-returns-3
+unfolding placeOf placeNumber dummies
+returns-3 c = simp (c .shifted-place .ensures .0, ← c .before .before .before .before .rows-of .ensures, ne-eqb _ _ (c .before .before .if1 .left), ne-eqb _ _ (c .before .if2 .left))
+
+pub lies-on-circle-spec : {M : Type 1} → statement M
+lies-on-circle-spec =
+    tie.close
+    (tie.spec
+    rows-of-requires
+    mul-first
+    sub-p
+    add-p
+    plain-place-requires
+    returns
+    plain-place-requires-2
+    mul-t11
+    add-t12
+    returns-2
+    shifted-place-requires
+    mul-t13
+    add-t14
+    add-t15
+    returns-3)

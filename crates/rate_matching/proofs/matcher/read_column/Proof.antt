@@ -1,0 +1,64 @@
+-- `matcher::read_column` meets its contract: the place read is that of the row counted.
+-- Assumes nothing.
+use mathlib.Core.Path.{_≡_, sym}
+use Prim.Native.Nat.{_≤_, _-_, _+_, _*_}
+use native.Mathlib.Omega.{arith}
+use lib.ListN.{length}
+use Rattle.laws.specs.Lists.{tab, tabFrom}
+use Rattle.laws.proofs.Tab.{tab-rest, rest-none}
+use Rattle.laws.proofs.Writing.{Writing, start, same, finish-all}
+use Rattle.rate_matching.specs.Matcher.{everyRow}
+use Rattle.rate_matching.proofs.MatcherColumns.{column-next}
+use Rattle.rate_matching.proofs.matcher.read_column.Statement.{statement}
+use Rattle.rate_matching.proofs.matcher.read_column.Tie as tie
+
+abbrev Inv-loop : tie.InvT-loop
+Inv-loop y from part₀ at₀ q₀ part at q =
+    (at ≡ from + 32 * q) × (q ≤ length part₀)
+    × Writing part₀ part q (tabFrom q (length part₀ - q) (everyRow y from)) (tab (length part₀) (everyRow y from))
+
+abbrev μ-loop : tie.MeasureT-loop
+μ-loop y from part₀ at₀ q₀ part at q = length part₀ - q
+
+loop-holds : tie.Need-loop-holds Inv-loop μ-loop
+loop-holds c = (omega arith, omega arith, same (sym (tab-rest _ _)) start)
+
+shared-slice-read-part : tie.Need-shared-slice-read-part Inv-loop μ-loop
+shared-slice-read-part c = omega arith
+
+slice-write-part : tie.Need-slice-write-part Inv-loop μ-loop
+slice-write-part c = omega arith
+
+add-at : tie.Need-add-at Inv-loop μ-loop
+add-at c = omega arith
+
+add-q : tie.Need-add-q Inv-loop μ-loop
+add-q c = omega arith
+
+loop-less : tie.Need-loop-less Inv-loop μ-loop
+loop-less c = omega arith
+
+loop-again : tie.Need-loop-again Inv-loop μ-loop
+loop-again c = (omega arith, omega arith, column-next _ _ (c .before .before .loop .inv .0) (omega arith) (omega arith) (c .before .before .loop .inv .2))
+
+same-length : tie.Need-same-length Inv-loop μ-loop
+same-length c = c .before .loop .inv .2 .long
+
+returns : tie.Need-returns Inv-loop μ-loop
+returns c = finish-all (omega arith) (rest-none _ _ _ (omega arith)) (c .before .loop .inv .2)
+
+pub read-column-spec : {M : Type 1} → statement M
+read-column-spec =
+    tie.close
+    (tie.spec
+    Inv-loop
+    μ-loop
+    loop-holds
+    shared-slice-read-part
+    slice-write-part
+    add-at
+    add-q
+    loop-less
+    loop-again
+    same-length
+    returns)

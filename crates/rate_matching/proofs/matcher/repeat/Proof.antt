@@ -1,0 +1,80 @@
+-- `matcher::repeat` meets its contract: a whole number of turns is written, and the rest is the begin of one.
+-- Assumes nothing.
+use native.Mathlib.Omega.{arith}
+use Rattle.laws.proofs.Parts.{front-count}
+use Rattle.rate_matching.proofs.MatcherTurns.{Turning, turning-start, turn-lent, last-lent, last-back, turning-next, turning-last}
+use Rattle.rate_matching.proofs.matcher.repeat.Statement.{statement}
+use Rattle.rate_matching.proofs.matcher.repeat.Tie as tie
+
+abbrev Inv-loop : tie.InvT-loop
+Inv-loop ring out₀ n i₀ left₀ out i left = Turning ring out₀ out i left
+
+abbrev μ-loop : tie.MeasureT-loop
+μ-loop ring out₀ n i₀ left₀ out i left = left
+
+loop-holds : tie.Need-loop-holds Inv-loop μ-loop
+loop-holds c = turning-start
+
+add-end : tie.Need-add-end Inv-loop μ-loop
+add-end c = omega arith
+
+sub-copy : tie.Need-sub-copy Inv-loop μ-loop
+sub-copy c = omega arith
+
+part-copy-start : tie.Need-part-copy-start Inv-loop μ-loop
+part-copy-start c = omega arith
+
+part-copy-end : tie.Need-part-copy-end Inv-loop μ-loop
+part-copy-end c = omega arith
+
+copy-requires : tie.Need-copy-requires Inv-loop μ-loop
+copy-requires c κs = turn-lent (c .before .before .loop .inv) (omega arith)
+
+loop-less : tie.Need-loop-less Inv-loop μ-loop
+loop-less c = omega arith
+
+loop-again : tie.Need-loop-again Inv-loop μ-loop
+loop-again c = turning-next (c .before .before .before .before .before .loop .inv) (c .before .before .before .before .before .before .before .before .pre) (omega arith) (c .before .before .copy .ensures)
+
+slice-aggregate-copy : tie.Need-slice-aggregate-copy Inv-loop μ-loop
+slice-aggregate-copy c = front-count _ _ (omega arith)
+
+sub-copy-2 : tie.Need-sub-copy-2 Inv-loop μ-loop
+sub-copy-2 c = omega arith
+
+part-copy-start-2 : tie.Need-part-copy-start-2 Inv-loop μ-loop
+part-copy-start-2 c = omega arith
+
+part-copy-end-2 : tie.Need-part-copy-end-2 Inv-loop μ-loop
+part-copy-end-2 c = omega arith
+
+copy-requires-2 : tie.Need-copy-requires-2 Inv-loop μ-loop
+copy-requires-2 c κs = last-lent (c .before .before .before .loop .inv) (omega arith)
+
+same-length : tie.Need-same-length Inv-loop μ-loop
+same-length c = last-back (c .before .before .before .before .before .before .loop .inv) (c .before .before .copy2 .last .1 .0) (c .before .before .copy2 .kept .1 .0)
+
+returns : tie.Need-returns Inv-loop μ-loop
+returns c = turning-last (c .before .before .before .before .before .before .loop .inv) (c .before .before .before .before .before .before .before .before .before .pre) (omega arith) (c .before .before .copy2 .ensures)
+
+pub repeat-spec : {M : Type 1} → statement M
+repeat-spec =
+    tie.close
+    (tie.spec
+    Inv-loop
+    μ-loop
+    loop-holds
+    add-end
+    sub-copy
+    part-copy-start
+    part-copy-end
+    copy-requires
+    loop-less
+    loop-again
+    slice-aggregate-copy
+    sub-copy-2
+    part-copy-start-2
+    part-copy-end-2
+    copy-requires-2
+    same-length
+    returns)

@@ -1,0 +1,210 @@
+// The block's rate matcher, clauses 5.1.4.1.1 and 5.1.4.1.2: the circle is laid out column by column, its bits are gathered once
+// into a ring, and the ring is copied turn after turn.
+use crate::CirclePlace;
+use crate::table::column_at;
+ghost use mathlib.Core.Path.{_≡_};
+ghost use Prim.Native.Nat.{ℕ, _+_, _*_, _≤_, _<_};
+ghost use lib.ListN.{length, take, replicate};
+ghost use Rattle.laws.specs.Lists.{tab};
+ghost use Rattle.turbo.specs.Streams.{NULL};
+ghost use Rattle.rate_matching.specs.SubBlocks.{rows, plain, shifted};
+ghost use Rattle.rate_matching.specs.Circle.{byTurns, circle, startOf};
+ghost use Rattle.rate_matching.specs.Places.{longest};
+ghost use Rattle.rate_matching.specs.Walk.{turnAfterTurn};
+ghost use Rattle.rate_matching.specs.Matcher.{wrapped, everyRow, columnsFrom, interleavedFrom, Gathered, ringOf, matchable, matchedInto};
+
+// <NULL>: no bit stands here.
+const NULL: u8 = 2;
+
+// The largest D, that of K = 6,144. Its R is 193.
+const LONGEST: usize = 6148;
+
+// The largest sub-block, 32·R places.
+const SUB_BLOCK: usize = 6176;
+
+// The largest circle, 96·R places.
+const CIRCLE: usize = 18528;
+
+// Copies `from` to `to`, which is as long.
+fn copy(from: &[u8], to: &mut [u8])
+    requires { ⌜ length (now to) ≡ length (now from) ⌝ }
+    ensures { λ _. ⌜ now (to .exit) ≡ now (from .entry) ⌝ }
+{
+    let mut i = 0;
+    while i < to.len() {
+        to[i] = from[i];
+        i += 1;
+    }
+}
+
+// Makes y of `d` in a room that comes filled with <NULL>. y_0 stands once more behind y, so that a place one further needs no wrap.
+fn pad(d: &[u8], y: &mut [u8])
+    requires { ⌜ (0 < length (now d)) × (now y ≡ replicate {A = ℕ} (32 * rows (length (now d)) + 1) NULL) ⌝ }
+    ensures { λ _. ⌜ now (y .exit) ≡ wrapped (now (d .entry)) ⌝ }
+{
+    let end = y.len() - 1;
+    let from = end - d.len();
+    copy(d, &mut y[from..end]);
+    y[end] = y[0];
+}
+
+// One column of y: every 32nd entry from place `from` on.
+fn read_column(y: &[u8], from: usize, part: &mut [u8])
+    requires { ⌜ from + 32 * length (now part) ≤ length (now y) + 31 ⌝ }
+    ensures { λ _. ⌜ now (part .exit) ≡ tab (length (now (part .entry))) (everyRow (now (y .entry)) from) ⌝ }
+{
+    let mut at = from;
+    let mut q = 0;
+    while q < part.len() {
+        part[q] = y[at];
+        at += 32;
+        q += 1;
+    }
+}
+
+// The 32 columns of y after one another, in the order of table 5.1.4-1; each entry is read `shift` places further.
+fn read_columns(y: &[u8], shift: usize, rows: usize, v: &mut [u8])
+    requires { ⌜ (shift ≤ 1) × (length (now y) ≡ 32 * rows + 1) × (length (now v) ≡ 32 * rows) ⌝ }
+    ensures { λ _. ⌜ now (v .exit) ≡ columnsFrom (now (y .entry)) shift rows ⌝ }
+{
+    let mut i = 0;
+    let mut c = 0;
+    while c < 32 {
+        let end = i + rows;
+        read_column(y, column_at(c) + shift, &mut v[i..end]);
+        i = end;
+        c += 1;
+    }
+}
+
+// The sub-block interleaver of one stream: shift 0 is the rule for d(0) and d(1), shift 1 that for d(2).
+fn interleave(d: &[u8], shift: usize, v: &mut [u8])
+    requires { ⌜ (shift ≤ 1) × (0 < length (now d)) × (length (now d) ≤ longest) × (length (now v) ≡ 32 * rows (length (now d))) ⌝ }
+    ensures { λ _. ⌜ now (v .exit) ≡ interleavedFrom shift (now (d .entry)) ⌝ }
+{
+    let mut y = [NULL; SUB_BLOCK + 1];
+    let end = v.len() + 1;
+    pad(d, &mut y[..end]);
+    read_columns(&y[..end], shift, v.len() / 32, v);
+}
+
+// v(1) and v(2) by turns.
+fn by_turns(v1: &[u8], v2: &[u8], w: &mut [u8])
+    requires { ⌜ (length (now v1) ≡ length (now v2)) × (length (now w) ≡ 2 * length (now v1)) ⌝ }
+    ensures { λ _. ⌜ now (w .exit) ≡ byTurns (now (v1 .entry)) (now (v2 .entry)) ⌝ }
+{
+    let mut i = 0;
+    let mut k = 0;
+    while i < v1.len() {
+        w[k] = v1[i];
+        w[k + 1] = v2[i];
+        k += 2;
+        i += 1;
+    }
+}
+
+// v(1) of `d1` and v(2) of `d2` by turns.
+fn interleave_pair(d1: &[u8], d2: &[u8], w: &mut [u8])
+    requires { ⌜ (0 < length (now d1)) × (length (now d1) ≤ longest) × (length (now d2) ≡ length (now d1))
+        × (length (now w) ≡ 64 * rows (length (now d1))) ⌝ }
+    ensures { λ _. ⌜ now (w .exit) ≡ byTurns (plain (now (d1 .entry))) (shifted (now (d2 .entry))) ⌝ }
+{
+    let n = w.len() / 2;
+    let mut v1 = [0u8; SUB_BLOCK];
+    let mut v2 = [0u8; SUB_BLOCK];
+    interleave(d1, 0, &mut v1[..n]);
+    interleave(d2, 1, &mut v2[..n]);
+    by_turns(&v1[..n], &v2[..n], w);
+}
+
+// Lays out the circle of the three streams.
+fn lay_out(d0: &[u8], d1: &[u8], d2: &[u8], w: &mut [u8])
+    requires { ⌜ (0 < length (now d0)) × (length (now d0) ≤ longest) × (length (now d1) ≡ length (now d0))
+        × (length (now d2) ≡ length (now d0)) × (length (now w) ≡ 96 * rows (length (now d0))) ⌝ }
+    ensures { λ _. ⌜ now (w .exit) ≡ circle (now (d0 .entry)) (now (d1 .entry)) (now (d2 .entry)) ⌝ }
+{
+    let n = w.len() / 3;
+    interleave(d0, 0, &mut w[..n]);
+    interleave_pair(d1, d2, &mut w[n..]);
+}
+
+// k0 of redundancy version `version`: R·(24·version + 2) on a circle of 96·R places.
+fn start(rows: usize, version: usize) -> CirclePlace
+    requires { ⌜ (0 < rows) × (rows ≤ 193) × (version ≤ 3) ⌝ }
+    ensures { λ r. ⌜ r .0 ≡ startOf rows version ⌝ }
+{
+    CirclePlace(rows * (24 * version + 2))
+}
+
+// Gathers the bits of a part of the circle into the ring from its place n on, and tells where they end.
+// Each entry is written and only a bit counts, so that there is no branch.
+fn gather(part: &[u8], ring: &mut [u8], n: usize) -> usize
+    requires { ⌜ n + length (now part) ≤ length (now ring) ⌝ }
+    ensures { λ r. ⌜ Gathered (now (part .entry)) (now (ring .entry)) n (now (ring .exit)) r ⌝ }
+{
+    let mut end = n;
+    let mut i = 0;
+    while i < part.len() {
+        let x = part[i];
+        ring[end] = x;
+        end += (x < NULL) as usize;
+        i += 1;
+    }
+    end
+}
+
+// The bits of one turn round the circle, in a ring; a circle that holds no bit gives its place 0 alone.
+fn gather_turn(w: &[u8], from: CirclePlace, ring: &mut [u8]) -> usize
+    requires { ⌜ (0 < length (now w)) × (from .0 ≤ length (now w)) × (length (now w) ≤ length (now ring)) ⌝ }
+    ensures { λ r. ⌜ (r ≤ length (now (ring .exit))) × (take r (now (ring .exit)) ≡ ringOf (now (w .entry)) (from .0)) ⌝ }
+{
+    let at = from.0;
+    let n = gather(&w[at..], ring, 0);
+    let end = gather(&w[..at], ring, n);
+    if end == 0 {
+        ring[0] = w[0];
+        return 1;
+    }
+    end
+}
+
+// Fills `out` with the ring turn after turn; the last turn may be cut short.
+fn repeat(ring: &[u8], out: &mut [u8])
+    requires { ⌜ 0 < length (now ring) ⌝ }
+    ensures { λ _. ⌜ now (out .exit) ≡ tab (length (now (out .entry))) (turnAfterTurn (now (ring .entry))) ⌝ }
+{
+    let n = ring.len();
+    let mut i = 0;
+    let mut left = out.len();
+    while n <= left {
+        let end = i + n;
+        copy(ring, &mut out[i..end]);
+        i = end;
+        left -= n;
+    }
+    copy(&ring[..left], &mut out[i..]);
+}
+
+// Whether these are the lengths of a code block's streams, and one of the four versions.
+fn matchable(d: usize, d1: usize, d2: usize, version: usize) -> bool
+    ensures { λ r. ⌜ r ≡ matchable d d1 d2 version ⌝ }
+{
+    (d1 == d) & (d2 == d) & (44 <= d) & (d <= LONGEST) & (version <= 3)
+}
+
+// Rate matching of one code block: fills `out` with the bits that redundancy version `version` sends of the streams d(0), d(1) and d(2),
+// in which 2 or more stands for <NULL>. Of streams that are no code block's, or another version, it leaves `out` as it is.
+pub fn rate_match(d0: &[u8], d1: &[u8], d2: &[u8], version: usize, out: &mut [u8])
+    ensures { λ _. ⌜ now (out .exit) ≡ matchedInto (now (d0 .entry)) (now (d1 .entry)) (now (d2 .entry)) version (now (out .entry)) ⌝ }
+{
+    if !matchable(d0.len(), d1.len(), d2.len(), version) {
+        return;
+    }
+    let rows = (d0.len() + 31) / 32;
+    let n = 96 * rows;
+    let mut w = [0u8; CIRCLE];
+    let mut ring = [0u8; CIRCLE];
+    lay_out(d0, d1, d2, &mut w[..n]);
+    let bits = gather_turn(&w[..n], start(rows, version), &mut ring);
+    repeat(&ring[..bits], out);
+}

@@ -1,0 +1,59 @@
+-- `block::copy` meets its contract: what is still to come is the rest of the part.
+-- Assumes nothing.
+use mathlib.Core.Path.{_≡_}
+use Prim.Native.Nat.{_-_, _≤_}
+use native.Mathlib.Omega.{arith}
+use lib.ListN.{length, drop, drop-of-length-le}
+use Rattle.segmentation.proofs.Filling.{part-more}
+use Rattle.laws.proofs.Writing.{Writing, start, same, push, finish}
+use Rattle.segmentation.proofs.block.copy.Statement.{statement}
+use Rattle.segmentation.proofs.block.copy.Tie as tie
+
+abbrev Inv-loop : tie.InvT-loop
+Inv-loop part c₀ i₀ c i = (i ≤ length part) × Writing c₀ c i (drop i part) part
+
+abbrev μ-loop : tie.MeasureT-loop
+μ-loop part c₀ i₀ c i = length part - i
+
+loop-holds : tie.Need-loop-holds Inv-loop μ-loop
+loop-holds c = (omega arith, start)
+
+shared-slice-read-c : tie.Need-shared-slice-read-c Inv-loop μ-loop
+shared-slice-read-c c = omega arith
+
+slice-write-c : tie.Need-slice-write-c Inv-loop μ-loop
+slice-write-c c = omega arith
+
+add-i : tie.Need-add-i Inv-loop μ-loop
+add-i c = omega arith
+
+loop-less : tie.Need-loop-less Inv-loop μ-loop
+loop-less c = omega arith
+
+loop-again : tie.Need-loop-again Inv-loop μ-loop
+loop-again c =
+    let long = c .before .before .loop .inv .1 .long in
+    (omega arith, push (omega arith) (same (part-more _ _ (c .before .loop-test .taken)) (c .before .before .loop .inv .1)))
+
+same-length : tie.Need-same-length Inv-loop μ-loop
+same-length c = c .before .loop .inv .1 .long
+
+returns : tie.Need-returns Inv-loop μ-loop
+returns c =
+    let end : c .before .loop .i ≡ length (c .before .before .args .part .now) = omega arith in
+    rw end at (finish (drop-of-length-le _ (c .loop-test .left)) (c .before .loop .inv .1))
+
+pub copy-spec : {M : Type 1} → statement M
+copy-spec =
+    tie.close
+    (tie.spec
+    Inv-loop
+    μ-loop
+    loop-holds
+    shared-slice-read-c
+    slice-write-c
+    add-i
+    loop-less
+    loop-again
+    same-length
+    returns)

@@ -1,0 +1,89 @@
+-- `several` meets its contract: the numbers are those of the segmentation, and no sum wraps (`Worked`).
+-- Assumes nothing.
+use Prim.Native.Nat.{_-_}
+use native.Mathlib.Nat.{mul-le-mul}
+use native.Mathlib.Omega.{arith}
+use Rattle.segmentation.proofs.Worked.{Sums, blocksBy, needBy, shortsBy, row-positive, sums, worked}
+use borrow.Author.Needs.{needs}
+use Rattle.segmentation.proofs.several.Statement.{statement}
+use Rattle.segmentation.proofs.several.Tie as tie
+
+add-blocks : tie.Need-add-blocks
+add-blocks c = search needs
+
+mul-need : tie.Need-mul-need
+mul-need c = search needs
+
+add-need : tie.Need-add-need
+add-need c = search needs
+
+first-row-requires : tie.Need-first-row-requires
+first-row-requires c κs = search needs
+
+size-at-requires : tie.Need-size-at-requires
+size-at-requires c κs = search needs
+
+sub-size-at : tie.Need-sub-size-at
+sub-size-at c =
+    row-positive (c .before .before .pre .0) (c .before .before .pre .1) (c .before .first-row .ensures) (c .size-at .ensures)
+
+size-at-requires-2 : tie.Need-size-at-requires-2
+size-at-requires-2 c κs = search needs
+
+-- at the sums
+here : (c : tie.After-size-at2) → Sums (blocksBy (c .before .before .before .args .b)) (needBy (c .before .before .before .args .b))
+    (c .before .size-at .result) (c .size-at2 .result) (shortsBy (c .before .before .before .args .b) (c .before .size-at .result) (c .size-at2 .result))
+here c = sums (c .before .before .before .pre .0) (c .before .before .before .pre .1) (c .before .before .first-row .ensures) (c .before .size-at .ensures) (c .size-at2 .ensures)
+
+mul-shorts : tie.Need-mul-shorts
+mul-shorts c = omega (arith, mul-le-mul (here c .few) (here c .most))
+
+sub-shorts : tie.Need-sub-shorts
+sub-shorts c = here c .enough
+
+sub-shorts-2 : tie.Need-sub-shorts-2
+sub-shorts-2 c = omega (arith, here c .below)
+
+div-shorts : tie.Need-div-shorts
+div-shorts c = omega (arith, here c .below)
+
+sub-longs : tie.Need-sub-longs
+sub-longs c = omega (arith, here c .fewer)
+
+mul-t9 : tie.Need-mul-t9
+mul-t9 c = record { fits = here c .long-part }
+
+mul-t11 : tie.Need-mul-t11
+mul-t11 c = record { fits = here c .short-part }
+
+add-t10 : tie.Need-add-t10
+add-t10 c = record { fits = here c .all }
+
+sub-t12 : tie.Need-sub-t12
+sub-t12 c = here c .total
+
+returns : tie.Need-returns
+returns c =
+    worked (c .before .before .before .pre .0) (c .before .before .before .pre .1) (c .before .before .first-row .ensures) (c .before .size-at .ensures) (c .size-at2 .ensures)
+
+pub several-spec : {M : Type 1} → statement M
+several-spec =
+    tie.close
+    (tie.spec
+    add-blocks
+    mul-need
+    add-need
+    first-row-requires
+    size-at-requires
+    sub-size-at
+    size-at-requires-2
+    mul-shorts
+    sub-shorts
+    sub-shorts-2
+    div-shorts
+    sub-longs
+    mul-t9
+    mul-t11
+    add-t10
+    sub-t12
+    returns)

@@ -1,0 +1,123 @@
+// The bits of a code block, taken straight from the transport block.
+use crate::Segments;
+ghost use mathlib.Core.Bool.{cond};
+ghost use mathlib.Core.List.{_++_};
+ghost use mathlib.Core.Path.{_≡_};
+ghost use Prim.Native.Nat.{ℕ, _+_, _-_, _≤_};
+ghost use lib.Dec.{eqb, ltb};
+ghost use lib.ListN.{length, drop, replicate};
+ghost use Rattle.laws.specs.Bits.{bitsOf};
+ghost use Rattle.segmentation.specs.CodeBlocks.{payload};
+ghost use Rattle.segmentation.specs.Into.{codeBlockInto, startOf, Segmented, Room};
+
+// Writes code block `r` of the block `a` with the transport check `remainder` over `c`. Writes nothing where the length of `a` is out
+// of range, there is no such code block, or `c` has another length than it.
+pub fn code_block(a: &[u8], remainder: u32, r: usize, c: &mut [u8])
+    ensures { λ _. ⌜ now (c .exit) ≡ codeBlockInto (now (a .entry)) remainder r (now (c .entry)) ⌝ }
+{
+    let s = crate::segments_for(a.len());
+    if r >= s.blocks {
+        return;
+    }
+    if c.len() != size_of(s, r) {
+        return;
+    }
+    if s.blocks == 1 {
+        put_payload(a, remainder, s, r, c);
+        return;
+    }
+    let end = c.len() - 24;
+    put_payload(a, remainder, s, r, &mut c[..end]);
+    let check = check_bits::crc24b(&c[..end]);
+    check_bits::put_check_bits(check, &mut c[end..]);
+}
+
+// Writes the payload over the whole of `c`: filler, the part of `a`, and in the last code block the transport check.
+fn put_payload(a: &[u8], remainder: u32, s: Segments, r: usize, c: &mut [u8])
+    requires { ⌜ Room (now a) s r (now c) ⌝ }
+    ensures { λ _. ⌜ now (c .exit) ≡ payload (now (a .entry) ++ bitsOf 24 remainder) r ⌝ }
+{
+    let zeros = filler_of(s, r);
+    let from = start_of(a.len(), s, r);
+    if r + 1 < s.blocks {
+        let to = from + (c.len() - zeros);
+        fill(zeros, &a[from..to], c);
+    } else {
+        let end = c.len() - 24;
+        fill(zeros, &a[from..], c);
+        check_bits::put_check_bits(remainder, &mut c[end..]);
+    }
+}
+
+// Writes zeros, and `part` after them, over the front of `c`.
+fn fill(zeros: usize, part: &[u8], c: &mut [u8])
+    requires { ⌜ zeros + length (now part) ≤ length (now c) ⌝ }
+    ensures { λ _. ⌜ now (c .exit) ≡ replicate {A = ℕ} zeros 0 ++ (now (part .entry) ++ drop (zeros + length (now (part .entry))) (now (c .entry))) ⌝ }
+{
+    clear(&mut c[..zeros]);
+    copy(part, &mut c[zeros..]);
+}
+
+// Writes 0 over all of `c`.
+fn clear(c: &mut [u8])
+    ensures { λ _. ⌜ now (c .exit) ≡ replicate {A = ℕ} (length (now (c .entry))) 0 ⌝ }
+{
+    let mut i = 0;
+    while i < c.len() {
+        c[i] = 0;
+        i += 1;
+    }
+}
+
+// Copies `part` over the front of `c`.
+fn copy(part: &[u8], c: &mut [u8])
+    requires { ⌜ length (now part) ≤ length (now c) ⌝ }
+    ensures { λ _. ⌜ now (c .exit) ≡ now (part .entry) ++ drop (length (now (part .entry))) (now (c .entry)) ⌝ }
+{
+    let mut i = 0;
+    while i < part.len() {
+        c[i] = part[i];
+        i += 1;
+    }
+}
+
+// Where code block `r` begins to take of the `len` bits of the block. Long code blocks come last and are counted back from the end.
+fn start_of(len: usize, s: Segments, r: usize) -> usize
+    requires { ⌜ Segmented len s r ⌝ }
+    ensures { λ p. ⌜ p ≡ startOf (len + 24) r ⌝ }
+{
+    if r == 0 {
+        return 0;
+    }
+    if s.shorts <= r {
+        return len + 24 - (s.blocks - r) * (s.long - 24);
+    }
+    r * (s.short - 24) - s.filler
+}
+
+// K_r: the short code blocks come first.
+pub fn size_of(s: Segments, r: usize) -> usize
+    ensures { λ k. ⌜ k ≡ cond (ltb r (s .shorts)) (s .short) (s .long) ⌝ }
+{
+    if r < s.shorts { s.short } else { s.long }
+}
+
+// The filler bits of code block `r`.
+pub fn filler_of(s: Segments, r: usize) -> usize
+    ensures { λ f. ⌜ f ≡ cond (eqb r 0) (s .filler) 0 ⌝ }
+{
+    if r == 0 { s.filler } else { 0 }
+}
+
+// The row of table 5.1.3-3 that has K_r: the short size is that of the row before.
+pub fn row_of(s: Segments, r: usize) -> usize
+    ensures { λ k. ⌜ k ≡ cond (ltb r (s .shorts)) (s .row - 1) (s .row) ⌝ }
+{
+    if r >= s.shorts {
+        return s.row;
+    }
+    if s.row == 0 {
+        return 0;
+    }
+    s.row - 1
+}
