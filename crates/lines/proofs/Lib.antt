@@ -1,0 +1,10 @@
+pub mod Reading
+pub mod Decimal
+pub mod Putting
+pub mod Numbers
+pub mod Refusals
+pub mod Lines
+pub mod Rows
+pub mod Calls
+pub mod Spelling
+pub mod Sample

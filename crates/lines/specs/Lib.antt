@@ -1,0 +1,4 @@
+pub mod Line
+pub mod Put
+pub mod Row
+pub mod Text

@@ -1,0 +1,84 @@
+-- `sizes::print_rows` meets its contract: each call of sizes_rows answers a line, so the loop ends. The output keeps its length.
+-- Assumes nothing.
+use mathlib.Core.Path.{_≡_, refl, sym, _∙_, ap}
+use Prim.Native.Nat.{_-_, _≤_}
+use native.Mathlib.Omega.{arith}
+use lib.ListN.{length}
+use lib.Seq.{length-take-le}
+use denote.Ref.{now}
+use Rattle.lines.specs.declared.Progress.{Progress}
+use Rattle.lines.specs.Text.{rowRoom}
+use Rattle.lines.proofs.Calls.{goes-on, written-within}
+use Rattle.sizes.proofs.print_rows.Statement.{statement}
+use Rattle.sizes.proofs.print_rows.Tie as tie
+
+abbrev Inv-loop : tie.InvT-loop
+Inv-loop text out₀ next₀ out next = length out ≡ length out₀
+
+abbrev μ-loop : tie.MeasureT-loop
+μ-loop text out₀ next₀ out next = length text - next
+
+loop-holds : tie.Need-loop-holds Inv-loop μ-loop
+loop-holds c = refl
+
+sizes-rows-requires : tie.Need-sizes-rows-requires Inv-loop μ-loop
+sizes-rows-requires c κs = tt
+
+-- what was written stands within the output
+within : (c : tie.After-slice-known2 Inv-loop μ-loop) → c .before .before .sizes-rows .result .written ≤ length (c .before .before .sizes-rows .last .1 .1 .0)
+within c =
+    let text = now (c .before .before .before .before .before .before .before .before .args .text) in
+    let head = c .before .before .before .before .before .loop in
+    let call = c .before .before .sizes-rows in
+    let kept = call .kept .1 .1 .0 in
+    omega (arith, ap (λ (p : Progress). p .written) (call .ensures .0), written-within text (head .next) (head .out) (ap length (sym (call .ensures .1)) ∙ kept), kept)
+
+slice-reshare-prefix-write-all : tie.Need-slice-reshare-prefix-write-all Inv-loop μ-loop
+slice-reshare-prefix-write-all c = within c
+
+slice-aggregate-write-all : tie.Need-slice-aggregate-write-all Inv-loop μ-loop
+slice-aggregate-write-all c = sym (length-take-le _ _ (within (c .before)))
+
+write-all-requires : tie.Need-write-all-requires Inv-loop μ-loop
+write-all-requires c κs = tt
+
+same-length : tie.Need-same-length Inv-loop μ-loop
+same-length c = c .before .before .before .before .before .sizes-rows .kept .1 .1 .0 ∙ c .before .before .before .before .before .before .before .before .loop .inv
+
+returns : tie.Need-returns Inv-loop μ-loop
+returns c = tt
+
+loop-less : tie.Need-loop-less Inv-loop μ-loop
+loop-less c =
+    let start = c .before .before .before .before .before .before .before .before .before .before .before in
+    let head = c .before .before .before .before .before .before .before .before .loop in
+    let call = c .before .before .before .before .before .sizes-rows in
+    let enough : rowRoom ≤ length (head .out) = omega (arith, start .pre, head .inv) in
+    omega (arith, ap (λ (p : Progress). p .next) (call .ensures .0), goes-on (now (start .args .text)) (head .next) (length (head .out)) (omega arith) enough)
+
+loop-again : tie.Need-loop-again Inv-loop μ-loop
+loop-again c = c .before .before .before .before .before .sizes-rows .kept .1 .1 .0 ∙ c .before .before .before .before .before .before .before .before .loop .inv
+
+same-length-2 : tie.Need-same-length-2 Inv-loop μ-loop
+same-length-2 c = c .before .loop .inv
+
+returns-2 : tie.Need-returns-2 Inv-loop μ-loop
+returns-2 c = tt
+
+pub print-rows-spec : {M : Type 1} → statement M
+print-rows-spec =
+    tie.close
+    (tie.spec
+    Inv-loop
+    μ-loop
+    loop-holds
+    sizes-rows-requires
+    slice-reshare-prefix-write-all
+    slice-aggregate-write-all
+    write-all-requires
+    same-length
+    returns
+    loop-less
+    loop-again
+    same-length-2
+    returns-2)
