@@ -25,9 +25,16 @@ pub record Sharing (C Q N G r : ℕ) : Type 0 where
   pub step-few : N * Q ≤ 24
   pub most : G ≤ 172800
 
--- code block r of a block of A bits, whose segmentation is s
-pub record Sending (A : ℕ) (s : Segments) (r v : ℕ) : Type 0 where
-  pub size : badSize A ≡ false
-  pub segments : s ≡ segmentsOf (A + 24)
-  pub below : r < blocks (A + 24)
+-- code block r of a block a, whose segmentation is s, in redundancy version v
+pub record Sending (a : List ℕ) (s : Segments) (r v : ℕ) : Type 0 where
+  pub size : badSize (length a) ≡ false
+  pub segments : s ≡ segmentsOf (length a + 24)
+  pub below : r < blocks (length a + 24)
   pub version : v ≤ 3
+
+-- rooms for a code block of K bits and for its three streams
+pub record Roomy (K c d0 d1 d2 : ℕ) : Type 0 where
+  pub bits : c ≡ K
+  pub first : d0 ≡ K + 4
+  pub second : d1 ≡ K + 4
+  pub third : d2 ≡ K + 4

@@ -1,1 +1,7 @@
-// The codeword of a transport block: clauses 5.1.4.1.2 (shares) and 5.1.5, and the call Build.
+// The codeword of a transport block: clauses 5.1.4.1.2 (shares) and 5.1.5, and the call Build of 01.
+mod allocation;
+mod call;
+
+pub use allocation::bad_allocation;
+pub use allocation::bad_bits;
+pub use call::build;

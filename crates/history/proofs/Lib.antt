@@ -3,6 +3,13 @@ pub mod Heads
 pub mod Received
 pub mod Others
 pub mod Holds
+pub mod Sums
 pub mod SameRoom
 pub mod Depends
 pub mod Own
+pub mod ReleaseMeet
+pub mod ReleaseTrue
+pub mod ReleaseCount
+pub mod ReleaseSequence
+pub mod ReleaseAnswers
+pub mod Release

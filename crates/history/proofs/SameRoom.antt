@@ -18,16 +18,12 @@ use Rattle.rate_matching.specs.Places.{placeNumber}
 use Rattle.slots.specs.State.{perBlock, roomLength, roomStart}
 use Rattle.slots.specs.Room.{heard, byteOf}
 use Rattle.slots.specs.Reception.{received}
-use Rattle.slots.specs.Reading.{keptAt, lacks, sumFrom, lackingIn, lacking, heardIn, heardFrom, heardSequence, wrongCheck, heardBlock, streamByte, threeStreams}
+use Rattle.slots.specs.Reading.{keptAt, lacks, lackingIn, lacking, heardIn, heardFrom, heardSequence, wrongCheck, heardBlock, streamByte, threeStreams}
 use Rattle.slots.proofs.RoomLaws.{AllPlaces, by-place, byte-in-room, received-past}
 use Rattle.slots.proofs.PlaceBounds.{place-below}
 use Rattle.history.specs.Answered.{SameRoom}
+use Rattle.history.proofs.Sums.{sumFrom-ext}
 use Rattle.history.proofs.Received.{brought, received-here}
-
-sumFrom-ext : (f g : ℕ → ℕ) (i n : ℕ) → ((k : ℕ) → i ≤ k → k < i + n → f k ≡ g k) → sumFrom f i n ≡ sumFrom g i n
-unfolding sumFrom
-sumFrom-ext f g i zero h = refl
-sumFrom-ext f g i (suc n) h = ap₂ _+_ (h i (omega arith) (omega arith)) (sumFrom-ext f g (suc i) n (λ k a b. h k (omega arith) (omega arith)))
 
 -- a room for M code blocks that is open for a block of A bits, in two stores
 module _ (M slot A : ℕ) (admitted : badSize A ≡ false) (fits : blocks (A + 24) ≤ M) (store other : List ℕ) (same : SameRoom M slot store other) where

@@ -19,7 +19,7 @@ use Rattle.turbo.proofs.Encoder.{length-parities, AllBits, BitRegisters
 
 -- ---- bits
 
-append-bits : (a b : List ℕ) → AllBits a → AllBits b → AllBits (a ++ b)
+pub append-bits : (a b : List ℕ) → AllBits a → AllBits b → AllBits (a ++ b)
 append-bits [] b ha hb i = hb i
 append-bits (x ∷ a) b ha hb zero = ha 0
 append-bits (x ∷ a) b ha hb (suc i) = append-bits a b (λ k. ha (suc k)) hb i

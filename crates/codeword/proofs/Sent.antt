@@ -1,0 +1,107 @@
+-- A code block's way through segmentation, turbo encoder and rate matcher gives the bits that the definition sends of it (clause 5.1.5's e_rk).
+-- Assumes nothing.
+use mathlib.Core.Path.{_≡_, refl, sym, _∙_, ap, ap₂}
+use mathlib.Core.Bool.{Bool, true, false, cond}
+use mathlib.Core.List.{List, _++_}
+use Prim.Native.Nat.{ℕ, _+_, _-_, _≤_, _<_}
+use native.Mathlib.Omega.{arith}
+use lib.Dec.{eqb, ltb}
+use lib.ListN.{length}
+use borrow.Author.Tests.{lt-ltb, eq-eqb, le-leb}
+use Rattle.laws.specs.Bits.{bitsOf}
+use Rattle.interleaver.specs.Table.{sizeAt}
+use Rattle.interleaver.proofs.Rows.{row-keeps}
+use Rattle.segmentation.specs.declared.Segments.{Segments}
+use Rattle.segmentation.specs.Segmentation.{blocks, sizeOf, rowOf, fillerOf}
+use Rattle.segmentation.specs.CodeBlocks.{codeBlock}
+use Rattle.segmentation.specs.Into.{fitsBlock, codeBlockInto}
+use Rattle.segmentation.specs.Sizes.{segmentsOf}
+use Rattle.segmentation.proofs.Segmentation.{in-range, size-row, row-below, size-most}
+use Rattle.segmentation.proofs.CodeBlocks.{filler-within, length-codeBlock}
+use Rattle.segmentation.proofs.Payload.{with-bits}
+use Rattle.turbo.specs.Streams.{stream0, stream1, stream2}
+use Rattle.turbo.specs.Encode.{Encodable, fit}
+use Rattle.turbo.proofs.Encodable.{true-encodable}
+use Rattle.turbo.proofs.Streams.{length-stream0, length-stream1, length-stream2}
+use Rattle.rate_matching.specs.SubBlocks.{rows}
+use Rattle.rate_matching.specs.Circle.{circle, startOf}
+use Rattle.rate_matching.specs.Walk.{selected}
+use Rattle.rate_matching.specs.Matcher.{matchable, matchedInto}
+use Rattle.codeword.specs.Codeword.{blockCircle, blockRows, sentBits}
+use Rattle.codeword.specs.Sending.{Sending, Roomy}
+
+module _ {a : List ℕ} {s : Segments} {r v : ℕ} (h : Sending a s r v) where
+  high : length a + 24 ≤ 30600
+  high = omega (arith, in-range (length a) (h .size) .1)
+
+  -- the row and the filler that the segmentation tells are the code block's
+  pub row-told : {row : ℕ} → row ≡ cond (ltb r (s .shorts)) (s .row - 1) (s .row) → row ≡ rowOf (length a + 24) r
+  unfolding segmentsOf rowOf
+  row-told e = e ∙ ap (λ (t : Segments). cond (ltb r (t .shorts)) (t .row - 1) (t .row)) (h .segments)
+
+  pub filler-told : {F : ℕ} → F ≡ cond (eqb r 0) (s .filler) 0 → F ≡ fillerOf (length a + 24) r
+  unfolding segmentsOf fillerOf
+  filler-told e = e ∙ ap (λ (t : Segments). cond (eqb r 0) (t .filler) 0) (h .segments)
+
+  pub size-told : {k : ℕ} → k ≡ cond (ltb r (s .shorts)) (s .short) (s .long) → k ≡ sizeOf (length a + 24) r
+  unfolding segmentsOf sizeOf
+  size-told e = e ∙ ap (λ (t : Segments). cond (ltb r (t .shorts)) (t .short) (t .long)) (h .segments)
+
+  pub size-most-told : sizeOf (length a + 24) r ≤ 6144
+  size-most-told = size-most (length a + 24) high r
+
+  -- the code block's bits
+  pub coded : (x : ℕ) (c₀ c : List ℕ) → length c₀ ≡ sizeOf (length a + 24) r → c ≡ codeBlockInto a x r c₀ → c ≡ codeBlock (a ++ bitsOf 24 x) r
+  unfolding codeBlockInto fitsBlock
+  coded x c₀ c room e =
+      e ∙ simp (h .size, lt-ltb r (blocks (length a + 24)) (h .below), eq-eqb (length c₀) (sizeOf (length a + 24) r) room)
+
+  module _ (x : ℕ) (c : List ℕ) (c-is : c ≡ codeBlock (a ++ bitsOf 24 x) r) where
+    c-long : length c ≡ sizeOf (length a + 24) r
+    c-long = ap length c-is ∙ length-codeBlock (length a + 24) high (a ++ bitsOf 24 x) (with-bits a x) r (h .below)
+
+    fills : fillerOf (length a + 24) r ≤ length c
+    fills = omega (arith, c-long, filler-within (length a + 24) high (omega arith) r)
+
+    -- the encoder takes it
+    pub encoded : {row F : ℕ} → row ≡ rowOf (length a + 24) r → F ≡ fillerOf (length a + 24) r → (d0 d1 d2 : List ℕ)
+        → length d0 ≡ sizeOf (length a + 24) r + 4 → length d1 ≡ sizeOf (length a + 24) r + 4 → length d2 ≡ sizeOf (length a + 24) r + 4
+        → fit row F c d0 d1 d2 ≡ true
+    encoded {row} {F} row-is F-is d0 d1 d2 l0 l1 l2 =
+        true-encodable row F (length c) (length d0) (length d1) (length d2)
+        (record {
+          below = rw row-is (row-below (length a + 24) high r);
+          size = c-long ∙ size-row (length a + 24) high r ∙ ap sizeAt (sym row-is);
+          filler = rw F-is fills;
+          long0 = l0 ∙ ap (λ (k : ℕ). k + 4) (sym c-long);
+          long1 = l1 ∙ ap (λ (k : ℕ). k + 4) (sym c-long);
+          long2 = l2 ∙ ap (λ (k : ℕ). k + 4) (sym c-long);
+        })
+
+    D-is : length (stream0 (rowOf (length a + 24) r) (fillerOf (length a + 24) r) c) ≡ sizeOf (length a + 24) r + 4
+    D-is = length-stream0 (rowOf (length a + 24) r) (fillerOf (length a + 24) r) c fills ∙ ap (λ (k : ℕ). k + 4) c-long
+
+    matches : matchable (length (stream0 (rowOf (length a + 24) r) (fillerOf (length a + 24) r) c))
+        (length (stream1 (rowOf (length a + 24) r) (fillerOf (length a + 24) r) c)) (length (stream2 (rowOf (length a + 24) r) c)) v ≡ true
+    unfolding matchable
+    matches =
+        let first = length-stream1 (rowOf (length a + 24) r) (fillerOf (length a + 24) r) c fills ∙ ap (λ (k : ℕ). k + 4) c-long in
+        let second = length-stream2 (rowOf (length a + 24) r) c ∙ ap (λ (k : ℕ). k + 4) (sym (size-row (length a + 24) high r)) in
+        let least : 40 ≤ sizeOf (length a + 24) r = rw (size-row (length a + 24) high r) (row-keeps _ (row-below (length a + 24) high r) .least) in
+        simp (
+          D-is,
+          first,
+          second,
+          eq-eqb (sizeOf (length a + 24) r + 4) (sizeOf (length a + 24) r + 4) refl,
+          le-leb 44 (sizeOf (length a + 24) r + 4) (omega arith),
+          le-leb (sizeOf (length a + 24) r + 4) 6148 (omega (arith, size-most (length a + 24) high r)),
+          le-leb v 3 (h .version),
+        )
+
+    -- the rate matcher sends the bits that the definition names
+    pub sent-is : {row F : ℕ} → row ≡ rowOf (length a + 24) r → F ≡ fillerOf (length a + 24) r → {d0 d1 d2 : List ℕ}
+        → d0 ≡ stream0 row F c → d1 ≡ stream1 row F c → d2 ≡ stream2 row c → (out₀ : List ℕ) {out : List ℕ}
+        → out ≡ matchedInto d0 d1 d2 v out₀ → out ≡ sentBits (a ++ bitsOf 24 x) v r (length out₀)
+    unfolding matchedInto sentBits blockCircle blockRows
+    sent-is {row} {F} row-is F-is {d0} {d1} {d2} e0 e1 e2 out₀ {out} told =
+        told ∙ rw (e0, e1, e2, row-is, F-is, matches, D-is) (rw (with-bits a x, ← c-is) refl)

@@ -1,0 +1,170 @@
+-- The loop that writes each code block into its own stretch of the codeword (clause 5.1.5): what stands before the stretch of code block r is the codeword's beginning.
+-- Assumes nothing.
+use mathlib.Core.Path.{_≡_, refl, sym, _∙_, ap, ap₂}
+use mathlib.Core.Bool.{false}
+use mathlib.Core.List.{List, [], _++_}
+use Prim.Native.Nat.{ℕ, zero, suc, _+_, _-_, _*_, _≤_, _<_}
+use native.Mathlib.Numerals.{add-one}
+use native.Mathlib.Nat.{le-refl, add-zero}
+use native.Mathlib.Omega.{arith}
+use lib.ListN.{length}
+use borrow.Rule.Slice.PartMut.{midOf, putMid}
+use Rattle.laws.specs.Bits.{bitsOf}
+use Rattle.laws.proofs.Parts.{length-mid}
+use Rattle.laws.proofs.Writing as writing
+use Rattle.laws.proofs.Writing.{Writing}
+use Rattle.check_bits.specs.CheckBits.{crc, checkBits, gCRC24A}
+use Rattle.segmentation.specs.declared.Segments.{Segments}
+use Rattle.segmentation.specs.Segmentation.{blocks}
+use Rattle.segmentation.specs.CodeBlocks.{withCheck}
+use Rattle.segmentation.specs.Sizes.{segmentsOf}
+use Rattle.segmentation.proofs.Segmentation.{in-range, blocks-least, blocks-most}
+use Rattle.codeword.specs.Shares.{share, sharesBefore}
+use Rattle.codeword.specs.Codeword.{sentBits, blockBits, bitsFrom, codeword}
+use Rattle.codeword.specs.Sending.{Accepted, Sharing, Sending}
+use Rattle.codeword.proofs.Accepted.{Allocated, allocated}
+use Rattle.codeword.proofs.Shares.{shares-all}
+use Rattle.codeword.proofs.Taken.{length-withCheck}
+
+-- the stretches start one after another
+before-rises : (C Q N G i n : ℕ) → sharesBefore C Q N G i ≤ sharesBefore C Q N G (i + n)
+unfolding sharesBefore
+before-rises C Q N G i zero = rw (add-zero i) (le-refl (sharesBefore C Q N G i))
+before-rises C Q N G i (suc n) =
+    let earlier : sharesBefore C Q N G i ≤ sharesBefore C Q N G (i + n) = before-rises C Q N G i n in
+    let one : i + suc n ≡ suc (i + n) = omega arith in
+    let step : sharesBefore C Q N G (i + suc n) ≡ sharesBefore C Q N G (i + n) + share C Q N G (i + n) = ap (sharesBefore C Q N G) one in
+    omega arith
+
+before-next : (C Q N G r : ℕ) → sharesBefore C Q N G r + share C Q N G r ≡ sharesBefore C Q N G (r + 1)
+unfolding sharesBefore
+before-next C Q N G r = rw (add-one r)
+
+-- the block with its check, as the check's remainder is written out
+checked : (a : List ℕ) {remainder : ℕ} → remainder ≡ crc 24 gCRC24A a → a ++ bitsOf 24 remainder ≡ withCheck a
+unfolding withCheck checkBits
+checked a e = ap (λ (x : ℕ). a ++ bitsOf 24 x) e
+
+bits-sent : (b : List ℕ) (Q N v G r : ℕ) → sentBits b v r (share (blocks (length b)) Q N G r) ≡ blockBits b Q N v G r
+unfolding blockBits
+bits-sent b Q N v G r = refl
+
+from-next : (b : List ℕ) (Q N v G r C : ℕ) → r < C
+    → bitsFrom b Q N v G r (C - r) ≡ blockBits b Q N v G r ++ bitsFrom b Q N v G (r + 1) (C - (r + 1))
+unfolding bitsFrom
+from-next b Q N v G r C h =
+    let more : C - r ≡ suc (C - (r + 1)) = omega arith in
+    ap (bitsFrom b Q N v G r) more ∙ ap (λ (k : ℕ). blockBits b Q N v G r ++ bitsFrom b Q N v G k (C - (r + 1))) (sym (add-one r))
+
+pub record Stretching (a : List ℕ) (Q N v : ℕ) (out₀ : List ℕ) (s : Segments) (C remainder G : ℕ) (out : List ℕ) (at r : ℕ) : Type 0 where
+  pub accepted : Accepted a Q N v (length out₀)
+  pub segments : s ≡ segmentsOf (length a + 24)
+  pub count : C ≡ blocks (length a + 24)
+  pub check : remainder ≡ crc 24 gCRC24A a
+  pub given : G ≡ length out₀
+  pub below : r ≤ C
+  pub starts : at ≡ sharesBefore C Q N (length out₀) r
+  pub written : Writing out₀ out at (bitsFrom (withCheck a) Q N v (length out₀) r (C - r)) (codeword a Q N v (length out₀))
+
+pub start : {a : List ℕ} {Q N v : ℕ} {out : List ℕ} {s : Segments} {C remainder G : ℕ} → Accepted a Q N v (length out)
+    → s ≡ segmentsOf (length a + 24) → C ≡ blocks (length a + 24) → remainder ≡ crc 24 gCRC24A a → G ≡ length out
+    → Stretching a Q N v out s C remainder G out 0 0
+unfolding sharesBefore codeword
+start {a} {Q} {N} {v} {out} {C = C} ok told count check given = record {
+  accepted = ok;
+  segments = told;
+  count = count;
+  check = check;
+  given = given;
+  below = omega arith;
+  starts = refl;
+  written = writing.same (ap (bitsFrom (withCheck a) Q N v (length out) 0) (sym count ∙ omega arith)) writing.start;
+}
+
+module _ {a : List ℕ} {Q N v : ℕ} {out₀ : List ℕ} {s : Segments} {C remainder G : ℕ} {out : List ℕ} {at r : ℕ}
+    (h : Stretching a Q N v out₀ s C remainder G out at r) where
+  high : length a + 24 ≤ 30600
+  high = omega (arith, in-range (length a) (h .accepted .size) .1)
+
+  some : 0 < C
+  some = omega (arith, h .count, blocks-least (length a + 24) high)
+
+  few : C ≤ 5
+  few = omega (arith, h .count, blocks-most (length a + 24) high)
+
+  ok : Allocated (blocks (length a + 24)) Q N (length out₀)
+  ok = allocated _ _ _ _ (h .accepted .allocation)
+
+  all : sharesBefore C Q N (length out₀) C ≡ length out₀
+  all = shares-all C Q N (length out₀) some (ok .multiple)
+
+  module _ (more : r < C) where
+    pub sharing : Sharing C Q N G r
+    sharing = record {
+      some = some;
+      few = few;
+      below = more;
+      step-some = ok .step-fits .0;
+      step-few = ok .step-fits .1;
+      most = omega (arith, h .given, ok .most);
+    }
+
+    pub sending : Sending a s r v
+    sending = record {
+      size = h .accepted .size;
+      segments = h .segments;
+      below = omega (arith, h .count);
+      version = h .accepted .version;
+    }
+
+    -- the stretch of code block r lies within the output
+    pub within : {e : ℕ} → e ≡ share C Q N G r → at + e ≤ length out
+    unfolding sharesBefore
+    within {e} e-is =
+        let up : sharesBefore C Q N (length out₀) (suc r) ≤ sharesBefore C Q N (length out₀) (suc r + (C - suc r)) = before-rises C Q N (length out₀) (suc r) (C - suc r) in
+        let last : suc r + (C - suc r) ≡ C = omega arith in
+        let top : sharesBefore C Q N (length out₀) (suc r + (C - suc r)) ≡ length out₀ = ap (sharesBefore C Q N (length out₀)) last ∙ all in
+        let own : e ≡ share C Q N (length out₀) r = e-is ∙ ap (λ (g : ℕ). share C Q N g r) (h .given) in
+        omega (arith, h .starts, h .written .long)
+
+    pub next : {e : ℕ} {part : List ℕ} → e ≡ share C Q N G r
+        → part ≡ sentBits (a ++ bitsOf 24 remainder) v r (length (midOf at (at + e - at) out))
+        → length part ≡ at + e - at
+        → Stretching a Q N v out₀ s C remainder G (putMid at (at + e - at) out part) (at + e) (r + 1)
+    next {e} {part} e-is part-is long = record {
+      accepted = h .accepted;
+      segments = h .segments;
+      count = h .count;
+      check = h .check;
+      given = h .given;
+      below = omega arith;
+      starts = ap₂ (λ (x y : ℕ). x + y) (h .starts) own ∙ next-start;
+      written = writing.pushPart said (omega arith) (within e-is) long (writing.same one-more (h .written));
+    }
+      where
+        own : e ≡ share C Q N (length out₀) r
+        own = e-is ∙ ap (λ (g : ℕ). share C Q N g r) (h .given)
+
+        next-start : sharesBefore C Q N (length out₀) r + share C Q N (length out₀) r ≡ sharesBefore C Q N (length out₀) (r + 1)
+        next-start = before-next C Q N (length out₀) r
+
+        lent : length (midOf at (at + e - at) out) ≡ share (blocks (length (withCheck a))) Q N (length out₀) r
+        lent =
+            length-mid at (at + e) out (within e-is) ∙ omega arith ∙ own
+            ∙ ap (λ (c : ℕ). share c Q N (length out₀) r) (h .count ∙ ap blocks (sym (length-withCheck a)))
+
+        said : part ≡ blockBits (withCheck a) Q N v (length out₀) r
+        said = part-is ∙ ap₂ (λ (b : List ℕ) (E : ℕ). sentBits b v r E) (checked a (h .check)) lent ∙ bits-sent (withCheck a) Q N v (length out₀) r
+
+        one-more : bitsFrom (withCheck a) Q N v (length out₀) r (C - r)
+            ≡ blockBits (withCheck a) Q N v (length out₀) r ++ bitsFrom (withCheck a) Q N v (length out₀) (r + 1) (C - (r + 1))
+        one-more = from-next (withCheck a) Q N v (length out₀) r C more
+
+pub finish : {a : List ℕ} {Q N v : ℕ} {out₀ : List ℕ} {s : Segments} {C remainder G : ℕ} {out : List ℕ} {at r : ℕ}
+    → Stretching a Q N v out₀ s C remainder G out at r → C ≤ r → out ≡ codeword a Q N v (length out₀)
+unfolding bitsFrom
+finish {a} {Q} {N} {v} {out₀} {C = C} {out = out} {at = at} {r = r} h end =
+    let last : r ≡ C = omega (arith, h .below) in
+    let whole : at ≡ length out₀ = h .starts ∙ ap (sharesBefore C Q N (length out₀)) last ∙ all h in
+    let none : C - r ≡ 0 = omega arith in
+    writing.finish-all (omega (arith, h .written .long)) (ap (bitsFrom (withCheck a) Q N v (length out₀) r) none) (h .written)

@@ -1,0 +1,59 @@
+// What 01 asks of an allocation and of given bits: the tests behind the numbers 3 and 2, which Build and Receive share.
+
+ghost use mathlib.Core.Path.{_≡_};
+ghost use Rattle.codeword.specs.Build.{badModulation, badLayers, badAllocation, badBits};
+
+fn bad_modulation(q: usize) -> bool
+    ensures { λ r. ⌜ r ≡ badModulation q ⌝ }
+{
+    if q == 2 {
+        return false;
+    }
+    if q == 4 {
+        return false;
+    }
+    q != 6
+}
+
+fn bad_layers(n: usize) -> bool
+    ensures { λ r. ⌜ r ≡ badLayers n ⌝ }
+{
+    if n == 0 {
+        return true;
+    }
+    n > 4
+}
+
+// Number 3 for C code blocks. Q and N are looked at before anything is divided by N·Q.
+pub fn bad_allocation(blocks: usize, q: usize, n: usize, g: usize) -> bool
+    ensures { λ r. ⌜ r ≡ badAllocation blocks q n g ⌝ }
+{
+    if bad_modulation(q) {
+        return true;
+    }
+    if bad_layers(n) {
+        return true;
+    }
+    if g > 172800 {
+        return true;
+    }
+    let step = n * q;
+    if g % step != 0 {
+        return true;
+    }
+    g / step < blocks
+}
+
+// Number 2: a byte above 1 among the bits.
+pub fn bad_bits(bits: &[u8]) -> bool
+    ensures { λ r. ⌜ r ≡ badBits (now (bits .entry)) ⌝ }
+{
+    // every byte is looked at, with no branch, so that the loop runs many bytes at a time
+    let mut seen: u8 = 0;
+    let mut i = 0;
+    while i < bits.len() {
+        seen = seen | bits[i];
+        i += 1;
+    }
+    seen > 1
+}

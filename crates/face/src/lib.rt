@@ -1,0 +1,61 @@
+// The face to C: what include/zemrukste.h declares, thin over the proved libraries.
+use segmentation::SizesAnswer;
+
+ghost use mathlib.Core.Path.{_≡_};
+ghost use mathlib.Core.List.{_++_};
+ghost use Prim.Native.Nat.{_≤_};
+ghost use lib.ListN.{length, drop};
+ghost use Rattle.codeword.specs.Build.{buildNumber, buildOutput};
+ghost use Rattle.face.specs.Face.{fourBytes, inBytes, sizesNumber, sizesBytes};
+
+// Build: 0, or the number of the refusal, which writes nothing.
+#[no_mangle]
+pub extern "C" fn zemrukste_build(block: &[u8], q: usize, n: usize, version: usize, g: usize, out: &mut [u8]) -> u32
+    ensures number { λ r. ⌜ r ≡ buildNumber (now (block .entry)) q n version g (length (now (out .entry))) ⌝ }
+    ensures output { λ r. ⌜ now (out .exit) ≡ buildOutput (now (block .entry)) q n version g (now (out .entry)) ⌝ }
+{
+    codeword::build(block, q, n, version, g, out) as u32
+}
+
+// Sizes: the six numbers as bytes over the front of `out`, or the number of the refusal, which writes nothing.
+#[no_mangle]
+pub extern "C" fn zemrukste_sizes(a: usize, out: &mut [u8]) -> u32
+    ensures number { λ r. ⌜ r ≡ sizesNumber a (length (now (out .entry))) ⌝ }
+    ensures output { λ r. ⌜ now (out .exit) ≡ sizesBytes a (now (out .entry)) ⌝ }
+{
+    let SizesAnswer::Given(s) = segmentation::sizes_for(a) else {
+        return 1;
+    };
+    if out.len() < 24 {
+        return 5;
+    }
+    let numbers = [s.blocks, s.longs, s.long, s.shorts, s.short, s.filler];
+    put_numbers(&numbers, &mut out[..24]);
+    0
+}
+
+// The numbers one after another, four bytes each.
+fn put_numbers(numbers: &[usize; 6], out: &mut [u8])
+    requires { ⌜ 24 ≤ length (now out) ⌝ }
+    ensures { λ r. ⌜ now (out .exit) ≡ inBytes (now (numbers .entry)) ++ drop 24 (now (out .entry)) ⌝ }
+{
+    let mut i = 0;
+    let mut at = 0;
+    while i < 6 {
+        let end = at + 4;
+        put_number(numbers[i], &mut out[at..end]);
+        at = end;
+        i += 1;
+    }
+}
+
+// One number over the four bytes of `out`, the lowest first.
+fn put_number(number: usize, out: &mut [u8])
+    requires { ⌜ length (now out) ≡ 4 ⌝ }
+    ensures { λ r. ⌜ now (out .exit) ≡ fourBytes number ⌝ }
+{
+    out[0] = (number % 256) as u8;
+    out[1] = (number / 256 % 256) as u8;
+    out[2] = (number / 65536 % 256) as u8;
+    out[3] = (number / 16777216 % 256) as u8;
+}

@@ -1,0 +1,94 @@
+-- Demand 3, the release: after any history in which all that was accepted for an open slot since its opening are true transmissions of one block,
+-- Read gives that block exactly when every data place was sent, and else the count of those that were not; Receive answers that count.
+-- Assumes nothing.
+use mathlib.Core.Path.{_≡_, refl, sym, _∙_, ap, subst₂}
+use mathlib.Core.Bool.{Bool, true, false, cond}
+use mathlib.Core.List.{List, _∷_, _++_}
+use Prim.Native.Nat.{ℕ, _+_, _≤_, _<_}
+use native.Mathlib.Omega.{arith}
+use lib.Dec.{eqb}
+use lib.ListN.{length, drop}
+use Rattle.check_bits.specs.Division.{AreBits}
+use Rattle.segmentation.specs.Segmentation.{blocks}
+use Rattle.slots.specs.declared.Answer.the-variants.{Done, Heard, Lacking}
+use Rattle.slots.specs.declared.State.{State}
+use Rattle.slots.specs.State.{perBlock, storeLength, newState, headAt, badShape, badState}
+use Rattle.slots.specs.Room.{byteOf}
+use Rattle.slots.specs.Calls.{sizeAtHead, receiveNumber, receiveOutcome, readNumber, readOutcome, readOutput}
+use Rattle.slots.proofs.RoomLaws.{room-within, byte-in-room}
+use Rattle.slots.proofs.HeadLaws.{open-size}
+use Rattle.slots.proofs.Acceptance.{receives, reads}
+use Rattle.history.specs.Calls.{Reception, reading, Made, History}
+use Rattle.history.specs.Run.{World, lent, begin, run}
+use Rattle.history.specs.Accepted.{since}
+use Rattle.history.specs.Holds.{Holds}
+use Rattle.history.specs.Sent.{True, AllTrue, unsent}
+use Rattle.history.proofs.State.{heads}
+use Rattle.history.proofs.Heads.{run-good, refused-state}
+use Rattle.history.proofs.Others.{lent-at, rooms-whole}
+use Rattle.history.proofs.Holds.{holds}
+use Rattle.history.proofs.ReleaseCount.{HoldsLast}
+use Rattle.history.proofs.ReleaseAnswers.{read-answer, read-output, receive-answer}
+
+module _ (S M : ℕ) (store₀ : List ℕ) (h : History) (past : List ℕ) (slot terminal : ℕ) where
+  -- the state after the history, the store that the next call is lent, and what was accepted for the slot since its opening
+  abbrev pub state : State
+  state = run S M store₀ h .state
+
+  abbrev pub store : List ℕ
+  store = lent (run S M store₀ h) past
+
+  abbrev pub accepted : List Reception
+  accepted = since S M (length (begin S M store₀ .rooms)) slot h
+
+  -- the slot's room in the lent store holds the last accepted bits
+  kept : badState state ≡ false → storeLength state ≤ length store → slot < state .slots → headAt state slot .opened ≡ true
+      → HoldsLast (state .blocks) slot (sizeAtHead state slot) accepted store
+  unfolding newState storeLength sizeAtHead
+  kept sound long below opened = go (badShape S M) refl
+    where
+      w : World
+      w = run S M store₀ h
+
+      go : (b : Bool) → badShape S M ≡ b → HoldsLast (state .blocks) slot (sizeAtHead state slot) accepted store
+      go true e =
+          let none : state .slots ≡ 0 = ap (λ (t : State). t .slots) (heads S M store₀ h ∙ refused-state S M e (length (begin S M store₀ .rooms)) h) in
+          absurd (omega arith)
+      go false e = λ r j l k. lent-at w made (byteOf (state .blocks) slot r j) (there r j l k) ∙ room .last r j l k
+        where
+          made : Made
+          made = record { call = reading slot terminal 0; past = past }
+
+          room : Holds (state .blocks) slot (sizeAtHead state slot) accepted (w .rooms)
+          room =
+              let good = run-good S M e store₀ h in
+              subst₂ (λ (n : ℕ) (t : State). Holds n slot (headAt t slot .size) accepted (w .rooms)) (sym (good .blocks)) (sym (heads S M store₀ h))
+              (holds S M store₀ slot (omega (arith, good .slots)) h (rw (heads S M store₀ h) at opened))
+
+          there : (r j : ℕ) → r < blocks (sizeAtHead state slot + 24) → j < perBlock → byteOf (state .blocks) slot r j < length (w .rooms)
+          there r j l k =
+              let fits = open-size state sound slot below opened .1 in
+              omega (arith, rooms-whole w made long, room-within (state .slots) (state .blocks) slot below, byte-in-room (state .blocks) slot r j (omega arith) k)
+
+  -- a has as many bits as the slot is open for, and all that was accepted since the opening are true transmissions of it
+  module _ (a : List ℕ) (bits : AreBits a) (size-is : sizeAtHead state slot ≡ length a) (true-all : AllTrue a accepted) where
+    -- a read that is not refused before the room is looked at
+    pub released-iff : (out : List ℕ) → readNumber state (length store) slot terminal (length out) ≡ 0
+        → (readOutcome state store slot terminal (length out)
+        ≡ record { answer = cond (eqb (unsent (length a) accepted) 0) Done (Lacking (unsent (length a) accepted)); state = state })
+        × (readOutput state store slot terminal out ≡ cond (eqb (unsent (length a) accepted) 0) (a ++ drop (length a) out) out)
+    released-iff out came =
+        let w = reads state (length store) slot terminal (length out) came in
+        let held = rw size-is at (kept (w .sound) (w .long) (w .below) (w .opened)) in (
+          read-answer state store slot terminal a bits size-is accepted true-all held (length out) came,
+          read-output state store slot terminal a bits size-is accepted true-all held out came,
+        )
+
+    -- one more true transmission, accepted
+    pub received-count : (x : Reception) → True a x → receiveNumber state (length store) slot terminal (x .Q) (x .N) (x .version) (x .bits) ≡ 0
+        → receiveOutcome state slot terminal (x .Q) (x .N) (x .version) (x .bits) store
+        ≡ record { answer = Heard (unsent (length a) (x ∷ accepted)); state = state }
+    received-count x true-one came =
+        let w = receives state (length store) slot terminal (x .Q) (x .N) (x .version) (x .bits) came in
+        let held = rw size-is at (kept (w .sound) (w .long) (w .below) (w .opened)) in
+        receive-answer state store slot terminal a bits size-is accepted true-all held x true-one came

@@ -1,0 +1,127 @@
+-- What Read and Receive answer over a room that holds the last bits of true transmissions, demand 3: the block exactly when nothing is unsent, else how many data places are.
+-- Assumes nothing.
+use mathlib.Core.Path.{_≡_, refl, _∙_, ap, ap₂}
+use mathlib.Core.Bool.{Bool, true, false, cond, not}
+use mathlib.Core.List.{List, _∷_, _++_}
+use Prim.Native.Nat.{ℕ, _+_, _<_}
+use native.Mathlib.Omega.{arith}
+use lib.Dec.{eqb}
+use lib.ListN.{length, getD, drop}
+use borrow.Author.Tests.{eq-eqb, eqb-true}
+use Rattle.segmentation.specs.Sizes.{badSize}
+use Rattle.turbo.proofs.Encoder.{AllBits}
+use Rattle.slots.specs.declared.Answer.{Answer}
+use Rattle.slots.specs.declared.Answer.the-variants.{Done, Heard, Lacking, Refused}
+use Rattle.slots.specs.declared.Outcome.{Outcome}
+use Rattle.slots.specs.declared.State.{State}
+use Rattle.slots.specs.State.{storeLength}
+use Rattle.slots.specs.Room.{byteOf}
+use Rattle.slots.specs.Reception.{received}
+use Rattle.slots.specs.Reading.{lacking, heardBlock}
+use Rattle.slots.specs.Answers.{unlessRefused}
+use Rattle.slots.specs.Calls.{sizeAtHead, receiveNumber, receiveStore, receiveOutcome, readNumber, lackingAt, wrongAt, readOutcome, released, readOutput}
+use Rattle.slots.proofs.RoomLaws.{room-within, byte-in-room}
+use Rattle.slots.proofs.HeadLaws.{open-size}
+use Rattle.slots.proofs.Acceptance.{receives, reads}
+use Rattle.history.specs.Calls.{Reception}
+use Rattle.history.specs.Accepted.{lastBit}
+use Rattle.history.specs.Sent.{True, AllTrue, unsent}
+use Rattle.history.proofs.Received.{brought, received-here}
+use Rattle.history.proofs.Others.{reception-fits}
+use Rattle.history.proofs.ReleaseCount.{HoldsLast, count}
+use Rattle.history.proofs.ReleaseSequence.{right-check, true-block}
+
+-- an accepted call's outcome
+accepted-is : (number : ℕ) (state : State) (o : Outcome) → number ≡ 0 → unlessRefused number state o ≡ o
+unfolding unlessRefused
+accepted-is number state o e = ap (λ (b : Bool). cond b o (record { answer = Refused number; state = state })) (eq-eqb number 0 e)
+
+-- a slot that is open for a block of as many bits as a has, and its room holds the last bits of true transmissions of a
+module _ (state : State) (store : List ℕ) (slot terminal : ℕ) (a : List ℕ) (bits : AllBits a) (size-is : sizeAtHead state slot ≡ length a)
+    (xs : List Reception) (true-all : AllTrue a xs) (kept : HoldsLast (state .blocks) slot (length a) xs store) where
+  module _ (size : ℕ) (came : readNumber state (length store) slot terminal size ≡ 0) where
+    admitted : badSize (length a) ≡ false
+    admitted =
+        let w = reads state (length store) slot terminal size came in
+        rw size-is at (open-size state (w .sound) slot (w .below) (w .opened) .0)
+
+    lacking-is : lackingAt state slot store ≡ unsent (length a) xs
+    unfolding lackingAt
+    lacking-is = rw size-is (count a admitted bits xs true-all (state .blocks) slot store kept)
+
+    right-at : unsent (length a) xs ≡ 0 → wrongAt state slot store ≡ false
+    unfolding wrongAt
+    right-at e = rw size-is (right-check a admitted bits xs true-all (state .blocks) slot store kept e)
+
+    -- Read answers Done exactly when nothing is unsent, and else the count
+    pub read-answer : readOutcome state store slot terminal size
+        ≡ record { answer = cond (eqb (unsent (length a) xs) 0) Done (Lacking (unsent (length a) xs)); state = state }
+    unfolding readOutcome
+    read-answer =
+        accepted-is (readNumber state (length store) slot terminal size) state _ came
+        ∙ ap (λ (x : Answer). record { answer = x; state = state })
+        (ap (λ (n : ℕ). cond (eqb n 0) (cond (wrongAt state slot store) (Refused 12) Done) (Lacking n)) lacking-is
+        ∙ go (eqb (unsent (length a) xs) 0) refl)
+      where
+        go : (t : Bool) → eqb (unsent (length a) xs) 0 ≡ t
+            → cond t (cond (wrongAt state slot store) (Refused 12) Done) (Lacking (unsent (length a) xs)) ≡ cond t Done (Lacking (unsent (length a) xs))
+        go true e = ap (λ (b : Bool). cond b (Refused 12) Done) (right-at (eqb-true (unsent (length a) xs) 0 e))
+        go false e = refl
+
+  -- the output has the block in front exactly when nothing is unsent, and else is as it was
+  pub read-output : (out : List ℕ) → readNumber state (length store) slot terminal (length out) ≡ 0
+      → readOutput state store slot terminal out ≡ cond (eqb (unsent (length a) xs) 0) (a ++ drop (length a) out) out
+  unfolding readOutput released
+  read-output out came =
+      ap (λ (b : Bool). cond b (heardBlock (state .blocks) slot (sizeAtHead state slot) store ++ drop (sizeAtHead state slot) out) out) released-is
+      ∙ output (eqb (unsent (length a) xs) 0) refl
+    where
+      release : (t : Bool) → eqb (unsent (length a) xs) 0 ≡ t → cond t (not (wrongAt state slot store)) false ≡ t
+      release true e = ap not (right-at (length out) came (eqb-true (unsent (length a) xs) 0 e))
+      release false e = refl
+
+      released-is : released state store slot terminal (length out) ≡ eqb (unsent (length a) xs) 0
+      released-is =
+          ap (λ (b : Bool). cond b (cond (eqb (lackingAt state slot store) 0) (not (wrongAt state slot store)) false) false)
+          (eq-eqb (readNumber state (length store) slot terminal (length out)) 0 came)
+          ∙ ap (λ (n : ℕ). cond (eqb n 0) (not (wrongAt state slot store)) false) (lacking-is (length out) came)
+          ∙ release (eqb (unsent (length a) xs) 0) refl
+
+      block : unsent (length a) xs ≡ 0 → heardBlock (state .blocks) slot (sizeAtHead state slot) store ≡ a
+      block e = rw size-is (true-block a (admitted (length out) came) bits xs true-all (state .blocks) slot store kept e)
+
+      output : (t : Bool) → eqb (unsent (length a) xs) 0 ≡ t
+          → cond t (heardBlock (state .blocks) slot (sizeAtHead state slot) store ++ drop (sizeAtHead state slot) out) out
+          ≡ cond t (a ++ drop (length a) out) out
+      output true e = ap₂ (λ (l : List ℕ) (n : ℕ). l ++ drop n out) (block (eqb-true (unsent (length a) xs) 0 e)) size-is
+      output false e = refl
+
+  module _ (x : Reception) (true-one : True a x)
+      (came : receiveNumber state (length store) slot terminal (x .Q) (x .N) (x .version) (x .bits) ≡ 0) where
+    -- the room after the reception holds the last bits with it
+    received-kept : HoldsLast (state .blocks) slot (length a) (x ∷ xs) (receiveStore state slot terminal (x .Q) (x .N) (x .version) (x .bits) store)
+    unfolding receiveStore lastBit storeLength
+    received-kept r j h l =
+        let w = receives state (length store) slot terminal (x .Q) (x .N) (x .version) (x .bits) came in
+        let fits = rw size-is at (reception-fits state (length store) slot terminal x came) in
+        let there : byteOf (state .blocks) slot r j < length store =
+        omega (arith, w .long, room-within (state .slots) (state .blocks) slot (w .below), byte-in-room (state .blocks) slot r j (omega arith) l) in
+        ap (λ (b : Bool). getD (cond b (received (state .blocks) slot (sizeAtHead state slot) (x .Q) (x .N) (x .version) (x .bits) store) store) (byteOf (state .blocks) slot r j) 0)
+        (eq-eqb (receiveNumber state (length store) slot terminal (x .Q) (x .N) (x .version) (x .bits)) 0 came)
+        ∙ ap (λ (A : ℕ). getD (received (state .blocks) slot A (x .Q) (x .N) (x .version) (x .bits) store) (byteOf (state .blocks) slot r j) 0) size-is
+        ∙ received-here (state .blocks) slot (length a) (x .Q) (x .N) (x .version) (x .bits) store (fits .1) r j h l there
+        ∙ ap (brought (length a + 24) (x .Q) (x .N) (x .version) (x .bits) r j) (kept r j h l)
+
+    -- Receive answers how many data places are unsent, the reception among the transmissions
+    pub receive-answer : receiveOutcome state slot terminal (x .Q) (x .N) (x .version) (x .bits) store
+        ≡ record { answer = Heard (unsent (length a) (x ∷ xs)); state = state }
+    unfolding receiveOutcome
+    receive-answer =
+        accepted-is (receiveNumber state (length store) slot terminal (x .Q) (x .N) (x .version) (x .bits)) state _ came
+        ∙ ap (λ (n : ℕ). record { answer = Heard n; state = state }) counted
+      where
+        counted : lacking (state .blocks) slot (sizeAtHead state slot) (receiveStore state slot terminal (x .Q) (x .N) (x .version) (x .bits) store) ≡ unsent (length a) (x ∷ xs)
+        counted =
+            let w = receives state (length store) slot terminal (x .Q) (x .N) (x .version) (x .bits) came in
+            let good : badSize (length a) ≡ false = rw size-is at (open-size state (w .sound) slot (w .below) (w .opened) .0) in
+            rw size-is (count a good bits (x ∷ xs) (true-one, true-all) (state .blocks) slot _ received-kept)

@@ -1,0 +1,123 @@
+-- What a room holds when every data place was sent by true transmissions, demand 3: the block with its transport check, bit for bit.
+-- Assumes nothing.
+use mathlib.Core.Path.{_≡_, refl, sym, _∙_, ap, ap₂}
+use mathlib.Core.Bool.{Bool, true, false, cond, not}
+use mathlib.Core.List.{List, _++_}
+use Prim.Native.Nat.{ℕ, zero, suc, _+_, _-_, _≤_, _<_}
+use native.Mathlib.Omega.{arith}
+use lib.Dec.{eqb·suc-zero}
+use lib.ListN.{length, getD, take, drop, length-drop, take-append-drop, drop-of-length-le}
+use lib.Seq.{ext-getD, length-take-le, getD-take, getD-drop, drop-drop, take-at}
+use borrow.Author.Tests.{eq-eqb}
+use Rattle.laws.specs.Lists.{tabFrom}
+use Rattle.laws.proofs.Tab.{length-tabFrom, getD-tabFrom}
+use Rattle.check_bits.specs.CheckBits.{crc, checkBits, gCRC24A}
+use Rattle.check_bits.proofs.Carried.{checked}
+use Rattle.segmentation.specs.Segmentation.{checkLength, blocks, filler, sizeOf, fillerOf}
+use Rattle.segmentation.specs.Sizes.{badSize}
+use Rattle.segmentation.specs.CodeBlocks.{withCheck, takenBefore, codeBlock}
+use Rattle.segmentation.proofs.Segmentation.{in-range}
+use Rattle.segmentation.proofs.CodeBlocks.{taken-all, taken-within}
+use Rattle.turbo.proofs.Encoder.{AllBits}
+use Rattle.rate_matching.specs.Places.{placeNumber}
+use Rattle.codeword.proofs.Data.{filler-within, filler-over, carries}
+use Rattle.codeword.proofs.Taken.{length-withCheck}
+use Rattle.slots.specs.Room.{unheard}
+use Rattle.slots.specs.Reading.{keptAt, heardIn, heardFrom, heardSequence, wrongCheck, heardBlock}
+use Rattle.history.specs.Calls.{Reception}
+use Rattle.history.specs.Sent.{AllTrue, sent, notSent, unsentIn, unsent}
+use Rattle.history.proofs.Sums.{sumFrom-none}
+use Rattle.history.proofs.ReleaseCount.{HoldsLast, kept-data}
+
+-- ---- nothing unsent
+
+sent-yes : (s : Bool) → _≡_ {A = ℕ} (cond s 0 1) 0 → s ≡ true
+sent-yes true e = refl
+sent-yes false e = absurd (omega arith)
+
+-- each data place was sent
+all-sent : (A : ℕ) (xs : List Reception) → unsent A xs ≡ 0
+    → (r i : ℕ) → r < blocks (A + 24) → fillerOf (A + 24) r ≤ i → i < sizeOf (A + 24) r
+    → sent A xs r (placeNumber (sizeOf (A + 24) r + 4) 0 i) ≡ true
+unfolding unsent unsentIn notSent
+all-sent A xs e r i h l m =
+    sent-yes _
+    (sumFrom-none (notSent A xs r) (fillerOf (A + 24) r) (sizeOf (A + 24) r - fillerOf (A + 24) r)
+    (sumFrom-none (unsentIn A xs) 0 (blocks (A + 24)) e r (omega arith) (omega arith)) i l (omega arith))
+
+-- ---- the bits of b that each code block carries, in order
+
+module _ (B : ℕ) (low : 24 ≤ B) (high : B ≤ 30600) (b : List ℕ) (long : length b ≡ B) where
+  -- where the bits of b begin that code block r carries
+  abbrev begins : ℕ → ℕ
+  begins r = takenBefore B r + fillerOf B r - filler B
+
+  -- how many they are
+  abbrev many : ℕ → ℕ
+  many r = sizeOf B r - checkLength B - fillerOf B r
+
+  begins-next : (r : ℕ) → begins (suc r) ≡ begins r + many r
+  unfolding takenBefore fillerOf
+  begins-next r = rw (eqb·suc-zero r) (omega (arith, filler-over B low high r, filler-within B low high r))
+
+  module _ (M slot : ℕ) (store : List ℕ)
+      (held : (r i : ℕ) → r < blocks B → fillerOf B r ≤ i → i < sizeOf B r → keptAt M slot B store r 0 i ≡ getD (codeBlock b r) i 0) where
+    heard-in : (r : ℕ) → r < blocks B → heardIn M slot B store r ≡ take (many r) (drop (begins r) b)
+    unfolding heardIn
+    heard-in r h =
+        ext-getD 0 (tabFrom (fillerOf B r) (many r) (keptAt M slot B store r 0)) (take (many r) (drop (begins r) b))
+        (length-tabFrom (fillerOf B r) (many r) (keptAt M slot B store r 0) ∙ sym (length-take-le (many r) (drop (begins r) b) enough))
+        (λ k l. entry k (rw length-tabFrom at l))
+      where
+        enough : many r ≤ length (drop (begins r) b)
+        enough = rw (length-drop, long) (omega (arith, taken-within B high r h, filler-over B low high r, filler-within B low high r))
+
+        entry : (k : ℕ) → k < many r → getD (tabFrom (fillerOf B r) (many r) (keptAt M slot B store r 0)) k 0 ≡ getD (take (many r) (drop (begins r) b)) k 0
+        entry k l =
+            let place : takenBefore B r + (fillerOf B r + k) - filler B ≡ begins r + k = omega (arith, filler-over B low high r) in
+            getD-tabFrom (fillerOf B r) (many r) (keptAt M slot B store r 0) k 0 l
+            ∙ held r (fillerOf B r + k) h (omega arith) (omega arith)
+            ∙ carries B low high b long r h (fillerOf B r + k) (omega arith) (omega arith)
+            ∙ ap (λ (i : ℕ). getD b i 0) place
+            ∙ sym (getD-take (many r) (drop (begins r) b) k 0 l ∙ getD-drop (begins r) b k 0)
+
+    heard-from : (r n : ℕ) → r + n ≡ blocks B → heardFrom M slot B store r n ≡ drop (begins r) b
+    unfolding heardFrom
+    heard-from r zero e =
+        let last : r ≡ blocks B = omega arith in
+        sym (drop-of-length-le b {i = begins r} (omega (arith, ap (takenBefore B) last, taken-all B high)))
+    heard-from r (suc n) e =
+        ap₂ _++_ (heard-in r (omega arith))
+        (heard-from (suc r) n (omega arith) ∙ ap (λ (k : ℕ). drop k b) (begins-next r) ∙ sym (drop-drop (many r) (begins r) b))
+        ∙ take-append-drop (many r) (drop (begins r) b)
+
+    -- all of b
+    heard-all : heardFrom M slot B store 0 (blocks B) ≡ b
+    unfolding takenBefore fillerOf
+    heard-all =
+        let front : 0 + filler B - filler B ≡ 0 = omega arith in
+        heard-from 0 (blocks B) (omega arith) ∙ ap (λ (k : ℕ). drop k b) front
+
+-- ---- the room
+
+module _ (a : List ℕ) (admitted : badSize (length a) ≡ false) (bits : AllBits a) (xs : List Reception) (true-all : AllTrue a xs)
+    (M slot : ℕ) (store : List ℕ) (kept : HoldsLast M slot (length a) xs store) (all : unsent (length a) xs ≡ 0) where
+  -- what is heard is the block with its transport check
+  pub sequence : heardSequence M slot (length a) store ≡ withCheck a
+  unfolding heardSequence
+  sequence =
+      let range = in-range (length a) admitted in
+      heard-all (length a + 24) (omega arith) (omega arith) (withCheck a) (length-withCheck a) M slot store
+      (λ r i h l m.
+      kept-data a admitted bits xs true-all M slot store kept r i h l m
+      ∙ ap (λ (s : Bool). cond s (getD (codeBlock (withCheck a) r) i 0) unheard) (all-sent (length a) xs all r i h l m))
+
+  -- so the transport check is right
+  pub right-check : wrongCheck M slot (length a) store ≡ false
+  unfolding wrongCheck withCheck
+  right-check = ap not (eq-eqb _ 0 (ap (crc 24 gCRC24A) sequence ∙ checked 24 gCRC24A a))
+
+  -- and the block is the one that was sent
+  pub true-block : heardBlock M slot (length a) store ≡ a
+  unfolding heardBlock withCheck
+  true-block = ap (take (length a)) sequence ∙ take-at a (checkBits 24 gCRC24A a) (length a) refl
