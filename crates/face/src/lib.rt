@@ -1,16 +1,20 @@
 // The face to C: what include/zemrukste.h declares, thin over the proved libraries.
-use segmentation::SizesAnswer;
-
 ghost use mathlib.Core.Path.{_≡_};
-ghost use mathlib.Core.List.{_++_};
-ghost use Prim.Native.Nat.{_≤_};
-ghost use lib.ListN.{length, drop};
+ghost use Prim.Native.Nat.{_*_};
+ghost use lib.ListN.{length};
 ghost use Rattle.codeword.specs.Build.{buildNumber, buildOutput};
 ghost use Rattle.face.specs.Face.{fourBytes, inBytes, sizesNumber, sizesBytes};
 
 // Build: 0, or the number of the refusal, which writes nothing.
 #[no_mangle]
-pub extern "C" fn zemrukste_build(block: &[u8], q: usize, n: usize, version: usize, g: usize, out: &mut [u8]) -> u32
+pub extern "C" fn zemrukste_build(
+    block: &[u8],
+    q: usize,
+    n: usize,
+    version: usize,
+    g: usize,
+    out: &mut [u8],
+) -> u32
     ensures number { λ r. ⌜ r ≡ buildNumber (now (block .entry)) q n version g (length (now (out .entry))) ⌝ }
     ensures output { λ r. ⌜ now (out .exit) ≡ buildOutput (now (block .entry)) q n version g (now (out .entry)) ⌝ }
 {
@@ -23,9 +27,10 @@ pub extern "C" fn zemrukste_sizes(a: usize, out: &mut [u8]) -> u32
     ensures number { λ r. ⌜ r ≡ sizesNumber a (length (now (out .entry))) ⌝ }
     ensures output { λ r. ⌜ now (out .exit) ≡ sizesBytes a (now (out .entry)) ⌝ }
 {
-    let SizesAnswer::Given(s) = segmentation::sizes_for(a) else {
+    let s = segmentation::segments_for(a);
+    if s.blocks == 0 {
         return 1;
-    };
+    }
     if out.len() < 24 {
         return 5;
     }
@@ -35,13 +40,13 @@ pub extern "C" fn zemrukste_sizes(a: usize, out: &mut [u8]) -> u32
 }
 
 // The numbers one after another, four bytes each.
-fn put_numbers(numbers: &[usize; 6], out: &mut [u8])
-    requires { ⌜ 24 ≤ length (now out) ⌝ }
-    ensures { λ r. ⌜ now (out .exit) ≡ inBytes (now (numbers .entry)) ++ drop 24 (now (out .entry)) ⌝ }
+fn put_numbers(numbers: &[usize], out: &mut [u8])
+    requires { ⌜ 4 * length (now numbers) ≡ length (now out) ⌝ }
+    ensures { λ r. ⌜ now (out .exit) ≡ inBytes (now (numbers .entry)) ⌝ }
 {
     let mut i = 0;
     let mut at = 0;
-    while i < 6 {
+    while i < numbers.len() {
         let end = at + 4;
         put_number(numbers[i], &mut out[at..end]);
         at = end;

@@ -1,0 +1,60 @@
+-- `zemrukste_sizes` meets its contract: the two refusals, and the six numbers in the first 24 bytes.
+-- Assumes nothing.
+use borrow.Author.Needs.{needs}
+use mathlib.Core.Path.{_≡_, sym, _∙_}
+use lib.ListN.{length}
+use lib.Seq.{length-take-le}
+use Rattle.laws.proofs.Parts.{front-count}
+use Rattle.codeword.proofs.Segmented.{Sized, sized, unsized}
+use Rattle.face.proofs.Bytes.{refused-1, refused-5, accepted}
+use Rattle.face.proofs.zemrukste_sizes.Statement.{statement}
+use Rattle.face.proofs.zemrukste_sizes.Tie as tie
+
+-- past the first test the size is in range
+in-range : (c : tie.Else1) → Sized (c .before .before .before .before .args .a) (c .before .before .segments-for .result)
+in-range c = sized _ _ (c .before .before .segments-for .ensures) (c .if1 .left)
+
+segments-for-requires : tie.Need-segments-for-requires
+segments-for-requires c κs = search needs
+
+returns : tie.Need-returns
+returns c = refused-1 _ _ (unsized _ _ (c .before .before .segments-for .ensures) (c .if1 .taken))
+
+returns-2 : tie.Need-returns-2
+returns-2 c = refused-5 _ _ (in-range (c .before) .size) (c .if2 .taken)
+
+slice-aggregate-put-numbers : tie.Need-slice-aggregate-put-numbers
+slice-aggregate-put-numbers c = search needs
+
+slice-relend-prefix-put-numbers : tie.Need-slice-relend-prefix-put-numbers
+slice-relend-prefix-put-numbers c = search needs
+
+slice-aggregate-put-numbers-2 : tie.Need-slice-aggregate-put-numbers-2
+slice-aggregate-put-numbers-2 c = front-count 24 (c .before .before .before .before .before .before .before .args .out .now) (c .before .before .if2 .left)
+
+put-numbers-requires : tie.Need-put-numbers-requires
+put-numbers-requires c κs =
+    sym (length-take-le 24 (c .before .before .before .before .before .before .before .args .out .now) (c .before .before .if2 .left))
+
+same-length : tie.Need-same-length
+same-length c = search needs
+
+returns-3 : tie.Need-returns-3
+returns-3 c =
+    let put = c .before .before in
+    let enough = put .before .before .before in
+    accepted _ _ (in-range (enough .before) .size) (enough .if2 .left) (in-range (enough .before) .told) (put .put-numbers .ensures)
+
+pub zemrukste-sizes-spec : {M : Type 1} → statement M
+zemrukste-sizes-spec =
+    tie.close
+    (tie.spec
+    segments-for-requires
+    returns
+    returns-2
+    slice-aggregate-put-numbers
+    slice-relend-prefix-put-numbers
+    slice-aggregate-put-numbers-2
+    put-numbers-requires
+    same-length
+    returns-3)
