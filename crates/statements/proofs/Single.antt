@@ -1,0 +1,40 @@
+-- Every statement of a public call admits a single outcome: one law for all of them (01, 'How firm the statements must be').
+-- Assumes nothing.
+use mathlib.Core.Path.{_≡_, sym, _∙_}
+use mathlib.Core.List.{List}
+use Prim.Native.Nat.{ℕ}
+use Rattle.slots.specs.declared.State.{State}
+use Rattle.statements.specs.Outcome.{Given, Gives, SingleOutcome}
+use Rattle.statements.specs.Calls.{SizesStatement, BuildStatement, SizesToCStatement, NewStatement, OpenStatement, ReceiveStatement, ReadStatement, StreamsStatement, CloseStatement}
+
+-- the law: what an answer and the bytes afterwards are said to be, they are
+pub single : {A B : Type 0} (answer : A) (after : B) → SingleOutcome (Gives answer after)
+single answer after x y p q =
+    λ i. record { answer = (p .answers ∙ sym (q .answers)) i; after = (p .leaves ∙ sym (q .leaves)) i }
+
+pub sizes-single : (A : ℕ) → SingleOutcome (SizesStatement A)
+sizes-single A = single _ _
+
+pub build-single : (a : List ℕ) (Q N v G : ℕ) (out : List ℕ) → SingleOutcome (BuildStatement a Q N v G out)
+build-single a Q N v G out = single _ _
+
+pub sizes-to-c-single : (A : ℕ) (out : List ℕ) → SingleOutcome (SizesToCStatement A out)
+sizes-to-c-single A out = single _ _
+
+pub new-single : (S M : ℕ) → SingleOutcome (NewStatement S M)
+new-single S M = single _ _
+
+pub open-single : (state : State) (slot terminal A : ℕ) (store : List ℕ) → SingleOutcome (OpenStatement state slot terminal A store)
+open-single state slot terminal A store = single _ _
+
+pub receive-single : (state : State) (slot terminal Q N v : ℕ) (bits store : List ℕ) → SingleOutcome (ReceiveStatement state slot terminal Q N v bits store)
+receive-single state slot terminal Q N v bits store = single _ _
+
+pub read-single : (state : State) (slot terminal : ℕ) (store out : List ℕ) → SingleOutcome (ReadStatement state slot terminal store out)
+read-single state slot terminal store out = single _ _
+
+pub streams-single : (state : State) (slot terminal r : ℕ) (store out : List ℕ) → SingleOutcome (StreamsStatement state slot terminal r store out)
+streams-single state slot terminal r store out = single _ _
+
+pub close-single : (state : State) (slot terminal : ℕ) → SingleOutcome (CloseStatement state slot terminal)
+close-single state slot terminal = single _ _

@@ -1,0 +1,46 @@
+-- The statements of the public calls, as their contracts put them: the answer, and every lent byte afterwards.
+-- Assumes nothing.
+use mathlib.Core.List.{List}
+use Prim.Native.Nat.{ℕ}
+use lib.ListN.{length}
+use Rattle.segmentation.specs.declared.SizesAnswer.{SizesAnswer}
+use Rattle.segmentation.specs.Sizes.{sizesAnswer}
+use Rattle.codeword.specs.Build.{buildNumber, buildOutput}
+use Rattle.face.specs.Face.{sizesNumber, sizesBytes}
+use Rattle.slots.specs.declared.State.{State}
+use Rattle.slots.specs.declared.Outcome.{Outcome}
+use Rattle.slots.specs.Calls.{newOutcome, openOutcome, openStore, receiveOutcome, receiveStore, readOutcome, readOutput, streamsOutcome, streamsOutput, closeOutcome}
+use Rattle.statements.specs.Outcome.{Given, Gives}
+
+-- Sizes and New lend nothing
+abbrev pub SizesStatement : ℕ → Given SizesAnswer (Unit {0}) → Type 0
+SizesStatement A = Gives (sizesAnswer A) tt
+
+abbrev pub BuildStatement : List ℕ → ℕ → ℕ → ℕ → ℕ → List ℕ → Given ℕ (List ℕ) → Type 0
+BuildStatement a Q N v G out = Gives (buildNumber a Q N v G (length out)) (buildOutput a Q N v G out)
+
+-- zemrukste_sizes; zemrukste_build is Build
+abbrev pub SizesToCStatement : ℕ → List ℕ → Given ℕ (List ℕ) → Type 0
+SizesToCStatement A out = Gives (sizesNumber A (length out)) (sizesBytes A out)
+
+abbrev pub NewStatement : ℕ → ℕ → Given Outcome (Unit {0}) → Type 0
+NewStatement S M = Gives (newOutcome S M) tt
+
+abbrev pub OpenStatement : State → ℕ → ℕ → ℕ → List ℕ → Given Outcome (List ℕ) → Type 0
+OpenStatement state slot terminal A store =
+    Gives (openOutcome state (length store) slot terminal A) (openStore state slot A store)
+
+abbrev pub ReceiveStatement : State → ℕ → ℕ → ℕ → ℕ → ℕ → List ℕ → List ℕ → Given Outcome (List ℕ) → Type 0
+ReceiveStatement state slot terminal Q N v bits store =
+    Gives (receiveOutcome state slot terminal Q N v bits store) (receiveStore state slot terminal Q N v bits store)
+
+abbrev pub ReadStatement : State → ℕ → ℕ → List ℕ → List ℕ → Given Outcome (List ℕ) → Type 0
+ReadStatement state slot terminal store out =
+    Gives (readOutcome state store slot terminal (length out)) (readOutput state store slot terminal out)
+
+abbrev pub StreamsStatement : State → ℕ → ℕ → ℕ → List ℕ → List ℕ → Given Outcome (List ℕ) → Type 0
+StreamsStatement state slot terminal r store out =
+    Gives (streamsOutcome state (length store) slot terminal r (length out)) (streamsOutput state store slot terminal r out)
+
+abbrev pub CloseStatement : State → ℕ → ℕ → Given Outcome (Unit {0}) → Type 0
+CloseStatement state slot terminal = Gives (closeOutcome state slot terminal) tt
