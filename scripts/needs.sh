@@ -21,13 +21,9 @@ command -v rt > /dev/null 2>&1 || die "the Rattle kit is not installed: rt is mi
 need cargo cargo
 need cmp diffutils
 
-# Rattle compiles for x86-64. x86 PROGRAM runs such a program here: under the kit's emulator where this is no x86-64 machine.
+# Rattle compiles for x86-64. "${x86[@]}" PROGRAM runs such a program here with the kit's loader and C library, under the kit's
+# emulator where this is no x86-64 machine.
 kit=${RATTLE_HOME:-$(dirname "$(dirname "$(readlink -f "$(command -v rt)")")")}
 toolchain=$kit/on/$(uname -m)/toolchain
-x86() {
-    if [ "$(uname -m)" = x86_64 ]; then
-        "$@"
-    else
-        "$toolchain/bin/qemu-x86_64" "$toolchain/lib/ld-linux-x86-64.so.2" --library-path "$toolchain/lib" "$@"
-    fi
-}
+x86=("$toolchain/lib/ld-linux-x86-64.so.2" --library-path "$toolchain/lib")
+[ "$(uname -m)" = x86_64 ] || x86=("$toolchain/bin/qemu-x86_64" "${x86[@]}")

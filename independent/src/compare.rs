@@ -6,7 +6,7 @@ use crate::codeword;
 use crate::rate;
 use crate::sizes;
 use crate::protocol::{Answer, Call, Request, GUARD};
-use std::io::{BufReader, BufWriter, ErrorKind, Write};
+use std::io::{BufReader, BufWriter, ErrorKind, IsTerminal, Write};
 use std::process::{Child, ChildStdin, Command, Stdio};
 use std::thread;
 use std::time::{Duration, Instant};
@@ -14,7 +14,11 @@ use std::time::{Duration, Instant};
 /// Random builds if nothing else is said.
 pub const RANDOM_BUILDS: usize = 20_000;
 
-const BETWEEN_PROGRESS: Duration = Duration::from_millis(100);
+/// How long a progress line stands before the next: a log gets few of them.
+fn between_progress() -> Duration {
+    Duration::from_millis(if std::io::stderr().is_terminal() { 100 } else { 5_000 })
+}
+
 
 pub struct Options {
     pub seed: u64,
@@ -154,7 +158,7 @@ impl Report<'_> {
                 self.stage(case, expected.number);
             }
         }
-        if self.shown.elapsed() >= BETWEEN_PROGRESS {
+        if self.shown.elapsed() >= between_progress() {
             self.shown = Instant::now();
             self.progress();
         }
