@@ -4,7 +4,7 @@
 //! One module a clause, in the order of the clauses. Each transcribes the loops of the
 //! standard as they stand there; nothing is made fast at the cost of that likeness. The
 //! slots of 01 stand on them. `fast` is Build again with speed in mind, held to the literal
-//! one by the tests; the last four modules compare another program with this one.
+//! one by the tests; the modules after it compare another program with this one.
 //!
 //! A bit is one byte, 0 or 1. A place that carries no bit (`<NULL>` in the standard:
 //! filler and dummies) is `None`.
@@ -24,3 +24,5 @@ pub mod protocol; // how a bridge to another program is asked and answers
 pub mod cases; // what it is asked
 pub mod compare; // asks it and compares
 pub mod stub; // a bridge to this program, sound or with a planted fault
+#[cfg(feature = "linked")]
+pub mod bench; // Build timed beside the proved library

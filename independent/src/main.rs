@@ -29,6 +29,12 @@ independent compare [--seed N] [--cases N] [--every N] [--case N] COMMAND...
     --case N   send only case N
 independent bridge-stub [--fault NAME]
     a bridge to this program itself, to try compare; the faults are in src/stub.rs
+independent bench [--rounds N] [--only NAME --calls N] [A:G]...
+    times Build of the proved library, of the fast program and of the literal one, least
+    of the rounds; needs the library linked, as scripts/bench does
+    --rounds N   15 if not given
+    --only NAME  only N untimed calls of rattle, fast or literal, for a profiler
+    A:G          the rows, instead of the usual ones
 independent help
     this text
 ";
@@ -54,6 +60,7 @@ fn run(words: &[&str]) -> Result<ExitCode, String> {
     match words {
         ["compare", rest @ ..] => return compare_status(rest),
         ["bridge-stub", rest @ ..] => bridge_stub(rest)?,
+        ["bench", rest @ ..] => bench(rest)?,
         _ => print(&answer(words)?)?,
     }
     Ok(ExitCode::SUCCESS)
@@ -95,6 +102,37 @@ fn bridge_stub(words: &[&str]) -> Result<(), String> {
     };
     let ended = stub::run(io::stdin(), io::stdout(), fault);
     ended.map_err(|error| format!("bridge-stub: {error}"))
+}
+
+#[cfg(not(feature = "linked"))]
+fn bench(_: &[&str]) -> Result<(), String> {
+    Err("bench needs the proved library linked: scripts/bench".into())
+}
+
+#[cfg(feature = "linked")]
+fn bench(words: &[&str]) -> Result<(), String> {
+    use independent::bench::{only, table, usual_rows, Row};
+    let (mut rounds, mut calls, mut one) = (15, 1, None);
+    let mut rest = words;
+    while let [option, value, later @ ..] = rest {
+        match *option {
+            "--rounds" => rounds = number::<u32>(value)?.max(1),
+            "--only" => one = Some(value),
+            "--calls" => calls = number(value)?,
+            _ => break,
+        }
+        rest = later;
+    }
+    let row = |text: &&str| {
+        let (a, g) = text.split_once(':').ok_or(format!("a row is A:G, not {text:?}"))?;
+        Ok(Row { a: number(a)?, g: number(g)? })
+    };
+    let given = rest.iter().map(row).collect::<Result<Vec<Row>, String>>()?;
+    let rows = if given.is_empty() { usual_rows() } else { given };
+    match one {
+        Some(name) => only(name, &rows, calls),
+        None => print(table(&rows, rounds)?.as_bytes()),
+    }
 }
 
 /// What a command prints, or what is wrong with it.

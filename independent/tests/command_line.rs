@@ -75,7 +75,7 @@ fn refusals_are_answers() {
 #[test]
 fn help_names_every_command() {
     let help = printed(&["help"]);
-    let commands = ["sizes", "stage", "compare", "bridge-stub", "help"];
+    let commands = ["sizes", "stage", "compare", "bridge-stub", "bench", "help"];
     assert!(commands.iter().all(|c| help.contains(&format!("independent {c}"))));
 }
 
