@@ -13,3 +13,8 @@ pub mod ReleaseCount
 pub mod ReleaseSequence
 pub mod ReleaseAnswers
 pub mod Release
+pub mod DataPlaces
+pub mod Opening
+pub mod June
+pub mod Parity
+pub mod Promises

@@ -4,3 +4,5 @@ pub mod Accepted
 pub mod Sent
 pub mod Answered
 pub mod Holds
+pub mod After
+pub mod Later

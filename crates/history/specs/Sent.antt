@@ -3,7 +3,7 @@
 use mathlib.Core.Path.{_≡_}
 use mathlib.Core.Bool.{Bool, true, false, cond, _||_}
 use mathlib.Core.List.{List, [], _∷_}
-use Prim.Native.Nat.{ℕ, _+_, _-_}
+use Prim.Native.Nat.{ℕ, _+_, _-_, _≤_, _<_}
 use lib.Dec.{eqb}
 use lib.ListN.{length}
 use Rattle.segmentation.specs.Segmentation.{blocks, sizeOf, fillerOf}
@@ -43,3 +43,26 @@ unsentIn A xs r = sumFrom (notSent A xs r) (fillerOf (A + 24) r) (sizeOf (A + 24
 -- how many data places the receptions have not sent
 unfoldable pub unsent : ℕ → List Reception → ℕ
 unsent A xs = sumFrom (unsentIn A xs) 0 (blocks (A + 24))
+
+-- place i of stream 0 is a data place of code block r of a block of A bits
+pub record DataPlace (A r i : ℕ) : Type 0 where
+  pub block : r < blocks (A + 24)
+  pub past-filler : fillerOf (A + 24) r ≤ i
+  pub below-size : i < sizeOf (A + 24) r
+
+-- one of the receptions has sent data place i of code block r
+abbrev pub sentData : ℕ → List Reception → ℕ → ℕ → Bool
+sentData A xs r i = sent A xs r (placeNumber (sizeOf (A + 24) r + 4) 0 i)
+
+abbrev pub AllSent : ℕ → List Reception → Type 0
+AllSent A xs = (r i : ℕ) → DataPlace A r i → sentData A xs r i ≡ true
+
+abbrev pub NoneSent : ℕ → List Reception → Type 0
+NoneSent A xs = (r i : ℕ) → DataPlace A r i → sentData A xs r i ≡ false
+
+unfoldable pub dataPlacesIn : ℕ → ℕ → ℕ
+dataPlacesIn A r = sizeOf (A + 24) r - fillerOf (A + 24) r
+
+-- how many data places a block of A bits has
+unfoldable pub dataPlaces : ℕ → ℕ
+dataPlaces A = sumFrom (dataPlacesIn A) 0 (blocks (A + 24))

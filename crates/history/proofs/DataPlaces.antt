@@ -1,0 +1,140 @@
+-- How many data places are unsent, demand 3: all of them where none was sent, none exactly where all were; and how many a block has.
+-- Assumes nothing.
+use mathlib.Core.Path.{_≡_, refl, sym, _∙_, ap}
+use mathlib.Core.Bool.{Bool, true, false, cond}
+use mathlib.Core.List.{List}
+use Prim.Native.Nat.{ℕ, zero, suc, _+_, _-_, _*_, _≤_, _<_}
+use native.Mathlib.Nat.{add-zero}
+use native.Mathlib.Decide.{decLe}
+use native.Mathlib.Omega.{arith}
+use borrow.Author.Tests.{ne-eqb}
+use Rattle.segmentation.specs.Segmentation.{blocks, checkLength, sizeOf, filler, fillerOf}
+use Rattle.segmentation.specs.CodeBlocks.{takenBefore}
+use Rattle.segmentation.proofs.Segmentation.{single, several, large-of, blocks-least, size-checks}
+use Rattle.segmentation.proofs.CodeBlocks.{taken-all, filler-first}
+use Rattle.slots.specs.Reading.{sumFrom}
+use Rattle.history.specs.Calls.{Reception}
+use Rattle.history.specs.Sent.{notSent, unsentIn, unsent, DataPlace, sentData, AllSent, NoneSent, dataPlacesIn, dataPlaces}
+use Rattle.history.proofs.Sums.{sumFrom-ext, sumFrom-none}
+
+-- a sum of equal terms
+sumFrom-same : (c i n : ℕ) → sumFrom (λ (k : ℕ). c) i n ≡ n * c
+unfolding sumFrom
+sumFrom-same c i zero = omega arith
+sumFrom-same c i (suc n) = rw (sumFrom-same c (suc i) n) (omega arith)
+
+-- 1 where a place is not sent
+abbrev missing : Bool → ℕ
+missing t = cond t 0 1
+
+-- ---- the count of data places unsent
+
+module _ (A : ℕ) (xs : List Reception) where
+  -- the same of every data place
+  unsent-same : (t : Bool) → ((r i : ℕ) → DataPlace A r i → sentData A xs r i ≡ t) → (r : ℕ) → r < blocks (A + 24)
+      → unsentIn A xs r ≡ dataPlacesIn A r * missing t
+  unfolding unsentIn notSent dataPlacesIn
+  unsent-same t all r l =
+      sumFrom-ext _ (λ (k : ℕ). missing t) (fillerOf (A + 24) r) (sizeOf (A + 24) r - fillerOf (A + 24) r)
+      (λ i g h. ap missing (all r i (record { block = l; past-filler = g; below-size = omega arith })))
+      ∙ sumFrom-same (missing t) (fillerOf (A + 24) r) (sizeOf (A + 24) r - fillerOf (A + 24) r)
+
+  -- none was sent
+  pub unsent-all : NoneSent A xs → unsent A xs ≡ dataPlaces A
+  unfolding unsent dataPlaces
+  unsent-all none = sumFrom-ext _ _ 0 (blocks (A + 24)) (λ r g l. unsent-same false none r (omega arith) ∙ omega arith)
+
+  -- all were
+  pub unsent-none : AllSent A xs → unsent A xs ≡ 0
+  unfolding unsent
+  unsent-none all =
+      sumFrom-ext _ (λ (k : ℕ). 0) 0 (blocks (A + 24)) (λ r g l. unsent-same true all r (omega arith) ∙ omega arith)
+      ∙ sumFrom-same 0 0 (blocks (A + 24))
+      ∙ omega arith
+
+  -- one was not
+  pub unsent-some : (r i : ℕ) → DataPlace A r i → sentData A xs r i ≡ false → unsent A xs ≡ 0 → ⊥
+  unfolding unsent unsentIn notSent
+  unsent-some r i d f z =
+      let block = sumFrom-none _ 0 (blocks (A + 24)) z r (omega arith) (omega arith) in
+      let place = sumFrom-none _ (fillerOf (A + 24) r) (sizeOf (A + 24) r - fillerOf (A + 24) r) block i (d .past-filler) (omega arith) in
+      let one : _≡_ {A = ℕ} 1 0 = sym (ap missing f) ∙ place in
+      omega arith
+
+-- ---- how many data places there are
+
+sumFrom-done : (f : ℕ → ℕ) (i : ℕ) → sumFrom f i 0 ≡ 0
+unfolding sumFrom
+sumFrom-done f i = refl
+
+sumFrom-more : (f : ℕ → ℕ) (i n : ℕ) → sumFrom f i (suc n) ≡ f i + sumFrom f (suc i) n
+unfolding sumFrom
+sumFrom-more f i n = refl
+
+taken-none : (B : ℕ) → takenBefore B 0 ≡ 0
+unfolding takenBefore
+taken-none B = refl
+
+taken-more : (B r : ℕ) → takenBefore B (suc r) ≡ takenBefore B r + (sizeOf B r - checkLength B)
+unfolding takenBefore
+taken-more B r = refl
+
+module _ (A : ℕ) (most : A ≤ 30576) where
+  -- code block 0, and the others
+  in-first : dataPlacesIn A 0 ≡ sizeOf (A + 24) 0 - filler (A + 24)
+  unfolding dataPlacesIn fillerOf
+  in-first = refl
+
+  in-others : (r : ℕ) → 1 ≤ r → dataPlacesIn A r ≡ sizeOf (A + 24) r
+  unfolding dataPlacesIn fillerOf
+  in-others r h = rw (ne-eqb r 0 (λ e. omega arith)) (omega arith)
+
+  from-second : (r n : ℕ) → 1 ≤ r
+      → takenBefore (A + 24) r + sumFrom (dataPlacesIn A) r n ≡ takenBefore (A + 24) (r + n) + n * checkLength (A + 24)
+  from-second r zero h = rw (add-zero r) (omega (arith, sumFrom-done (dataPlacesIn A) r))
+  from-second r (suc n) h =
+      let on : takenBefore (A + 24) (r + suc n) ≡ takenBefore (A + 24) (suc r + n) = ap (takenBefore (A + 24)) (omega arith) in
+      omega (
+        arith,
+        on,
+        from-second (suc r) n (omega arith),
+        sumFrom-more (dataPlacesIn A) r n,
+        taken-more (A + 24) r,
+        in-others r h,
+        size-checks (A + 24) (omega arith) r,
+      )
+
+  -- the bits of the block, its check, and the checks of the code blocks
+  pub data-places : dataPlaces A ≡ A + 24 + blocks (A + 24) * checkLength (A + 24)
+  unfolding dataPlaces
+  data-places = go (blocks (A + 24) - 1) (omega (arith, blocks-least (A + 24) (omega arith)))
+    where
+      go : (n : ℕ) → blocks (A + 24) ≡ suc n → sumFrom (dataPlacesIn A) 0 (blocks (A + 24)) ≡ A + 24 + blocks (A + 24) * checkLength (A + 24)
+      go n e =
+          let whole : takenBefore (A + 24) (1 + n) ≡ filler (A + 24) + (A + 24) = ap (takenBefore (A + 24)) (omega arith) ∙ taken-all (A + 24) (omega arith) in
+          rw e
+          (omega (
+            arith,
+            whole,
+            from-second 1 n (omega arith),
+            sumFrom-more (dataPlacesIn A) 0 n,
+            taken-none (A + 24),
+            taken-more (A + 24) 0,
+            in-first,
+            filler-first (A + 24) (omega arith) (omega arith),
+            size-checks (A + 24) (omega arith) 0,
+          ))
+
+  -- with one code block
+  pub data-places-single : blocks (A + 24) ≡ 1 → dataPlaces A ≡ A + 24
+  data-places-single e = elim (decLe (A + 24) 6144) [
+    | yes h ↦ rw (data-places, single (A + 24) h .1) (omega arith)
+    | no h ↦ let large : 6144 < A + 24 = omega arith in absurd (omega (arith, several (A + 24) large .0))
+  ]
+
+  -- with more
+  pub data-places-several : 1 < blocks (A + 24) → dataPlaces A ≡ A + 24 + 24 * blocks (A + 24)
+  data-places-several h = rw (data-places, several (A + 24) (large-of (A + 24) h) .1) (omega arith)
+
+  pub some-data-places : dataPlaces A ≡ 0 → ⊥
+  some-data-places e = omega (arith, data-places)

@@ -1,0 +1,237 @@
+-- Demand 3 in one place, in its own order: each promise with all its premises, and as its proof the theorem that shows it.
+-- S, M, store₀ and h are any numbers, any bytes and any history; what a history, a state after it and an accepted reception are, specs/ says.
+-- Assumes nothing.
+use mathlib.Core.Path.{_≡_}
+use mathlib.Core.Bool.{true, false, cond}
+use mathlib.Core.List.{List, [], _∷_, _++_}
+use Prim.Native.Nat.{ℕ, _+_, _*_, _≤_, _<_}
+use lib.Dec.{eqb}
+use lib.ListN.{length, drop}
+use Rattle.check_bits.specs.Division.{AreBits}
+use Rattle.segmentation.specs.Segmentation.{blocks}
+use Rattle.slots.specs.declared.Answer.the-variants.{Done, Heard, Lacking}
+use Rattle.slots.specs.declared.State.{State}
+use Rattle.slots.specs.State.{headAt, badShape}
+use Rattle.slots.specs.Answers.{numberOf}
+use Rattle.slots.specs.Calls.{sizeAtHead, receiveNumber, receiveOutcome, readNumber, readOutcome, readOutput, streamsOutput}
+use Rattle.history.specs.Calls.{Reception, Call, opening, receiving, Made, History}
+use Rattle.history.specs.Run.{run}
+use Rattle.history.specs.Answered.{answerTo, slotOf, SameRoom, SameSlot, ownCalls}
+use Rattle.history.specs.Sent.{True, AllTrue, unsent, DataPlace, sentData, AllSent, NoneSent, dataPlaces}
+use Rattle.history.specs.After.{made, stateAfter, roomsAfter, storeAfter, roomsLong, acceptedAfter}
+use Rattle.history.specs.Holds.{Holds}
+use Rattle.history.specs.Later.{Undisturbed, acceptedIn, Withheld}
+use Rattle.history.proofs.State.{heads}
+use Rattle.history.proofs.Holds as holding
+use Rattle.history.proofs.Heads as heading
+use Rattle.history.proofs.Others as others
+use Rattle.history.proofs.Depends as depending
+use Rattle.history.proofs.Own as owning
+use Rattle.history.proofs.Release as releasing
+use Rattle.history.proofs.DataPlaces as counting
+use Rattle.history.proofs.June as incident
+use Rattle.history.proofs.Parity as parity
+
+-- ---- what a place holds
+
+-- The room of an open slot has, for each circle place of each of its code blocks, the last bit accepted since that opening, and unheard
+-- where there was none; the rest of the room is unheard. `Holds` has these two equations.
+pub place-holds : (S M : ℕ) (store₀ : List ℕ) (h : History) (slot : ℕ) → slot < S → headAt (stateAfter S M store₀ h) slot .opened ≡ true
+    → Holds M slot (sizeAtHead (stateAfter S M store₀ h) slot) (acceptedAfter S M store₀ h slot) (roomsAfter S M store₀ h)
+unfolding sizeAtHead
+place-holds S M store₀ h slot below is-open =
+    rw (heads S M store₀ h) (holding.holds S M store₀ slot below h (rw (heads S M store₀ h) at is-open))
+
+-- ---- when a block is released
+
+-- If all that was accepted since the opening are true transmissions of one block, a read that is not refused for its arguments gives that
+-- block exactly when every data place was sent; else it answers how many were not, and the output stays.
+pub block-released : (S M : ℕ) (store₀ : List ℕ) (h : History) (past : List ℕ) (slot terminal : ℕ) (a : List ℕ)
+    → let state : State = stateAfter S M store₀ h in
+    let store : List ℕ = storeAfter S M store₀ h past in
+    let accepted : List Reception = acceptedAfter S M store₀ h slot in
+    AreBits a
+    → sizeAtHead state slot ≡ length a
+    → AllTrue a accepted
+    → (out : List ℕ)
+    → readNumber state (length store) slot terminal (length out) ≡ 0
+    → (readOutcome state store slot terminal (length out)
+    ≡ record { answer = cond (eqb (unsent (length a) accepted) 0) Done (Lacking (unsent (length a) accepted)); state = state })
+    × (readOutput state store slot terminal out ≡ cond (eqb (unsent (length a) accepted) 0) (a ++ drop (length a) out) out)
+block-released = releasing.released-iff
+
+-- Not sooner: while one data place was not sent, no read whatever answers Done or writes a byte.
+-- The place is i of stream 0 of code block r, filler left out.
+pub not-sooner : (S M : ℕ) (store₀ : List ℕ) (h : History) (past : List ℕ) (slot terminal : ℕ) (a : List ℕ)
+    → let state : State = stateAfter S M store₀ h in
+    let store : List ℕ = storeAfter S M store₀ h past in
+    let accepted : List Reception = acceptedAfter S M store₀ h slot in
+    AreBits a
+    → sizeAtHead state slot ≡ length a
+    → AllTrue a accepted
+    → (out : List ℕ) (r i : ℕ)
+    → DataPlace (length a) r i
+    → sentData (length a) accepted r i ≡ false
+    → (readOutcome state store slot terminal (length out) .answer ≡ Done → ⊥) × (readOutput state store slot terminal out ≡ out)
+not-sooner = incident.not-sooner
+
+-- Nor later: once every data place was sent, the first read that is not refused for its arguments gives the block.
+-- Its bits are the front of the output, and the rest of the output stays.
+pub at-once : (S M : ℕ) (store₀ : List ℕ) (h : History) (past : List ℕ) (slot terminal : ℕ) (a : List ℕ)
+    → let state : State = stateAfter S M store₀ h in
+    let store : List ℕ = storeAfter S M store₀ h past in
+    let accepted : List Reception = acceptedAfter S M store₀ h slot in
+    AreBits a
+    → sizeAtHead state slot ≡ length a
+    → AllTrue a accepted
+    → (out : List ℕ)
+    → AllSent (length a) accepted
+    → readNumber state (length store) slot terminal (length out) ≡ 0
+    → (readOutcome state store slot terminal (length out) ≡ record { answer = Done; state = state })
+    × (readOutput state store slot terminal out ≡ a ++ drop (length a) out)
+at-once = incident.at-once
+
+-- ---- the count
+
+-- Receive answers how many data places the history has not sent, this reception among it.
+-- The count is over the calls, never over a room.
+pub reception-counted : (S M : ℕ) (store₀ : List ℕ) (h : History) (past : List ℕ) (slot terminal : ℕ) (a : List ℕ)
+    → let state : State = stateAfter S M store₀ h in
+    let store : List ℕ = storeAfter S M store₀ h past in
+    let accepted : List Reception = acceptedAfter S M store₀ h slot in
+    AreBits a
+    → sizeAtHead state slot ≡ length a
+    → AllTrue a accepted
+    → (x : Reception)
+    → True a x
+    → receiveNumber state (length store) slot terminal (x .Q) (x .N) (x .version) (x .bits) ≡ 0
+    → receiveOutcome state slot terminal (x .Q) (x .N) (x .version) (x .bits) store
+    ≡ record { answer = Heard (unsent (length a) (x ∷ accepted)); state = state }
+reception-counted = releasing.received-count
+
+-- How many data places there are: the block and its check, A + 24, and with more than one code block 24 for each of them.
+-- None sent gives this count, all sent gives 0.
+pub places-single : (A : ℕ) → A ≤ 30576 → blocks (A + 24) ≡ 1 → dataPlaces A ≡ A + 24
+places-single = counting.data-places-single
+
+pub places-several : (A : ℕ) → A ≤ 30576 → 1 < blocks (A + 24) → dataPlaces A ≡ A + 24 + 24 * blocks (A + 24)
+places-several = counting.data-places-several
+
+pub none-sent : (A : ℕ) (xs : List Reception) → NoneSent A xs → unsent A xs ≡ dataPlaces A
+none-sent = counting.unsent-all
+
+pub all-sent : (A : ℕ) (xs : List Reception) → AllSent A xs → unsent A xs ≡ 0
+all-sent = counting.unsent-none
+
+-- ---- number 13
+
+-- In a history that starts from an accepted New no call is answered with 13.
+-- S from 1 to 8 and M from 1 to 5 are all that is asked.
+pub never-13 : (S M : ℕ) (store₀ : List ℕ) (h : History) → badShape S M ≡ false → (past : List ℕ) (call : Call)
+    → numberOf (answerTo (stateAfter S M store₀ h) (storeAfter S M store₀ h past) call) ≡ 13 → ⊥
+never-13 = heading.never-13
+
+-- ---- calls on other slots
+
+-- A call that names another slot changes neither this slot's head nor a byte of its room.
+-- It may be any call with any arguments, accepted or not.
+pub others-change-nothing : (S M : ℕ) (store₀ : List ℕ) (h : History) (m : Made) (slot : ℕ) → (slot ≡ slotOf (m .call) → ⊥)
+    → (headAt (stateAfter S M store₀ (m ∷ h)) slot ≡ headAt (stateAfter S M store₀ h) slot)
+    × SameRoom (stateAfter S M store₀ h .blocks) slot (roomsAfter S M store₀ (m ∷ h)) (roomsAfter S M store₀ h)
+unfolding run
+others-change-nothing S M store₀ h m slot other =
+    (others.others-head (run S M store₀ h) m slot other, others.others-room (run S M store₀ h) m slot other)
+
+-- So a call on a slot is answered, and Read and Streams write, as if the calls on other slots had never been made.
+-- `ownCalls slot h` are the calls of h that name the slot.
+pub others-answer-nothing : (S M : ℕ) (store₀ : List ℕ) (slot : ℕ) (h : History) (past : List ℕ) (call : Call) → slotOf call ≡ slot
+    → answerTo (stateAfter S M store₀ h) (storeAfter S M store₀ h past) call
+    ≡ answerTo (stateAfter S M store₀ (ownCalls slot h)) (storeAfter S M store₀ (ownCalls slot h) past) call
+others-answer-nothing = owning.own-answer
+
+pub others-read-nothing : (S M : ℕ) (store₀ : List ℕ) (slot : ℕ) (h : History) (past : List ℕ) (terminal : ℕ) (out : List ℕ)
+    → readOutput (stateAfter S M store₀ h) (storeAfter S M store₀ h past) slot terminal out
+    ≡ readOutput (stateAfter S M store₀ (ownCalls slot h)) (storeAfter S M store₀ (ownCalls slot h) past) slot terminal out
+others-read-nothing = owning.own-read
+
+pub others-stream-nothing : (S M : ℕ) (store₀ : List ℕ) (slot : ℕ) (h : History) (past : List ℕ) (terminal r : ℕ) (out : List ℕ)
+    → streamsOutput (stateAfter S M store₀ h) (storeAfter S M store₀ h past) slot terminal r out
+    ≡ streamsOutput (stateAfter S M store₀ (ownCalls slot h)) (storeAfter S M store₀ (ownCalls slot h) past) slot terminal r out
+others-stream-nothing = owning.own-streams
+
+-- ---- what an answer depends on
+
+-- Any two states and stores that agree on S, M, the lent length, this head, this room, and on whether some head is broken give the same
+-- answer, and Read and Streams the same output. `SameSlot` lists that agreement; no history is asked for.
+pub answer-depends : (slot : ℕ) (state other : State) (store otherStore : List ℕ) → SameSlot slot state other store otherStore
+    → (call : Call) → slotOf call ≡ slot → answerTo state store call ≡ answerTo other otherStore call
+answer-depends = depending.answer-depends
+
+pub read-depends : (slot : ℕ) (state other : State) (store otherStore : List ℕ) → SameSlot slot state other store otherStore
+    → (terminal : ℕ) (out : List ℕ) → readOutput state store slot terminal out ≡ readOutput other otherStore slot terminal out
+read-depends = depending.read-depends
+
+pub streams-depends : (slot : ℕ) (state other : State) (store otherStore : List ℕ) → SameSlot slot state other store otherStore
+    → (terminal r : ℕ) (out : List ℕ) → streamsOutput state store slot terminal r out ≡ streamsOutput other otherStore slot terminal r out
+streams-depends = depending.streams-depends
+
+-- ---- June
+
+-- An accepted opening starts the slot's receptions anew: none that came before it counts.
+-- After it only those count that the later calls had accepted.
+pub opening-anew : (S M : ℕ) (store₀ : List ℕ) (earlier : History) (past₀ : List ℕ) (slot terminal A : ℕ)
+    → answerTo (stateAfter S M store₀ earlier) (storeAfter S M store₀ earlier past₀) (opening slot terminal A) ≡ Done
+    → (later : History)
+    → let opened : History = made (opening slot terminal A) past₀ earlier in
+    acceptedAfter S M store₀ (later ++ opened) slot ≡ acceptedIn S M (roomsLong S M store₀) slot later opened
+opening-anew = incident.only-later
+
+-- Whatever the store held and whoever had used the slot before: after an accepted opening and any calls that leave the slot open, a read by
+-- its terminal gives the block exactly when the receptions accepted since then sent every data place.
+pub released-since-opening : (S M : ℕ) (store₀ : List ℕ) (earlier : History) (past₀ : List ℕ) (slot terminal A : ℕ)
+    → answerTo (stateAfter S M store₀ earlier) (storeAfter S M store₀ earlier past₀) (opening slot terminal A) ≡ Done
+    → (later : History)
+    → let opened : History = made (opening slot terminal A) past₀ earlier in
+    let heard : List Reception = acceptedIn S M (roomsLong S M store₀) slot later opened in
+    let state : State = stateAfter S M store₀ (later ++ opened) in
+    Undisturbed S M (roomsLong S M store₀) slot later opened
+    → (past : List ℕ) (a : List ℕ)
+    → AreBits a
+    → length a ≡ A
+    → AllTrue a heard
+    → (out : List ℕ)
+    → A ≤ length out
+    → (readOutcome state (storeAfter S M store₀ (later ++ opened) past) slot terminal (length out)
+    ≡ record { answer = cond (eqb (unsent A heard) 0) Done (Lacking (unsent A heard)); state = state })
+    × (readOutput state (storeAfter S M store₀ (later ++ opened) past) slot terminal out ≡ cond (eqb (unsent A heard) 0) (a ++ drop A out) out)
+released-since-opening = incident.after-opening
+
+-- Directly after the opening a read by its terminal answers 11 with the count of all data places, and writes nothing.
+-- The bytes of the store and the earlier history are any.
+pub june-opened : (S M : ℕ) (store₀ : List ℕ) (earlier : History) (past₀ : List ℕ) (slot terminal A : ℕ)
+    → answerTo (stateAfter S M store₀ earlier) (storeAfter S M store₀ earlier past₀) (opening slot terminal A) ≡ Done
+    → (past : List ℕ) (out : List ℕ)
+    → A ≤ length out
+    → let opened : History = made (opening slot terminal A) past₀ earlier in
+    Withheld (stateAfter S M store₀ opened) (storeAfter S M store₀ opened past) slot terminal out (dataPlaces A)
+june-opened = incident.june-opened
+
+-- And so it does after one reception of a true transmission that sends parity alone: what another car's block left behind, were it whole,
+-- is never given out.
+pub june-parity : (S M : ℕ) (store₀ : List ℕ) (earlier : History) (past₀ : List ℕ) (slot terminal A : ℕ)
+    → answerTo (stateAfter S M store₀ earlier) (storeAfter S M store₀ earlier past₀) (opening slot terminal A) ≡ Done
+    → (past : List ℕ) (out : List ℕ)
+    → A ≤ length out
+    → (sender : ℕ) (x : Reception) (past₁ : List ℕ) (a : List ℕ)
+    → AreBits a
+    → length a ≡ A
+    → True a x
+    → NoneSent A (x ∷ [])
+    → let heard : History = made (receiving slot sender x) past₁ (made (opening slot terminal A) past₀ earlier) in
+    Withheld (stateAfter S M store₀ heard) (storeAfter S M store₀ heard past) slot terminal out (dataPlaces A)
+june-parity = incident.june-parity
+
+-- There are such transmissions: with A = 16, Q = 2, N = 1 and version 2 the first 64 bits send no data place.
+-- So a read after them answers 11 with 40, as 01 says.
+pub parity-alone : (bits : List ℕ) → length bits ≡ 64 → NoneSent 16 (record { Q = 2; N = 1; version = 2; bits = bits } ∷ [])
+parity-alone = parity.parity-alone
