@@ -9,8 +9,8 @@ use native.Mathlib.Omega.{arith}
 use lib.Dec.{eqb, ltb}
 use lib.Bits.{bitOr, bitAnd, or-lt, or-add-and, and-le-l, and-le-r}
 use borrow.Author.Tests.{eqb-true, eqb-false, ltb-true, ltb-false, lt-ltb, le-ltb, not-false}
-use Rattle.codeword.specs.Shares.{symbols}
-use Rattle.codeword.specs.Build.{badModulation, badLayers, badAllocation, badBits}
+use Rattle.codeword.specs.Shares.{symbols, share}
+use Rattle.codeword.specs.Build.{badModulation, badLayers, badAllocation, shareOf, badBits}
 
 -- one of two tests, both false where the whole is
 pub or-false : (a b : Bool) → (a || b) ≡ false → (a ≡ false) × (b ≡ false)
@@ -64,6 +64,11 @@ allocated C Q N G h =
       multiple = eqb-true _ _ (not-false _ (m .0));
       enough = ltb-false (symbols Q N G) C (m .1);
     }
+
+-- what `share_of` tells of a code block of an accepted allocation
+pub share-told : (C Q N G r : ℕ) → r < C → badAllocation C Q N G ≡ false → shareOf C Q N G r ≡ share C Q N G r
+unfolding shareOf
+share-told C Q N G r h e = simp (lt-ltb r C h, e)
 
 -- the bytes seen together are above 1 where one of them is
 pub seen-more : (a b : ℕ) → ltb 1 (bitOr a b) ≡ (ltb 1 a || ltb 1 b)

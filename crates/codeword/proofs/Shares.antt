@@ -3,7 +3,7 @@
 use mathlib.Core.Path.{_≡_, refl, sym, _∙_, ap, ap₂}
 use mathlib.Core.Bool.{Bool, true, false, cond}
 use Prim.Native.Nat.{ℕ, zero, suc, _+_, _-_, _*_, _/_, _%_, _≤_, _<_}
-use native.Mathlib.Nat.{div-add-mod', mod-lt, mul-add, mul-zero}
+use native.Mathlib.Nat.{div-add-mod', mod-lt, mul-add, mul-zero, zero-add, suc-add}
 use native.Mathlib.Omega.{arith}
 use lib.Arith.{digits-div}
 use lib.Dec.{leb}
@@ -65,3 +65,17 @@ shares-all C Q N G pos multiple =
     before-is C Q N G C pos (omega arith)
     ∙ ap (λ (x : ℕ). N * Q * x) symbols-are
     ∙ omega (arith, div-add-mod' G (N * Q))
+
+-- the shares before a later code block are no fewer
+before-rises : (C Q N G r n : ℕ) → sharesBefore C Q N G r ≤ sharesBefore C Q N G (n + r)
+unfolding sharesBefore
+before-rises C Q N G r zero = rw (zero-add r) (omega arith)
+before-rises C Q N G r (suc n) = rw (suc-add n r) (omega (arith, before-rises C Q N G r n))
+
+-- the stretch of code block r ends within the G bits
+pub stretch-within : (C Q N G r : ℕ) → r < C → G % (N * Q) ≡ 0 → sharesBefore C Q N G r + share C Q N G r ≤ G
+unfolding sharesBefore
+stretch-within C Q N G r h multiple =
+    let rest : C - suc r + suc r ≡ C = omega arith in
+    let rises : sharesBefore C Q N G (suc r) ≤ sharesBefore C Q N G C = rw rest at (before-rises C Q N G (suc r) (C - suc r)) in
+    omega (arith, shares-all C Q N G (omega arith) multiple)

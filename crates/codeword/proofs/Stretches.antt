@@ -1,11 +1,9 @@
 -- The loop that writes each code block into its own stretch of the codeword (clause 5.1.5): what stands before the stretch of code block r is the codeword's beginning.
 -- Assumes nothing.
 use mathlib.Core.Path.{_≡_, refl, sym, _∙_, ap, ap₂}
-use mathlib.Core.Bool.{false}
 use mathlib.Core.List.{List, [], _++_}
-use Prim.Native.Nat.{ℕ, zero, suc, _+_, _-_, _*_, _≤_, _<_}
+use Prim.Native.Nat.{ℕ, suc, _+_, _-_, _≤_, _<_}
 use native.Mathlib.Numerals.{add-one}
-use native.Mathlib.Nat.{le-refl, add-zero}
 use native.Mathlib.Omega.{arith}
 use lib.ListN.{length}
 use borrow.Rule.Slice.PartMut.{midOf, putMid}
@@ -18,24 +16,16 @@ use Rattle.segmentation.specs.declared.Segments.{Segments}
 use Rattle.segmentation.specs.Segmentation.{blocks}
 use Rattle.segmentation.specs.CodeBlocks.{withCheck}
 use Rattle.segmentation.specs.Sizes.{segmentsOf}
-use Rattle.segmentation.proofs.Segmentation.{in-range, blocks-least, blocks-most}
+use Rattle.segmentation.proofs.Segmentation.{in-range, blocks-least}
 use Rattle.codeword.specs.Shares.{share, sharesBefore}
 use Rattle.codeword.specs.Codeword.{sentBits, blockBits, bitsFrom, codeword}
-use Rattle.codeword.specs.Sending.{Accepted, Sharing, Sending}
-use Rattle.codeword.proofs.Accepted.{Allocated, allocated}
-use Rattle.codeword.proofs.Shares.{shares-all}
+use Rattle.codeword.specs.Build.{shareOf}
+use Rattle.codeword.specs.Sending.{Accepted, Sending}
+use Rattle.codeword.proofs.Accepted.{Allocated, allocated, share-told}
+use Rattle.codeword.proofs.Shares.{shares-all, stretch-within}
 use Rattle.codeword.proofs.Taken.{length-withCheck}
 
 -- the stretches start one after another
-before-rises : (C Q N G i n : ℕ) → sharesBefore C Q N G i ≤ sharesBefore C Q N G (i + n)
-unfolding sharesBefore
-before-rises C Q N G i zero = rw (add-zero i) (le-refl (sharesBefore C Q N G i))
-before-rises C Q N G i (suc n) =
-    let earlier : sharesBefore C Q N G i ≤ sharesBefore C Q N G (i + n) = before-rises C Q N G i n in
-    let one : i + suc n ≡ suc (i + n) = omega arith in
-    let step : sharesBefore C Q N G (i + suc n) ≡ sharesBefore C Q N G (i + n) + share C Q N G (i + n) = ap (sharesBefore C Q N G) one in
-    omega arith
-
 before-next : (C Q N G r : ℕ) → sharesBefore C Q N G r + share C Q N G r ≡ sharesBefore C Q N G (r + 1)
 unfolding sharesBefore
 before-next C Q N G r = rw (add-one r)
@@ -86,28 +76,15 @@ module _ {a : List ℕ} {Q N v : ℕ} {out₀ : List ℕ} {s : Segments} {C rema
   high : length a + 24 ≤ 30600
   high = omega (arith, in-range (length a) (h .accepted .size) .1)
 
-  some : 0 < C
-  some = omega (arith, h .count, blocks-least (length a + 24) high)
-
-  few : C ≤ 5
-  few = omega (arith, h .count, blocks-most (length a + 24) high)
-
-  ok : Allocated (blocks (length a + 24)) Q N (length out₀)
-  ok = allocated _ _ _ _ (h .accepted .allocation)
+  ok : Allocated C Q N (length out₀)
+  ok = allocated C Q N (length out₀) (rw (h .count) (h .accepted .allocation))
 
   all : sharesBefore C Q N (length out₀) C ≡ length out₀
-  all = shares-all C Q N (length out₀) some (ok .multiple)
+  all = shares-all C Q N (length out₀) (omega (arith, h .count, blocks-least (length a + 24) high)) (ok .multiple)
 
   module _ (more : r < C) where
-    pub sharing : Sharing C Q N G r
-    sharing = record {
-      some = some;
-      few = few;
-      below = more;
-      step-some = ok .step-fits .0;
-      step-few = ok .step-fits .1;
-      most = omega (arith, h .given, ok .most);
-    }
+    own : {e : ℕ} → e ≡ shareOf C Q N G r → e ≡ share C Q N (length out₀) r
+    own e-is = e-is ∙ ap (λ (g : ℕ). shareOf C Q N g r) (h .given) ∙ share-told C Q N (length out₀) r more (rw (h .count) (h .accepted .allocation))
 
     pub sending : Sending a s r v
     sending = record {
@@ -118,16 +95,10 @@ module _ {a : List ℕ} {Q N v : ℕ} {out₀ : List ℕ} {s : Segments} {C rema
     }
 
     -- the stretch of code block r lies within the output
-    pub within : {e : ℕ} → e ≡ share C Q N G r → at + e ≤ length out
-    unfolding sharesBefore
-    within {e} e-is =
-        let up : sharesBefore C Q N (length out₀) (suc r) ≤ sharesBefore C Q N (length out₀) (suc r + (C - suc r)) = before-rises C Q N (length out₀) (suc r) (C - suc r) in
-        let last : suc r + (C - suc r) ≡ C = omega arith in
-        let top : sharesBefore C Q N (length out₀) (suc r + (C - suc r)) ≡ length out₀ = ap (sharesBefore C Q N (length out₀)) last ∙ all in
-        let own : e ≡ share C Q N (length out₀) r = e-is ∙ ap (λ (g : ℕ). share C Q N g r) (h .given) in
-        omega (arith, h .starts, h .written .long)
+    pub within : {e : ℕ} → e ≡ shareOf C Q N G r → at + e ≤ length out
+    within e-is = omega (arith, h .starts, own e-is, stretch-within C Q N (length out₀) r more (ok .multiple), h .written .long)
 
-    pub next : {e : ℕ} {part : List ℕ} → e ≡ share C Q N G r
+    pub next : {e : ℕ} {part : List ℕ} → e ≡ shareOf C Q N G r
         → part ≡ sentBits (a ++ bitsOf 24 remainder) v r (length (midOf at (at + e - at) out))
         → length part ≡ at + e - at
         → Stretching a Q N v out₀ s C remainder G (putMid at (at + e - at) out part) (at + e) (r + 1)
@@ -138,19 +109,16 @@ module _ {a : List ℕ} {Q N v : ℕ} {out₀ : List ℕ} {s : Segments} {C rema
       check = h .check;
       given = h .given;
       below = omega arith;
-      starts = ap₂ (λ (x y : ℕ). x + y) (h .starts) own ∙ next-start;
+      starts = ap₂ (λ (x y : ℕ). x + y) (h .starts) (own e-is) ∙ next-start;
       written = writing.pushPart said (omega arith) (within e-is) long (writing.same one-more (h .written));
     }
       where
-        own : e ≡ share C Q N (length out₀) r
-        own = e-is ∙ ap (λ (g : ℕ). share C Q N g r) (h .given)
-
         next-start : sharesBefore C Q N (length out₀) r + share C Q N (length out₀) r ≡ sharesBefore C Q N (length out₀) (r + 1)
         next-start = before-next C Q N (length out₀) r
 
         lent : length (midOf at (at + e - at) out) ≡ share (blocks (length (withCheck a))) Q N (length out₀) r
         lent =
-            length-mid at (at + e) out (within e-is) ∙ omega arith ∙ own
+            length-mid at (at + e) out (within e-is) ∙ omega arith ∙ own e-is
             ∙ ap (λ (c : ℕ). share c Q N (length out₀) r) (h .count ∙ ap blocks (sym (length-withCheck a)))
 
         said : part ≡ blockBits (withCheck a) Q N v (length out₀) r

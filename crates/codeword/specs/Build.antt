@@ -8,7 +8,7 @@ use lib.ListN.{length, drop}
 use Rattle.refusals.specs.Refusals.{Rule, rule, firstOf}
 use Rattle.segmentation.specs.Segmentation.{blocks}
 use Rattle.segmentation.specs.Sizes.{badSize}
-use Rattle.codeword.specs.Shares.{symbols}
+use Rattle.codeword.specs.Shares.{symbols, share}
 use Rattle.codeword.specs.Codeword.{codeword}
 
 -- Q is none of 2, 4 and 6
@@ -23,6 +23,10 @@ badLayers N = eqb N 0 || ltb 4 N
 unfoldable pub badAllocation : ℕ → ℕ → ℕ → ℕ → Bool
 badAllocation C Q N G =
     badModulation Q || (badLayers N || (ltb 172800 G || (not (eqb (G % (N * Q)) 0) || ltb (symbols Q N G) C)))
+
+-- E of code block r of an accepted allocation, else 0
+unfoldable pub shareOf : ℕ → ℕ → ℕ → ℕ → ℕ → ℕ
+shareOf C Q N G r = cond (ltb r C) (cond (badAllocation C Q N G) 0 (share C Q N G r)) 0
 
 -- number 4: the redundancy version is above 3
 unfoldable pub badVersion : ℕ → Bool

@@ -1,9 +1,9 @@
--- What the parts of Build may take for granted: an accepted call, a share that is asked for, a code block that is sent.
+-- What the parts of Build may take for granted: an accepted call, a code block that is sent.
 -- Assumes nothing.
 use mathlib.Core.Path.{_≡_}
 use mathlib.Core.Bool.{false}
 use mathlib.Core.List.{List}
-use Prim.Native.Nat.{ℕ, _+_, _*_, _≤_, _<_}
+use Prim.Native.Nat.{ℕ, _+_, _≤_, _<_}
 use lib.ListN.{length}
 use Rattle.segmentation.specs.declared.Segments.{Segments}
 use Rattle.segmentation.specs.Segmentation.{blocks}
@@ -15,15 +15,6 @@ pub record Accepted (a : List ℕ) (Q N v G : ℕ) : Type 0 where
   pub size : badSize (length a) ≡ false
   pub allocation : badAllocation (blocks (length a + 24)) Q N G ≡ false
   pub version : v ≤ 3
-
--- the share of code block r of C, where N·Q and G are in their ranges
-pub record Sharing (C Q N G r : ℕ) : Type 0 where
-  pub some : 0 < C
-  pub few : C ≤ 5
-  pub below : r < C
-  pub step-some : 0 < N * Q
-  pub step-few : N * Q ≤ 24
-  pub most : G ≤ 172800
 
 -- code block r of a block a, whose segmentation is s, in redundancy version v
 pub record Sending (a : List ℕ) (s : Segments) (r v : ℕ) : Type 0 where

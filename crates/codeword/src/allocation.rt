@@ -1,7 +1,8 @@
-// What 01 asks of an allocation and of given bits: the tests behind the numbers 3 and 2, which Build and Receive share.
+// What 01 asks of an allocation and of given bits, the tests behind the numbers 3 and 2, and the code blocks' shares of an accepted one:
+// all that Build and Receive have in common.
 
 ghost use mathlib.Core.Path.{_≡_};
-ghost use Rattle.codeword.specs.Build.{badModulation, badLayers, badAllocation, badBits};
+ghost use Rattle.codeword.specs.Build.{badModulation, badLayers, badAllocation, shareOf, badBits};
 
 fn bad_modulation(q: usize) -> bool
     ensures { λ r. ⌜ r ≡ badModulation q ⌝ }
@@ -56,4 +57,23 @@ pub fn bad_bits(bits: &[u8]) -> bool
         i += 1;
     }
     seen > 1
+}
+
+// E of code block r of an accepted allocation; 0 where there is no such code block, or the allocation is refused.
+pub fn share_of(blocks: usize, q: usize, n: usize, g: usize, r: usize) -> usize
+    ensures { λ e. ⌜ e ≡ shareOf blocks q n g r ⌝ }
+{
+    if r >= blocks {
+        return 0;
+    }
+    if bad_allocation(blocks, q, n, g) {
+        return 0;
+    }
+    let step = n * q;
+    let symbols = g / step;
+    if r + symbols % blocks + 1 <= blocks {
+        step * (symbols / blocks)
+    } else {
+        step * ((symbols + (blocks - 1)) / blocks)
+    }
 }

@@ -6,10 +6,9 @@ ghost use Prim.Native.Nat.{_+_, _≤_, _<_};
 ghost use lib.ListN.{length};
 ghost use Rattle.laws.specs.Bits.{bitsOf};
 ghost use Rattle.segmentation.specs.Segmentation.{sizeOf};
-ghost use Rattle.codeword.specs.Shares.{share};
 ghost use Rattle.codeword.specs.Codeword.{sentBits, codeword};
 ghost use Rattle.codeword.specs.Build.{buildNumber, buildOutput};
-ghost use Rattle.codeword.specs.Sending.{Sharing, Sending, Roomy, Accepted};
+ghost use Rattle.codeword.specs.Sending.{Sending, Roomy, Accepted};
 
 // Writes the codeword of `block` over the first `g` bytes of `out`. Answers 0, or the number of the refusal, which writes nothing.
 pub fn build(block: &[u8], q: usize, n: usize, version: usize, g: usize, out: &mut [u8]) -> u8
@@ -47,20 +46,6 @@ fn build_number(block: &[u8], q: usize, n: usize, version: usize, g: usize, room
     0
 }
 
-// E of code block r.
-fn share_of(blocks: usize, q: usize, n: usize, g: usize, r: usize) -> usize
-    requires { ⌜ Sharing blocks q n g r ⌝ }
-    ensures { λ e. ⌜ e ≡ share blocks q n g r ⌝ }
-{
-    let step = n * q;
-    let symbols = g / step;
-    if r + symbols % blocks + 1 <= blocks {
-        step * (symbols / blocks)
-    } else {
-        step * ((symbols + (blocks - 1)) / blocks)
-    }
-}
-
 // Each code block is written straight into its own stretch of the codeword.
 fn write_codeword(block: &[u8], q: usize, n: usize, version: usize, out: &mut [u8])
     requires { ⌜ Accepted (now block) q n version (length (now out)) ⌝ }
@@ -73,7 +58,7 @@ fn write_codeword(block: &[u8], q: usize, n: usize, version: usize, out: &mut [u
     let mut at = 0;
     let mut r = 0;
     while r < blocks {
-        let end = at + share_of(blocks, q, n, g, r);
+        let end = at + crate::share_of(blocks, q, n, g, r);
         send_block(block, remainder, s, r, version, &mut out[at..end]);
         at = end;
         r += 1;

@@ -4,4 +4,5 @@ mod call;
 
 pub use allocation::bad_allocation;
 pub use allocation::bad_bits;
+pub use allocation::share_of;
 pub use call::build;

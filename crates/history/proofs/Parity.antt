@@ -20,7 +20,8 @@ use Rattle.rate_matching.specs.Places.{plainPlace, placeNumber}
 use Rattle.rate_matching.specs.Walk.{onCircle, isBit, holdsBit, itself, round, turn, turnAfterTurn, sentPlaces}
 use Rattle.codeword.specs.Shares.{symbols, share}
 use Rattle.codeword.specs.Codeword.{blockRows}
-use Rattle.slots.specs.Reception.{blank, shape, blockPlaces}
+use Rattle.rate_matching.specs.Shape.{blank, shape}
+use Rattle.slots.specs.Reception.{blockPlaces}
 use Rattle.history.specs.Sent.{among, sent, NoneSent}
 
 -- data place i of the one code block is not among those sent

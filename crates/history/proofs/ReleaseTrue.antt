@@ -21,7 +21,8 @@ use Rattle.codeword.proofs.Alike.{BitsFrom, Filled, bits-from, same-sent}
 use Rattle.codeword.proofs.Data.{zero-bits, withCheck-bits, filler-within, block-filled}
 use Rattle.codeword.proofs.Taken.{length-withCheck, stretch-is}
 use Rattle.slots.specs.Room.{unheard, meet}
-use Rattle.slots.specs.Reception.{blank, shape, blockPlaces}
+use Rattle.rate_matching.specs.Shape.{blank, shape}
+use Rattle.slots.specs.Reception.{blockPlaces}
 use Rattle.history.specs.Calls.{Reception}
 use Rattle.history.specs.Accepted.{lastAmong, lastBit}
 use Rattle.history.specs.Sent.{True, AllTrue, among, sent}

@@ -9,3 +9,4 @@ pub mod MatcherColumns
 pub mod MatcherRing
 pub mod MatcherTurns
 pub mod MatcherBlock
+pub mod ShapeTurn

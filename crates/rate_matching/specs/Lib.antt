@@ -3,4 +3,5 @@ pub mod SubBlocks
 pub mod Circle
 pub mod Walk
 pub mod Places
+pub mod Shape
 pub mod Matcher

@@ -2,10 +2,12 @@
 mod mapping;
 mod matcher;
 mod table;
+mod turn;
 
 pub use mapping::held_at;
 pub use mapping::place_of;
 pub use matcher::rate_match;
+pub use turn::turn_places;
 
 // Which stream, 0 to 2, and the place in it, which runs to D.
 pub struct StreamPlace(pub usize, pub usize);

@@ -118,7 +118,7 @@ fn interleave_pair(d1: &[u8], d2: &[u8], w: &mut [u8])
 }
 
 // Lays out the circle of the three streams.
-fn lay_out(d0: &[u8], d1: &[u8], d2: &[u8], w: &mut [u8])
+pub(crate) fn lay_out(d0: &[u8], d1: &[u8], d2: &[u8], w: &mut [u8])
     requires { ⌜ (0 < length (now d0)) × (length (now d0) ≤ longest) × (length (now d1) ≡ length (now d0))
         × (length (now d2) ≡ length (now d0)) × (length (now w) ≡ 96 * rows (length (now d0))) ⌝ }
     ensures { λ _. ⌜ now (w .exit) ≡ circle (now (d0 .entry)) (now (d1 .entry)) (now (d2 .entry)) ⌝ }
@@ -129,7 +129,7 @@ fn lay_out(d0: &[u8], d1: &[u8], d2: &[u8], w: &mut [u8])
 }
 
 // k0 of redundancy version `version`: R·(24·version + 2) on a circle of 96·R places.
-fn start(rows: usize, version: usize) -> CirclePlace
+pub(crate) fn start(rows: usize, version: usize) -> CirclePlace
     requires { ⌜ (0 < rows) × (rows ≤ 193) × (version ≤ 3) ⌝ }
     ensures { λ r. ⌜ r .0 ≡ startOf rows version ⌝ }
 {

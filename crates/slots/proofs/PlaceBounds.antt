@@ -1,33 +1,33 @@
 -- Each place that a code block of an admitted size has on its circle is one of the bytes that a room has for it.
 -- Assumes nothing.
-use mathlib.Core.Path.{_≡_, _∙_}
+use mathlib.Core.Path.{_≡_}
 use mathlib.Core.Bool.{false}
 use mathlib.Core.List.{List}
 use Prim.Native.Nat.{ℕ, zero, suc, _+_, _%_, _≤_, _<_}
 use native.Mathlib.Decide.{decLt}
 use native.Mathlib.Omega.{arith}
 use lib.Dec.{eqb·suc-zero}
-use lib.ListN.{length, getD, length-replicate, List·getD-eq-default}
+use lib.ListN.{length, getD, List·getD-eq-default}
 use borrow.Author.Tests.{ltb-false}
 use Rattle.laws.proofs.Tab.{length-tab, getD-tab}
 use Rattle.segmentation.specs.Segmentation.{blocks, sizeOf, fillerOf}
 use Rattle.segmentation.specs.Sizes.{badSize}
 use Rattle.segmentation.proofs.Segmentation.{in-range, size-most}
 use Rattle.segmentation.proofs.CodeBlocks.{filler-first}
-use Rattle.turbo.specs.Streams.{withoutFiller}
-use Rattle.turbo.proofs.Streams.{length-withoutFiller}
 use Rattle.rate_matching.specs.SubBlocks.{rows}
 use Rattle.rate_matching.specs.Circle.{circleLength, startOf}
 use Rattle.rate_matching.specs.Walk.{turn, turnAfterTurn, sentPlaces}
 use Rattle.rate_matching.specs.Places.{placeNumber, placeOf}
-use Rattle.rate_matching.proofs.Circle.{length-circle, start-lt}
+use Rattle.rate_matching.specs.Shape.{shape}
+use Rattle.rate_matching.proofs.Circle.{start-lt}
 use Rattle.rate_matching.proofs.Walk.{turn-lt}
 use Rattle.rate_matching.proofs.Places.{place-on-circle}
+use Rattle.rate_matching.proofs.ShapeTurn as ShapeTurn
 use Rattle.codeword.specs.Build.{badVersion}
 use Rattle.codeword.specs.Codeword.{blockRows}
 use Rattle.codeword.specs.Shares.{share}
 use Rattle.slots.specs.State.{perBlock}
-use Rattle.slots.specs.Reception.{blank, shape, blockPlaces}
+use Rattle.slots.specs.Reception.{blockPlaces}
 use Rattle.slots.proofs.RoomLaws.{Places}
 
 module _ (A : ℕ) (admitted : badSize A ≡ false) where
@@ -50,21 +50,7 @@ module _ (A : ℕ) (admitted : badSize A ≡ false) where
   filler-within (suc r) = rw (eqb·suc-zero r) (omega arith)
 
   pub length-shape : (r : ℕ) → length (shape (sizeOf (A + 24) r + 4) (fillerOf (A + 24) r)) ≡ circleLength (rows (sizeOf (A + 24) r + 4))
-  unfolding shape blank
-  length-shape r =
-      length-circle D (withoutFiller F (blank D)) (withoutFiller F (blank D)) (blank D) stream stream blanks
-    where
-      D : ℕ
-      D = sizeOf (A + 24) r + 4
-
-      F : ℕ
-      F = fillerOf (A + 24) r
-
-      blanks : length (blank D) ≡ D
-      blanks = length-replicate {A = ℕ} D 0
-
-      stream : length (withoutFiller F (blank D)) ≡ D
-      stream = length-withoutFiller F (blank D) (rw blanks (filler-within r)) ∙ blanks
+  length-shape r = ShapeTurn.length-shape (sizeOf (A + 24) r + 4) (fillerOf (A + 24) r) (filler-within r)
 
   -- the places that a code block sends
   pub sent-below : (Q N v G r : ℕ) → badVersion v ≡ false → Places (blockPlaces (A + 24) Q N v G r)

@@ -2,22 +2,14 @@
 -- Assumes nothing.
 use mathlib.Core.List.{List, [], _∷_}
 use Prim.Native.Nat.{ℕ, zero, suc, _+_}
-use lib.ListN.{length, drop, getD, replicate}
+use lib.ListN.{length, drop, getD}
 use Rattle.segmentation.specs.Segmentation.{blocks, sizeOf, fillerOf}
-use Rattle.turbo.specs.Streams.{withoutFiller}
-use Rattle.rate_matching.specs.Circle.{circle, startOf}
+use Rattle.rate_matching.specs.Circle.{startOf}
 use Rattle.rate_matching.specs.Walk.{sentPlaces}
+use Rattle.rate_matching.specs.Shape.{shape}
 use Rattle.codeword.specs.Shares.{share, sharesBefore}
 use Rattle.codeword.specs.Codeword.{blockRows}
 use Rattle.slots.specs.Room.{byteOf, putBit}
-
--- D places of 0
-unfoldable pub blank : ℕ → List ℕ
-blank D = replicate {A = ℕ} D 0
-
--- the circle of a code block with D places a stream and F filler bits, its bits all 0: which places hold a bit is the same for every block
-unfoldable pub shape : ℕ → ℕ → List ℕ
-shape D F = circle (withoutFiller F (blank D)) (withoutFiller F (blank D)) (blank D)
 
 -- the places that a transmission of G bits sends of code block r, in sending order, for a sequence of B bits
 unfoldable pub blockPlaces : ℕ → ℕ → ℕ → ℕ → ℕ → ℕ → List ℕ

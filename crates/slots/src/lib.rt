@@ -1,6 +1,6 @@
 // The slots of 01: a state by value, and a store of rooms that the caller lends.
 mod opening;
-mod states;
+pub mod states;
 
 pub use opening::close;
 pub use opening::new;

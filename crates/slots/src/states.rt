@@ -45,7 +45,7 @@ pub(crate) fn closed_head() -> Head
 }
 
 // The head of a slot; a closed one where there is no such slot.
-pub(crate) fn head_at(state: State, slot: usize) -> Head
+pub fn head_at(state: State, slot: usize) -> Head
     ensures { λ r. ⌜ r ≡ headAt state slot ⌝ }
 {
     let heads = state.heads;
@@ -69,7 +69,7 @@ pub(crate) fn with_head(state: State, slot: usize, head: Head) -> State
 }
 
 // The number of code blocks of a block of `a` bits, the ceiling of (a + 24) / 6,120 above one block, with no sum that could wrap.
-pub(crate) fn block_count(a: usize) -> usize
+pub fn block_count(a: usize) -> usize
     ensures { λ r. ⌜ r ≡ blocks (a + 24) ⌝ }
 {
     if a <= 6120 { 1 } else { (a - 6097) / 6120 + 2 }
@@ -153,7 +153,7 @@ pub(crate) fn owner_after(found: u8, state: State, slot: usize, terminal: u16) -
 }
 
 // 13, 5 (store), 6, 8, 9: what Receive, Read and Streams ask first.
-pub(crate) fn owner_number(state: State, room: usize, slot: usize, terminal: u16) -> u8
+pub fn owner_number(state: State, room: usize, slot: usize, terminal: u16) -> u8
     ensures { λ r. ⌜ r ≡ firstOf (storeRules state room slot ++ ownerRules state slot terminal) ⌝ }
 {
     owner_after(store_number(state, room, slot), state, slot, terminal)

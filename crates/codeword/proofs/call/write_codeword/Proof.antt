@@ -8,7 +8,7 @@ use lib.ListN.{length}
 use denote.Ref.{now}
 use Rattle.segmentation.proofs.Segmentation.{in-range, blocks-least}
 use Rattle.codeword.proofs.Segmented.{Sized, sized-in}
-use Rattle.codeword.proofs.Stretches.{Stretching, start, sharing, sending, within, next, finish}
+use Rattle.codeword.proofs.Stretches.{Stretching, start, sending, within, next, finish}
 use Rattle.codeword.proofs.call.write_codeword.Statement.{statement}
 use Rattle.codeword.proofs.call.write_codeword.Tie as tie
 
@@ -32,7 +32,7 @@ loop-holds c =
     start accepted (size .told) (size .count) (c .crc24a .ensures) (search needs)
 
 share-of-requires : tie.Need-share-of-requires Inv-loop μ-loop
-share-of-requires c κs = sharing (c .before .loop .inv) (c .loop-test .taken)
+share-of-requires c κs = search needs
 
 add-end : tie.Need-add-end Inv-loop μ-loop
 add-end c = omega (arith, within (c .before .before .loop .inv) (c .before .loop-test .taken) (c .share-of .ensures))

@@ -1,0 +1,240 @@
+-- The calls Read and Streams of 01, from what their parts tell: the refusals in order, what their absence tells, and the outcome with the output.
+-- Assumes nothing.
+use mathlib.Core.Path.{_≡_, refl, _∙_, ap}
+use mathlib.Core.Bool.{Bool, true, false, cond, not}
+use mathlib.Core.List.{List, [], _∷_, _++_}
+use Prim.Native.Nat.{ℕ, _+_, _-_, _*_, _≤_, _<_}
+use native.Mathlib.Nat.{mul-le-mul-right}
+use native.Mathlib.Omega.{arith}
+use lib.Dec.{eqb, ltb}
+use lib.ListN.{length, drop}
+use borrow.Author.Tests.{ne-eqb, ltb-true, ltb-false, not-false}
+use borrow.Rule.Slice.PartMut.{midOf}
+use Rattle.laws.proofs.Parts.{length-mid}
+use Rattle.refusals.specs.Refusals.{Rule, rule, firstOf, orElse}
+use Rattle.refusals.proofs.Refusals.{Chain, done, next, chained-on, cleared}
+use Rattle.segmentation.specs.declared.Segments.{Segments}
+use Rattle.segmentation.specs.Segmentation.{blocks, sizeOf, fillerOf}
+use Rattle.segmentation.specs.Sizes.{badSize, segmentsFor}
+use Rattle.segmentation.proofs.Segmentation.{good-size}
+use Rattle.slots.specs.declared.Head.{Head}
+use Rattle.slots.specs.declared.State.{State}
+use Rattle.slots.specs.declared.Answer.{Answer}
+use Rattle.slots.specs.declared.Answer.the-variants.{Done, Refused}
+use Rattle.slots.specs.State.{perBlock, roomLength, roomStart, headAt}
+use Rattle.slots.specs.Room.{byteOf}
+use Rattle.slots.specs.Answers.{unlessRefused}
+use Rattle.slots.specs.Calls.{storeRules, ownerRules, sizeAtHead, readNumber, lackingAt, wrongAt, readOutcome, released, readOutput, streamsNumber, streamsOutcome, streamsOutput}
+use Rattle.slots.specs.Reading.{lacking, wrongCheck, heardBlock}
+use Rattle.slots.proofs.Accepted.{Fitting, Stored, stored, owned, served}
+use Rattle.reading.specs.Circle.{streamsOn, Stretch}
+use Rattle.reading.specs.Room.{roomFits, releasedInto, roomAnswer, roomOutput}
+use Rattle.reading.proofs.Blocks.{streams, filler-below, stretch, blocks-told, size-told, filler-told}
+use Rattle.reading.proofs.Lent.{lacking-lent, wrong-lent, block-lent, room-fits, streams-lent}
+
+fitting-good : {M A : ℕ} → Fitting M A → badSize A ≡ false
+fitting-good {M} {A} w = good-size A (w .size-some) (w .size-most)
+
+-- ---- Read
+
+-- the chain over the store's and the owner's rules goes on over 5 (output)
+pub read-chained : (state : State) (room slot terminal size : ℕ) {head : Head} {owner n : ℕ} → head ≡ headAt state slot
+    → owner ≡ firstOf (storeRules state room slot ++ ownerRules state slot terminal) → n ≡ orElse owner (ltb size (head .size)) 5 → n ≡ readNumber state room slot terminal size
+unfolding readNumber storeRules ownerRules sizeAtHead
+read-chained state room slot terminal size h o e =
+    chained-on (storeRules state room slot ++ ownerRules state slot terminal) o (next (rw h at e) done) tt tt
+
+-- the call was not refused before the room, and its head was found
+pub record Reading (state : State) (store : List ℕ) (slot terminal : ℕ) (out : List ℕ) (n : ℕ) (head : Head) : Type 0 where
+  pub number : n ≡ readNumber state (length store) slot terminal (length out)
+  pub zero : n ≡ 0
+  pub found : head ≡ headAt state slot
+
+-- a refused one
+pub read-refused : (state : State) (store : List ℕ) (slot terminal : ℕ) (out : List ℕ) {n : ℕ}
+    → n ≡ readNumber state (length store) slot terminal (length out) → (n ≡ 0 → ⊥)
+    → (record { answer = Refused n; state = state } ≡ readOutcome state store slot terminal (length out)) × (out ≡ readOutput state store slot terminal out)
+unfolding readOutcome unlessRefused readOutput released
+read-refused state store slot terminal out e h = (rw (← e, ne-eqb _ 0 h), rw (← e, ne-eqb _ 0 h))
+
+by-release : (l w : Bool) (x y : List ℕ) → cond l (cond w y x) y ≡ cond (cond l (not w) false) x y
+by-release true true x y = refl
+by-release true false x y = refl
+by-release false w x y = refl
+
+-- one that comes to the room: what `read_room` gives for it is what the call gives
+module _ {state : State} {store : List ℕ} {slot terminal : ℕ} {out : List ℕ} {n : ℕ} {head : Head} (w : Reading state store slot terminal out n head) where
+  -- 5 (output) is the last rule
+  last : List Rule
+  last = rule (ltb (length out) (sizeAtHead state slot)) 5 ∷ []
+
+  pub slot-stored : Stored state (length store) slot
+  unfolding readNumber storeRules ownerRules last
+  slot-stored = stored state (length store) slot (ownerRules state slot terminal ++ last) (w .number) (w .zero) tt
+
+  size-fits : Fitting (state .blocks) (sizeAtHead state slot)
+  unfolding readNumber storeRules ownerRules last
+  size-fits = owned state (length store) slot terminal last (w .number) (w .zero) tt .size-fits
+
+  enough : sizeAtHead state slot ≤ length out
+  unfolding readNumber storeRules ownerRules
+  enough = ltb-false (length out) (sizeAtHead state slot) (cleared _ (w .number) (w .zero) tt 5)
+
+  abbrev from : ℕ
+  from = slot * (state .blocks * perBlock)
+
+  abbrev long : ℕ
+  long = state .blocks * perBlock
+
+  abbrev room : List ℕ
+  room = midOf from (from + long - from) store
+
+  pub room-within : from + long ≤ length store
+  unfolding roomStart roomLength
+  room-within = slot-stored .within
+
+  pub read-room-needs : (roomFits (head .size) (length room) ≡ true) × (head .size ≤ length out)
+  unfolding roomStart roomLength sizeAtHead
+  read-room-needs = rw (w .found) (room-fits (state .blocks) slot (sizeAtHead state slot) store (fitting-good (size-fits)) (size-fits .few) refl refl room-within, enough)
+
+  good : badSize (sizeAtHead state slot) ≡ false
+  good = fitting-good (size-fits)
+
+  lack : lacking 1 0 (sizeAtHead state slot) room ≡ lackingAt state slot store
+  unfolding lackingAt roomStart roomLength
+  lack = lacking-lent (state .blocks) slot (sizeAtHead state slot) store good (size-fits .few) refl refl
+
+  wrong : wrongCheck 1 0 (sizeAtHead state slot) room ≡ wrongAt state slot store
+  unfolding wrongAt roomStart roomLength
+  wrong = wrong-lent (state .blocks) slot (sizeAtHead state slot) store good (size-fits .few) refl refl
+
+  block : heardBlock 1 0 (sizeAtHead state slot) room ≡ heardBlock (state .blocks) slot (sizeAtHead state slot) store
+  unfolding roomStart roomLength
+  block = block-lent (state .blocks) slot (sizeAtHead state slot) store good (size-fits .few) refl refl
+
+  size-is : head .size ≡ sizeAtHead state slot
+  unfolding sizeAtHead
+  size-is = ap (λ (x : Head). x .size) (w .found)
+
+  pub answer-told : {answer : Answer} → answer ≡ roomAnswer (head .size) room → record { answer = answer; state = state } ≡ readOutcome state store slot terminal (length out)
+  unfolding readOutcome unlessRefused roomAnswer
+  answer-told a = rw (← (w .number), w .zero) (ap (λ (x : Answer). record { answer = x; state = state }) (a ∙ rw (size-is, lack, wrong)))
+
+  pub output-told : {out′ : List ℕ} → out′ ≡ roomOutput (head .size) room out → out′ ≡ readOutput state store slot terminal out
+  unfolding readOutput released roomOutput releasedInto
+  output-told o = o ∙ rw (size-is, lack, wrong, block, ← (w .number), w .zero) (by-release (eqb (lackingAt state slot store) 0) (wrongAt state slot store) _ out)
+
+-- ---- Streams
+
+-- 14 and 5 (output), for streams of so many places
+abbrev streamRules : ℕ → ℕ → ℕ → ℕ → List Rule
+streamRules C r size D = rule (not (ltb r C)) 14 ∷ rule (ltb size (3 * D)) 5 ∷ []
+
+module _ (state : State) (room slot terminal r size : ℕ) {owner : ℕ} (o : owner ≡ firstOf (storeRules state room slot ++ ownerRules state slot terminal)) where
+  abbrev B : ℕ
+  B = sizeAtHead state slot + 24
+
+  on : {m : ℕ} → Chain owner (streamRules (blocks B) r size (sizeOf B r + 4)) m → m ≡ streamsNumber state room slot terminal r size
+  unfolding streamsNumber storeRules ownerRules
+  on w = chained-on (storeRules state room slot ++ ownerRules state slot terminal) o w tt tt
+
+  -- a rule of the store or the owner applies
+  pub owner-refused : (owner ≡ 0 → ⊥) → owner ≡ streamsNumber state room slot terminal r size
+  owner-refused h = on (record { is = λ t. rw (ne-eqb owner 0 h) })
+
+  module _ (z : owner ≡ 0) {head : Head} {s : Segments} (h : head ≡ headAt state slot) (told : s ≡ segmentsFor (head .size)) where
+    fits-owner : Fitting (state .blocks) (sizeAtHead state slot)
+    fits-owner = served state room slot terminal o z .1 .size-fits
+
+    told-size : s ≡ segmentsFor (sizeAtHead state slot)
+    unfolding sizeAtHead
+    told-size = told ∙ ap (λ (x : Head). segmentsFor (x .size)) h
+
+    module _ {k : ℕ} (size-is : k ≡ cond (ltb r (s .shorts)) (s .short) (s .long)) where
+      found-size : k ≡ sizeOf B r
+      found-size = size-is ∙ size-told (sizeAtHead state slot) r told-size (fitting-good fits-owner)
+
+      pub found-most : k ≤ 6144
+      found-most = omega (arith, found-size, streams (sizeAtHead state slot) (fitting-good fits-owner) r .most)
+
+      pub streams-chained : {absent n : ℕ} → absent ≡ orElse 0 (not (ltb r (s .blocks))) 14 → n ≡ orElse absent (ltb size (3 * (k + 4))) 5
+          → n ≡ streamsNumber state room slot terminal r size
+      streams-chained a e = on (rw z (next (rw (blocks-told (sizeAtHead state slot) told-size (fitting-good fits-owner)) at a) (next (rw found-size at e) done)))
+
+-- a refused one
+pub streams-refused : (state : State) (store : List ℕ) (slot terminal r : ℕ) (out : List ℕ) {n : ℕ}
+    → n ≡ streamsNumber state (length store) slot terminal r (length out) → (n ≡ 0 → ⊥)
+    → (record { answer = Refused n; state = state } ≡ streamsOutcome state (length store) slot terminal r (length out)) × (out ≡ streamsOutput state store slot terminal r out)
+unfolding streamsOutcome unlessRefused streamsOutput
+streams-refused state store slot terminal r out e h = (rw (← e, ne-eqb _ 0 h), rw (← e, ne-eqb _ 0 h))
+
+-- the call was not refused, and its head and segmentation were found
+pub record Streaming (state : State) (store : List ℕ) (slot terminal r : ℕ) (out : List ℕ) (n : ℕ) (head : Head) (s : Segments) : Type 0 where
+  pub number : n ≡ streamsNumber state (length store) slot terminal r (length out)
+  pub zero : n ≡ 0
+  pub found : head ≡ headAt state slot
+  pub told : s ≡ segmentsFor (head .size)
+
+module _ {state : State} {store : List ℕ} {slot terminal r : ℕ} {out : List ℕ} {n : ℕ} {head : Head} {s : Segments} (w : Streaming state store slot terminal r out n head s) where
+  abbrev A : ℕ
+  A = sizeAtHead state slot
+
+  -- 14 and 5 (output) are the last rules
+  lasts : List Rule
+  lasts = streamRules (blocks (A + 24)) r (length out) (sizeOf (A + 24) r + 4)
+
+  store-is : Stored state (length store) slot
+  unfolding streamsNumber storeRules ownerRules lasts
+  store-is = stored state (length store) slot (ownerRules state slot terminal ++ lasts) (w .number) (w .zero) tt
+
+  fits : Fitting (state .blocks) A
+  unfolding streamsNumber storeRules ownerRules lasts
+  fits = owned state (length store) slot terminal lasts (w .number) (w .zero) tt .size-fits
+
+  below : r < blocks (A + 24)
+  unfolding streamsNumber storeRules ownerRules
+  below = ltb-true r (blocks (A + 24)) (not-false (ltb r (blocks (A + 24))) (cleared _ (w .number) (w .zero) tt 5))
+
+  ample : 3 * (sizeOf (A + 24) r + 4) ≤ length out
+  unfolding streamsNumber storeRules ownerRules
+  ample = ltb-false (length out) (3 * (sizeOf (A + 24) r + 4)) (cleared _ (w .number) (w .zero) tt 6)
+
+  told-is : s ≡ segmentsFor A
+  unfolding sizeAtHead
+  told-is = w .told ∙ ap (λ (x : Head). segmentsFor (x .size)) (w .found)
+
+  -- the circle of the code block lies in the store
+  pub circle-within : (slot * state .blocks + r) * perBlock + perBlock ≤ length store
+  unfolding roomStart roomLength
+  circle-within = omega (arith, store-is .within, mul-le-mul-right perBlock below, mul-le-mul-right perBlock (fits .few))
+
+  abbrev start : ℕ
+  start = (slot * state .blocks + r) * perBlock
+
+  starts : start ≡ byteOf (state .blocks) slot r 0
+  unfolding byteOf roomStart roomLength
+  starts = omega arith
+
+  module _ {k : ℕ} (size : k ≡ cond (ltb r (s .shorts)) (s .short) (s .long)) where
+    k-is : k ≡ sizeOf (A + 24) r
+    k-is = size ∙ size-told A r told-is (fitting-good fits)
+
+    pub size-most : k ≤ 6144
+    size-most = omega (arith, k-is, streams A (fitting-good fits) r .most)
+
+    module _ {f : ℕ} (filled : f ≡ cond (eqb r 0) (s .filler) 0) where
+      f-is : f ≡ fillerOf (A + 24) r
+      f-is = filled ∙ filler-told A r told-is (fitting-good fits)
+
+      pub three-needs : (f ≤ k + 4) × (3 * (k + 4) ≤ length out) × Stretch (length (midOf start (start + perBlock - start) store)) (k + 4) 0 0 (k + 4)
+      three-needs = rw (k-is, f-is) (
+        omega (arith, filler-below A (fitting-good fits) r),
+        ample,
+        stretch A (fitting-good fits) r 0 0 (sizeOf (A + 24) r + 4) (omega arith) (omega arith) (omega (arith, length-mid start (start + perBlock) store circle-within)),
+      )
+
+      pub streams-told : {out′ : List ℕ} → out′ ≡ streamsOn (midOf start (start + perBlock - start) store) (k + 4) f ++ drop (3 * (k + 4)) out
+          → (record { answer = Done; state = state } ≡ streamsOutcome state (length store) slot terminal r (length out)) × (out′ ≡ streamsOutput state store slot terminal r out)
+      unfolding streamsOutcome unlessRefused streamsOutput
+      streams-told o =
+          (rw (← (w .number), w .zero), rw (← (w .number), w .zero) (o ∙ rw (k-is, f-is, streams-lent (state .blocks) slot A r store (fitting-good fits) starts)))

@@ -1,0 +1,12 @@
+pub mod Sums
+pub mod Bytes
+pub mod Rows
+pub mod Gathering
+pub mod Blocks
+pub mod SameKept
+pub mod Lent
+pub mod Lacking
+pub mod Sequence
+pub mod Release
+pub mod Runs
+pub mod Answering

@@ -1,0 +1,58 @@
+-- Rooms that keep the same for the places of a block of A bits read alike, whatever slots of whatever stores they are:
+-- the count, the sequence, its check, the block and the streams.
+-- Assumes nothing.
+use mathlib.Core.Path.{_≡_, refl, ap, ap₂}
+use mathlib.Core.Bool.{cond, not, _&&_}
+use mathlib.Core.List.{List, _++_}
+use Prim.Native.Nat.{ℕ, zero, suc, _+_, _-_, _≤_, _<_}
+use native.Mathlib.Omega.{arith}
+use lib.Dec.{eqb, ltb}
+use lib.ListN.{take}
+use Rattle.laws.specs.Lists.{tab}
+use Rattle.laws.proofs.Tab.{tabFrom-ext, tab-ext}
+use Rattle.check_bits.specs.CheckBits.{crc, gCRC24A}
+use Rattle.segmentation.specs.Segmentation.{checkLength, blocks, sizeOf, fillerOf}
+use Rattle.slots.specs.Room.{heard}
+use Rattle.slots.specs.Reading.{keptAt, lacks, lackingIn, lacking, heardIn, heardFrom, heardSequence, wrongCheck, heardBlock, streamByte, threeStreams}
+use Rattle.reading.proofs.Sums.{sumFrom-ext}
+
+module _ (A M slot N other : ℕ) (store store′ : List ℕ)
+    (same : (r s i : ℕ) → r < blocks (A + 24) → s < 3 → i < sizeOf (A + 24) r + 4 → keptAt M slot (A + 24) store r s i ≡ keptAt N other (A + 24) store′ r s i)
+  where
+    -- how many data places lack a bit
+    pub same-lacking : lacking M slot A store ≡ lacking N other A store′
+    unfolding lacking lackingIn lacks
+    same-lacking = sumFrom-ext _ _ 0 (blocks (A + 24))
+        (λ r a h. sumFrom-ext _ _ (fillerOf (A + 24) r) (sizeOf (A + 24) r - fillerOf (A + 24) r)
+        (λ i b l. ap (λ (x : ℕ). cond (heard x) 0 1) (same r 0 i (omega arith) (omega arith) (omega arith))))
+
+    same-heardFrom : (r n : ℕ) → r + n ≤ blocks (A + 24) → heardFrom M slot (A + 24) store r n ≡ heardFrom N other (A + 24) store′ r n
+    unfolding heardFrom heardIn
+    same-heardFrom r zero h = refl
+    same-heardFrom r (suc n) h =
+        ap₂ _++_
+        (tabFrom-ext (fillerOf (A + 24) r) (sizeOf (A + 24) r - checkLength (A + 24) - fillerOf (A + 24) r) _ _
+        (λ i a b. same r 0 i (omega arith) (omega arith) (omega arith)))
+        (same-heardFrom (suc r) n (omega arith))
+
+    -- the block with its transport check
+    pub same-sequence : heardSequence M slot A store ≡ heardSequence N other A store′
+    unfolding heardSequence
+    same-sequence = same-heardFrom 0 (blocks (A + 24)) (omega arith)
+
+    pub same-wrong : wrongCheck M slot A store ≡ wrongCheck N other A store′
+    unfolding wrongCheck
+    same-wrong = ap (λ (l : List ℕ). not (eqb (crc 24 gCRC24A l) 0)) same-sequence
+
+    pub same-block : heardBlock M slot A store ≡ heardBlock N other A store′
+    unfolding heardBlock
+    same-block = ap (take A) same-sequence
+
+    -- the three streams of a code block
+    pub same-streams : (r : ℕ) → r < blocks (A + 24) → threeStreams M slot (A + 24) store r ≡ threeStreams N other (A + 24) store′ r
+    unfolding threeStreams streamByte
+    same-streams r h = ap₂ _++_ (one 0 (omega arith)) (ap₂ _++_ (one 1 (omega arith)) (one 2 (omega arith)))
+      where
+        one : (s : ℕ) → s < 3 → tab (sizeOf (A + 24) r + 4) (streamByte M slot (A + 24) store r s) ≡ tab (sizeOf (A + 24) r + 4) (streamByte N other (A + 24) store′ r s)
+        one s u = tab-ext (sizeOf (A + 24) r + 4) _ _
+            (λ i l. ap (λ (x : ℕ). cond (ltb s 2 && ltb i (fillerOf (A + 24) r)) 0 (cond (heard x) x 2)) (same r s i h u l))

@@ -1,0 +1,65 @@
+-- `calls::streams_number` meets its contract: the chain goes on over 14 and the output's rule, where the owner is known (`Answering`).
+-- Assumes nothing.
+use Prim.Native.Nat.{_≤_}
+use native.Mathlib.Omega.{arith}
+use borrow.Author.Needs.{needs}
+use Rattle.reading.proofs.Answering.{owner-refused, found-most, streams-chained}
+use Rattle.reading.proofs.calls.streams_number.Statement.{statement}
+use Rattle.reading.proofs.calls.streams_number.Tie as tie
+
+-- no size is above 6,144
+most : (c : tie.After-size-of) → c .size-of .result ≤ 6144
+most c =
+    let found = c .before .before .before in
+    let owned = found .before .before in
+    found-most _ _ _ _ _ (owned .before .before .args .size) (owned .before .owner-number .ensures) (owned .if1 .left) (found .before .head-at .ensures)
+    (found .segments-for .ensures) (c .size-of .ensures)
+
+owner-number-requires : tie.Need-owner-number-requires
+owner-number-requires c κs = search needs
+
+returns : tie.Need-returns
+returns c = owner-refused _ _ _ _ _ _ (c .before .owner-number .ensures) (c .if1 .taken)
+
+head-at-requires : tie.Need-head-at-requires
+head-at-requires c κs = search needs
+
+segments-for-requires : tie.Need-segments-for-requires
+segments-for-requires c κs = search needs
+
+or-else-requires : tie.Need-or-else-requires
+or-else-requires c κs = search needs
+
+size-of-requires : tie.Need-size-of-requires
+size-of-requires c κs = search needs
+
+add-or-else : tie.Need-add-or-else
+add-or-else c = omega (arith, most c)
+
+mul-or-else : tie.Need-mul-or-else
+mul-or-else c = omega (arith, most c)
+
+or-else-requires-2 : tie.Need-or-else-requires-2
+or-else-requires-2 c κs = search needs
+
+returns-2 : tie.Need-returns-2
+returns-2 c =
+    let found = c .before .before .before .before in
+    let owned = found .before .before in
+    streams-chained _ _ _ _ _ _ (owned .before .owner-number .ensures) (owned .if1 .left) (found .before .head-at .ensures) (found .segments-for .ensures)
+    (c .before .size-of .ensures) (c .before .before .or-else .ensures) (c .or-else2 .ensures)
+
+pub streams-number-spec : {M : Type 1} → statement M
+streams-number-spec =
+    tie.close
+    (tie.spec
+    owner-number-requires
+    returns
+    head-at-requires
+    segments-for-requires
+    or-else-requires
+    size-of-requires
+    add-or-else
+    mul-or-else
+    or-else-requires-2
+    returns-2)

@@ -1,0 +1,84 @@
+-- What a code block's circle keeps for the places of its streams, 01 'Slots', and where these places lie row by row (clause 5.1.4.1.1).
+-- Assumes nothing.
+use mathlib.Core.Path.{_≡_}
+use mathlib.Core.Bool.{cond, _&&_}
+use mathlib.Core.List.{List, map, _++_}
+use Prim.Native.Nat.{ℕ, _+_, _*_, _/_, _%_, _≤_, _<_}
+use lib.Dec.{eqb, ltb}
+use lib.ListN.{getD, length}
+use Rattle.laws.specs.Lists.{tab}
+use Rattle.rate_matching.specs.declared.CirclePlace.{CirclePlace}
+use Rattle.rate_matching.specs.Places.{placeNumber, longest}
+use Rattle.slots.specs.State.{perBlock}
+use Rattle.slots.specs.Room.{heard}
+
+-- the byte for place i of stream s, of streams of D places
+unfoldable pub keptOn : List ℕ → ℕ → ℕ → ℕ → ℕ
+keptOn circle D s i = getD circle (placeNumber D s i) 0
+
+-- 1 where a byte has heard no bit
+unfoldable pub missing : ℕ → ℕ
+missing x = cond (heard x) 0 1
+
+-- what Streams shows of a byte: the bit where one was heard, else 2
+unfoldable pub shown : ℕ → ℕ
+shown x = cond (heard x) x 2
+
+-- 1 where entry k of a list has heard no bit
+unfoldable pub missingAt : List ℕ → ℕ → ℕ
+missingAt bytes k = missing (getD bytes k 0)
+
+-- 1 where place i of stream 0 has heard no bit
+unfoldable pub missingOn : List ℕ → ℕ → ℕ → ℕ
+missingOn circle D i = missing (keptOn circle D 0 i)
+
+-- entry k of a list as Streams shows it
+unfoldable pub shownAt : List ℕ → ℕ → ℕ
+shownAt bytes k = shown (getD bytes k 0)
+
+-- what Streams gives for place i of stream s: 0 for absent filler, of which there are F places in streams 0 and 1
+unfoldable pub streamOn : List ℕ → ℕ → ℕ → ℕ → ℕ → ℕ
+streamOn circle D F s i = cond (ltb s 2 && ltb i F) 0 (shown (keptOn circle D s i))
+
+-- the three runs of D bytes, one a stream
+unfoldable pub streamsOn : List ℕ → ℕ → ℕ → List ℕ
+streamsOn circle D F =
+    tab D (streamOn circle D F 0) ++ (tab D (streamOn circle D F 1) ++ tab D (streamOn circle D F 2))
+
+-- a row is one place of the circle in the part of stream 0, and two where streams 1 and 2 stand by turns
+unfoldable pub rowStep : ℕ → ℕ
+rowStep s = cond (eqb s 0) 1 2
+
+-- the place of the circle with a number
+abbrev pub circlePlace : ℕ → CirclePlace
+circlePlace j = record { 0 = j }
+
+-- where the first 32 places of stream s lie, one in each column
+unfoldable pub firstPlaces : ℕ → ℕ → List CirclePlace
+firstPlaces D s = map circlePlace (tab 32 (placeNumber D s))
+
+-- where place i of a stream lies, from where its first 32 lie: i / 32 rows further
+unfoldable pub placeBy : List CirclePlace → ℕ → ℕ → ℕ
+placeBy firsts step i = getD firsts (i % 32) (circlePlace 0) .0 + step * (i / 32)
+
+-- the byte there
+unfoldable pub keptBy : List ℕ → List CirclePlace → ℕ → ℕ → ℕ
+keptBy circle firsts step i = getD circle (placeBy firsts step i) 0
+
+-- these n places from place i on lie on a circle of the length
+pub record Along (long : ℕ) (firsts : List CirclePlace) (step i n : ℕ) : Type 0 where
+  pub most : i + n ≤ longest
+  pub places : (k : ℕ) → i ≤ k → k < i + n → placeBy firsts step k < long
+
+-- D = K + 4 for a K of table 5.1.3-3: the sizes are multiples of 8
+pub record Streams (D : ℕ) : Type 0 where
+  pub least : 44 ≤ D
+  pub most : D ≤ longest
+  pub bytes : D % 8 ≡ 4
+
+-- stream s has the n places from place i on, and the circle lies in a room for one code block
+pub record Stretch (long D s i n : ℕ) : Type 0 where
+  pub sized : Streams D
+  pub stream : s < 3
+  pub within : i + n ≤ D
+  pub room : perBlock ≤ long

@@ -1,0 +1,8 @@
+// The calls Read and Streams of 01, and the count of the data places that lack a bit.
+mod calls;
+mod circle;
+mod room;
+
+pub use calls::read;
+pub use calls::streams;
+pub use room::lacking_in;

@@ -1,0 +1,115 @@
+-- What an accepted Receive of 01 may go on: the slot's room lies in the store and has the block's code blocks; and what it is to answer and to store.
+-- Assumes nothing.
+use mathlib.Core.Path.{_≡_, refl, sym, _∙_, ap}
+use mathlib.Core.Bool.{true, false}
+use mathlib.Core.List.{List}
+use Prim.Native.Nat.{ℕ, _+_, _-_, _*_, _≤_}
+use native.Mathlib.Nat.{mul-le-mul}
+use native.Mathlib.Omega.{arith}
+use lib.ListN.{length}
+use borrow.Author.Tests.{ltb-false, le-leb}
+use borrow.Rule.Slice.PartMut.{midOf, putMid}
+use Rattle.segmentation.specs.Segmentation.{blocks}
+use Rattle.segmentation.specs.Sizes.{badSize}
+use Rattle.segmentation.proofs.Segmentation.{good-size}
+use Rattle.codeword.specs.Build.{badAllocation, badVersion}
+use Rattle.slots.specs.declared.State.{State}
+use Rattle.slots.specs.declared.Outcome.{Outcome}
+use Rattle.slots.specs.declared.Answer.the-variants.{Heard}
+use Rattle.slots.specs.State.{perBlock, roomLength, roomStart}
+use Rattle.slots.specs.Reception.{received}
+use Rattle.slots.specs.Reading.{lacking}
+use Rattle.slots.specs.Answers.{unlessRefused}
+use Rattle.slots.specs.Calls.{sizeAtHead, receiveNumber, receiveStore, receiveOutcome}
+use Rattle.slots.proofs.Acceptance.{receives}
+use Rattle.slots.proofs.Accepted.{good, room-within}
+use Rattle.reading.specs.Room.{roomFits}
+use Rattle.reception.specs.Parts.{roomAfter, Accepted}
+use Rattle.reception.proofs.Slot.{room-accepts, room-received, room-lacking}
+
+-- the room after the bits are put is as long, so the places can be counted
+pub fits-still : {A Q N v G n m : ℕ} → Accepted A Q N v G n → m ≡ n → roomFits A m ≡ true
+unfolding roomFits
+fits-still {A} {m = m} a e = let enough : blocks (A + 24) * perBlock ≤ m = omega (arith, a .fits) in rw (a .size, le-leb (blocks (A + 24) * perBlock) m enough)
+
+-- number 0
+pub record Ready (state : State) (room slot Q N v : ℕ) (bits : List ℕ) : Type 0 where
+  pub slots-few : slot ≤ 8
+  pub blocks-few : state .blocks ≤ 5
+  pub size : badSize (sizeAtHead state slot) ≡ false
+  pub fits : blocks (sizeAtHead state slot + 24) ≤ state .blocks
+  pub allocation : badAllocation (blocks (sizeAtHead state slot + 24)) Q N (length bits) ≡ false
+  pub version : v ≤ 3
+  pub within : roomStart (state .blocks) slot + roomLength (state .blocks) ≤ room
+
+pub ready : {state : State} {room slot : ℕ} (terminal : ℕ) {Q N v : ℕ} {bits : List ℕ} {number : ℕ} → number ≡ receiveNumber state room slot terminal Q N v bits → number ≡ 0
+    → Ready state room slot Q N v bits
+unfolding badVersion
+ready {state} {room} {slot} terminal {Q} {N} {v} {bits} told zero =
+    let is = receives state room slot terminal Q N v bits (sym told ∙ zero) in
+    let whole = good state (is .sound) in
+    let head = whole .fits slot (is .below) (is .opened) in
+    record {
+      slots-few = omega (arith, is .below, whole .shape .slots-most);
+      blocks-few = whole .shape .blocks-most;
+      size = good-size (sizeAtHead state slot) (head .size-some) (head .size-most);
+      fits = head .few;
+      allocation = is .allocation;
+      version = ltb-false 3 v (is .version);
+      within = omega (arith, is .long, room-within state (is .below));
+    }
+
+-- ---- the room that is lent, store[from .. from + long]
+
+abbrev pub roomBytes : State → ℕ
+roomBytes state = state .blocks * perBlock
+
+abbrev pub roomFrom : State → ℕ → ℕ
+roomFrom state slot = slot * roomBytes state
+
+abbrev pub lent : State → ℕ → List ℕ → List ℕ
+lent state slot store = midOf (roomFrom state slot) (roomFrom state slot + roomBytes state - roomFrom state slot) store
+
+-- the store when the room is back
+abbrev pub putBack : State → ℕ → List ℕ → List ℕ → List ℕ
+putBack state slot store room = putMid (roomFrom state slot) (roomFrom state slot + roomBytes state - roomFrom state slot) store room
+
+module _ {state : State} {room slot Q N v : ℕ} {bits : List ℕ} (is : Ready state room slot Q N v bits) where
+  -- where it lies can be computed
+  pub room-small : roomBytes state ≤ 92640
+  room-small = omega (arith, is .blocks-few)
+
+  pub room-near : roomFrom state slot ≤ 741120
+  room-near = omega (arith, mul-le-mul (is .slots-few) room-small)
+
+  -- and it is in the store
+  pub room-in : roomFrom state slot + roomBytes state ≤ room
+  unfolding roomStart roomLength
+  room-in = is .within
+
+-- ---- a reception of number 0 with `size` for the A of the slot's head
+
+module _ {state : State} {slot Q N v : ℕ} {bits : List ℕ} (store : List ℕ) {size : ℕ} (is : Ready state (length store) slot Q N v bits) (sized : size ≡ sizeAtHead state slot) where
+  pub room-ready : Accepted size Q N v (length bits) (length (lent state slot store))
+  unfolding roomStart roomLength
+  room-ready = rw sized (room-accepts (state .blocks) slot (sizeAtHead state slot) Q N v bits store (is .size) (is .fits) (is .version) refl refl (is .within) (is .allocation))
+
+  -- the room came back with the bits in it
+  module _ (terminal : ℕ) {number count : ℕ} {last : List ℕ} (told : number ≡ receiveNumber state (length store) slot terminal Q N v bits) (zero : number ≡ 0)
+      (kept : length last ≡ length (lent state slot store))
+      (put : (last ≡ roomAfter size Q N v bits (lent state slot store)) × (count ≡ lacking 1 0 size last)) where
+    after : putBack state slot store last ≡ received (state .blocks) slot (sizeAtHead state slot) Q N v bits store
+    unfolding roomStart roomLength
+    after = room-received (state .blocks) slot (sizeAtHead state slot) Q N v bits store (is .size) (is .fits) (is .version) refl refl (is .within) (rw sized at (put .0))
+
+    counted : count ≡ lacking (state .blocks) slot (sizeAtHead state slot) (received (state .blocks) slot (sizeAtHead state slot) Q N v bits store)
+    unfolding roomStart roomLength
+    counted = room-lacking (state .blocks) slot (sizeAtHead state slot) Q N v bits store (is .size) (is .fits) (is .version) refl refl (is .within) (rw sized at (put .0)) kept (rw sized at (put .1))
+
+    pub stored : putBack state slot store last ≡ receiveStore state slot terminal Q N v bits store
+    unfolding receiveStore
+    stored = rw (← told, zero) after
+
+    pub answered : _≡_ {A = Outcome} (record { answer = Heard count; state = state }) (receiveOutcome state slot terminal Q N v bits store)
+    unfolding receiveOutcome receiveStore unlessRefused
+    answered = rw (← told, zero) (ap (λ (n : ℕ). record { answer = Heard n; state = state }) counted)

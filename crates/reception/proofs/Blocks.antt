@@ -1,0 +1,163 @@
+-- The loop over the code blocks of a reception, 01 'Receive': each has its stretch of the bits and its part of the room.
+-- Assumes nothing.
+use mathlib.Core.Path.{_≡_, refl, sym, _∙_, ap, ap₂}
+use mathlib.Core.Bool.{false}
+use mathlib.Core.List.{List}
+use Prim.Native.Nat.{ℕ, suc, _+_, _-_, _*_, _≤_, _<_}
+use native.Mathlib.Nat.{add-zero, sub-zero, add-sub-cancel-left, mul-le-mul-right}
+use native.Mathlib.Numerals.{add-one}
+use native.Mathlib.Omega.{arith}
+use lib.ListN.{length, getD, drop}
+use borrow.Author.Tests.{le-ltb}
+use borrow.Rule.Slice.PartMut.{midOf, putMid, put-same}
+use Rattle.laws.proofs.Tab.{length-tab}
+use Rattle.laws.proofs.Parts.{length-mid, length-put}
+use Rattle.segmentation.specs.declared.Segments.{Segments}
+use Rattle.segmentation.specs.Segmentation.{blocks, sizeOf, fillerOf}
+use Rattle.segmentation.specs.Sizes.{badSize, segmentsFor}
+use Rattle.rate_matching.specs.SubBlocks.{rows}
+use Rattle.rate_matching.specs.Circle.{circleLength, startOf}
+use Rattle.rate_matching.specs.Walk.{sentPlaces, turn, turnAfterTurn}
+use Rattle.rate_matching.specs.Shape.{shape, Turnable}
+use Rattle.codeword.specs.Shares.{share, sharesBefore}
+use Rattle.codeword.specs.Codeword.{blockRows}
+use Rattle.codeword.specs.Build.{badVersion, shareOf}
+use Rattle.codeword.proofs.Accepted.{allocated, share-told}
+use Rattle.codeword.proofs.Shares.{stretch-within}
+use Rattle.codeword.proofs.Segmented.{sized-in}
+use Rattle.slots.specs.State.{perBlock, roomLength, roomStart}
+use Rattle.slots.specs.Room.{byteOf}
+use Rattle.slots.specs.Reception.{blockPlaces, putBits, putBlocks, received}
+use Rattle.slots.proofs.PlaceBounds.{sent-below}
+use Rattle.reading.proofs.Blocks.{streams, filler-below}
+use Rattle.reception.specs.Parts.{putFrom, partAfter, roomAfter, Accepted}
+use Rattle.reception.proofs.Putting.{length-putFrom, putFrom-front, put-in, putBits-is}
+
+-- ---- the code blocks of a block of A bits, A in range
+
+module _ (A : ℕ) (admitted : badSize A ≡ false) where
+  -- which places of code block r hold a bit can be told
+  pub block-turnable : (r v : ℕ) → v ≤ 3 → Turnable (sizeOf (A + 24) r + 4) (fillerOf (A + 24) r) v perBlock
+  unfolding circleLength rows
+  block-turnable r v low = record {
+    least = streams A admitted r .least;
+    most = streams A admitted r .most;
+    filler = omega (arith, filler-below A admitted r);
+    version = low;
+    fits = omega (arith, streams A admitted r .most);
+  }
+
+  -- and their number
+  pub count-is : {s : Segments} → s ≡ segmentsFor A → s .blocks ≡ blocks (A + 24)
+  count-is {s} told = sized-in A s admitted told .count
+
+-- ---- the loop
+
+-- the code blocks before r have their bits; what the definition still gives from here is the whole
+pub record Blocks (A Q N v : ℕ) (bits room₀ room : List ℕ) (at from r : ℕ) : Type 0 where
+  pub passed : r ≤ blocks (A + 24)
+  pub starts : at ≡ sharesBefore (blocks (A + 24)) Q N (length bits) r
+  pub begins : from ≡ r * perBlock
+  pub long : length room ≡ length room₀
+  pub told : putBlocks 1 0 (A + 24) Q N v bits r (blocks (A + 24) - r) room ≡ roomAfter A Q N v bits room₀
+
+module _ {A Q N v : ℕ} {bits room₀ : List ℕ} where
+  pub blocks-start : Blocks A Q N v bits room₀ room₀ 0 0 0
+  unfolding sharesBefore roomAfter received
+  blocks-start = record {
+    passed = omega arith;
+    starts = refl;
+    begins = omega arith;
+    long = refl;
+    told = ap (λ (n : ℕ). putBlocks 1 0 (A + 24) Q N v bits 0 n room₀) (sub-zero (blocks (A + 24)));
+  }
+
+  pub blocks-finish : {room : List ℕ} {at from r : ℕ} → blocks (A + 24) ≤ r → Blocks A Q N v bits room₀ room at from r → room ≡ roomAfter A Q N v bits room₀
+  unfolding putBlocks
+  blocks-finish {room} {at} {from} {r} h b = sym (ap (λ (n : ℕ). putBlocks 1 0 (A + 24) Q N v bits r n room) none) ∙ b .told
+    where
+      none : blocks (A + 24) - r ≡ 0
+      none = omega arith
+
+  module _ {room : List ℕ} {at from r : ℕ} (ok : Accepted A Q N v (length bits) (length room₀)) (h : r < blocks (A + 24))
+      (b : Blocks A Q N v bits room₀ room at from r) where
+    -- the part of the room that is lent
+    pub part-within : from + perBlock ≤ length room
+    part-within = omega (arith, b .begins, b .long, ok .fits, mul-le-mul-right perBlock h)
+
+    -- the stretch of the bits that is lent
+    pub share-is : {E : ℕ} → E ≡ shareOf (blocks (A + 24)) Q N (length bits) r → E ≡ share (blocks (A + 24)) Q N (length bits) r
+    share-is e = e ∙ share-told (blocks (A + 24)) Q N (length bits) r h (ok .allocation)
+
+    pub bits-within : {E : ℕ} → E ≡ shareOf (blocks (A + 24)) Q N (length bits) r → at + E ≤ length bits
+    bits-within {E} e = omega (arith, b .starts, share-is e, stretch-within (blocks (A + 24)) Q N (length bits) r h (allocated _ Q N (length bits) (ok .allocation) .multiple))
+
+    pub blocks-next : {E D F : ℕ} {part : List ℕ} → E ≡ shareOf (blocks (A + 24)) Q N (length bits) r → D ≡ sizeOf (A + 24) r + 4 → F ≡ fillerOf (A + 24) r
+        → part ≡ partAfter D F v (midOf at (at + E - at) bits) (midOf from (from + perBlock - from) room)
+        → Blocks A Q N v bits room₀ (putMid from (from + perBlock - from) room part) (at + E) (from + perBlock) (r + 1)
+    unfolding putBlocks partAfter blockPlaces blockRows byteOf roomStart roomLength sharesBefore sentPlaces badVersion
+    blocks-next {E} {D} {F} {part} e d f s = record {
+      passed = omega arith;
+      starts = ap₂ (λ (x y : ℕ). x + y) (b .starts) (share-is e) ∙ ap (sharesBefore C Q N G) (sym (add-one r));
+      begins = omega (arith, b .begins);
+      long = length-put from (from + perBlock) room part part-within as-long ∙ b .long;
+      told =
+          ap₂ (λ (q : ℕ) (l : List ℕ). putBlocks 1 0 (A + 24) Q N v bits q (C - (r + 1)) l) (add-one r)
+          (put ∙ ap (λ (n : ℕ). putBits 1 0 r js (drop n bits) room) (b .starts))
+          ∙ ap (λ (n : ℕ). putBlocks 1 0 (A + 24) Q N v bits r n room) one
+          ∙ b .told;
+    }
+      where
+        C : ℕ
+        C = blocks (A + 24)
+
+        G : ℕ
+        G = length bits
+
+        k : ℕ
+        k = from + perBlock - from
+
+        mid : List ℕ
+        mid = midOf from k room
+
+        js : List ℕ
+        js = blockPlaces (A + 24) Q N v G r
+
+        one : suc (C - (r + 1)) ≡ C - r
+        one = omega arith
+
+        mid-long : length mid ≡ perBlock
+        mid-long = length-mid from (from + perBlock) room part-within ∙ add-sub-cancel-left from perBlock
+
+        lent-long : length (midOf at (at + E - at) bits) ≡ share C Q N G r
+        lent-long = length-mid at (at + E) bits (bits-within e) ∙ add-sub-cancel-left at E ∙ share-is e
+
+        places : sentPlaces (shape D F) (startOf (rows D) v) (length (midOf at (at + E - at) bits)) ≡ js
+        places =
+            ap₂ (λ (x y : ℕ). sentPlaces (shape x y) (startOf (rows x) v) (length (midOf at (at + E - at) bits))) d f
+            ∙ ap (λ (n : ℕ). sentPlaces (shape (sizeOf (A + 24) r + 4) (fillerOf (A + 24) r)) (startOf (blockRows (A + 24) r) v) n) lent-long
+
+        few : length js ≤ at + E - at
+        few = omega (arith, length-tab (share C Q N G r) (turnAfterTurn (turn (shape (sizeOf (A + 24) r + 4) (fillerOf (A + 24) r)) (startOf (blockRows (A + 24) r) v))), share-is e)
+
+        part-is : part ≡ putFrom 0 js (drop at bits) mid
+        part-is =
+            s
+            ∙ ap (λ (l : List ℕ). putFrom 0 l (midOf at (at + E - at) bits) mid) places
+            ∙ putFrom-front 0 js (at + E - at) (drop at bits) mid few
+
+        as-long : length part ≡ from + perBlock - from
+        as-long = ap length part-is ∙ length-putFrom 0 js (drop at bits) mid ∙ length-mid from (from + perBlock) room part-within
+
+        below : (i : ℕ) → i < length js → 0 + getD js i 0 < length mid
+        below i l = rw mid-long (omega (arith, sent-below A (ok .size) Q N v G r (le-ltb 3 v (ok .version)) i l))
+
+        there : from ≡ 0 * (1 * perBlock) + (r * perBlock + 0)
+        there = omega (arith, b .begins)
+
+        put : putMid from k room part ≡ putBits 1 0 r js (drop at bits) room
+        put =
+            ap (putMid from k room) part-is
+            ∙ sym (put-in from k room (omega (arith, part-within)) 0 js (drop at bits) mid below)
+            ∙ ap₂ (λ (n : ℕ) (l : List ℕ). putFrom n js (drop at bits) l) (add-zero from) (put-same from k room)
+            ∙ sym (putBits-is 1 0 r js (drop at bits) room there)

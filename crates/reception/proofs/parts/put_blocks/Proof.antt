@@ -1,0 +1,149 @@
+-- `parts::put_blocks` meets its contract: the code blocks passed have their bits, each in its part of the room.
+-- Assumes nothing.
+use mathlib.Core.Path.{_≡_, _∙_, ap}
+use Prim.Native.Nat.{ℕ, _+_, _-_, _≤_, _<_}
+use native.Mathlib.Nat.{add-sub-cancel-left}
+use native.Mathlib.Omega.{arith}
+use lib.ListN.{length}
+use Rattle.laws.proofs.Parts.{length-mid}
+use Rattle.segmentation.specs.Segmentation.{blocks, sizeOf}
+use Rattle.codeword.specs.Build.{shareOf}
+use Rattle.reading.proofs.Blocks.{Block, block-of, blocks-few}
+use Rattle.reception.proofs.Blocks.{block-turnable, count-is, Blocks, blocks-start, blocks-next, blocks-finish, part-within, bits-within}
+use Rattle.reception.proofs.parts.put_blocks.Statement.{statement}
+use Rattle.reception.proofs.parts.put_blocks.Tie as tie
+
+abbrev Inv-loop : tie.InvT-loop
+Inv-loop a q n version bits room₀ s C g at₀ from₀ r₀ room at from r = Blocks a q n version bits room₀ room at from r
+
+abbrev μ-loop : tie.MeasureT-loop
+μ-loop a q n version bits room₀ s C g at₀ from₀ r₀ room at from r = C - r
+
+-- in the loop: the function's entry, and the numbers of code block r
+abbrev entry : tie.In-loop Inv-loop μ-loop → tie.Start Inv-loop μ-loop
+entry c = c .before .before .before .before .before
+
+count : (c : tie.In-loop Inv-loop μ-loop) → c .before .before .segments-for .result .blocks ≡ blocks (entry c .args .a + 24)
+count c = count-is _ (entry c .pre .size) (c .before .before .segments-for .ensures)
+
+block : (c : tie.In-loop Inv-loop μ-loop) → Block (entry c .args .a) (c .before .before .segments-for .result) (c .before .loop .r)
+block c = block-of _ (c .before .before .segments-for .ensures) (c .loop-test .taken)
+
+below : (c : tie.In-loop Inv-loop μ-loop) → c .before .loop .r < blocks (entry c .args .a + 24)
+below c = block c .below
+
+size : (c : tie.After-size-of Inv-loop μ-loop) → c .size-of .result ≡ sizeOf (entry (c .before) .args .a + 24) (c .before .before .loop .r)
+size c = c .size-of .ensures ∙ block (c .before) .size
+
+share-of : (c : tie.After-share-of Inv-loop μ-loop) → let e = entry (c .before .before .before) .args in
+    c .share-of .result ≡ shareOf (blocks (e .a + 24)) (e .q) (e .n) (length (e .bits .now)) (c .before .before .before .before .loop .r)
+share-of c = rw (count (c .before .before .before)) at (c .share-of .ensures)
+
+-- its stretch of the bits and its part of the room
+bits-fit : (c : tie.After-share-of Inv-loop μ-loop) → c .before .before .before .before .loop .at + c .share-of .result ≤ length (entry (c .before .before .before) .args .bits .now)
+bits-fit c = let i = c .before .before .before in bits-within (entry i .pre) (below i) (i .before .loop .inv) (share-of c)
+
+part-fits : (c : tie.In-loop Inv-loop μ-loop) → c .before .loop .from + 18528 ≤ length (c .before .loop .room)
+part-fits c = part-within (entry c .pre) (below c) (c .before .loop .inv)
+
+segments-for-requires : tie.Need-segments-for-requires Inv-loop μ-loop
+segments-for-requires c κs = tt
+
+loop-holds : tie.Need-loop-holds Inv-loop μ-loop
+loop-holds c = blocks-start
+
+size-of-requires : tie.Need-size-of-requires Inv-loop μ-loop
+size-of-requires c κs = tt
+
+add-d : tie.Need-add-d Inv-loop μ-loop
+add-d c = omega (arith, size c, block-turnable _ (entry (c .before) .pre .size) (c .before .before .loop .r) 0 (omega arith) .most)
+
+filler-of-requires : tie.Need-filler-of-requires Inv-loop μ-loop
+filler-of-requires c κs = tt
+
+share-of-requires : tie.Need-share-of-requires Inv-loop μ-loop
+share-of-requires c κs = tt
+
+add-end : tie.Need-add-end Inv-loop μ-loop
+add-end c = omega (arith, bits-fit c)
+
+add-to : tie.Need-add-to Inv-loop μ-loop
+add-to c = omega (arith, part-fits (c .before .before .before))
+
+sub-put-block : tie.Need-sub-put-block Inv-loop μ-loop
+sub-put-block c = omega arith
+
+part-put-block-start : tie.Need-part-put-block-start Inv-loop μ-loop
+part-put-block-start c = omega (arith, bits-fit c)
+
+part-put-block-end : tie.Need-part-put-block-end Inv-loop μ-loop
+part-put-block-end c = bits-fit c
+
+sub-put-block-2 : tie.Need-sub-put-block-2 Inv-loop μ-loop
+sub-put-block-2 c = omega arith
+
+part-put-block-start-2 : tie.Need-part-put-block-start-2 Inv-loop μ-loop
+part-put-block-start-2 c = omega (arith, part-fits (c .before .before .before .before))
+
+part-put-block-end-2 : tie.Need-part-put-block-end-2 Inv-loop μ-loop
+part-put-block-end-2 c = part-fits (c .before .before .before .before)
+
+put-block-requires : tie.Need-put-block-requires Inv-loop μ-loop
+put-block-requires c κs =
+    let i = c .before .before .before .before .before in
+    let r = i .before .loop .r in
+    let filled = c .before .before .before .filler-of .ensures ∙ block i .filled in
+    rw (size (c .before .before .before .before), filled, length-mid _ _ (i .before .loop .room) (part-fits i), add-sub-cancel-left (i .before .loop .from) 18528)
+    (block-turnable _ (entry i .pre .size) r _ (entry i .pre .version))
+
+add-r : tie.Need-add-r Inv-loop μ-loop
+add-r c =
+    let i = c .before .before .before .before .before .before .before .before in
+    omega (arith, below i, blocks-few _ (i .before .before .segments-for .ensures))
+
+loop-less : tie.Need-loop-less Inv-loop μ-loop
+loop-less c = omega arith
+
+loop-again : tie.Need-loop-again Inv-loop μ-loop
+loop-again c =
+    let shared = c .before .before .before .before .before in
+    let filled = shared .before in
+    let sized = filled .before in
+    let i = sized .before in
+    blocks-next (entry i .pre) (below i) (i .before .loop .inv) (share-of shared) (ap (λ (k : ℕ). k + 4) (size sized))
+    (filled .filler-of .ensures ∙ block i .filled) (c .before .before .put-block .ensures)
+
+same-length : tie.Need-same-length Inv-loop μ-loop
+same-length c = c .before .loop .inv .long
+
+returns : tie.Need-returns Inv-loop μ-loop
+returns c =
+    let all = count-is _ (c .before .before .before .before .before .pre .size) (c .before .before .segments-for .ensures) in
+    blocks-finish (omega arith) (c .before .loop .inv)
+
+pub put-blocks-spec : {M : Type 1} → statement M
+put-blocks-spec =
+    tie.close
+    (tie.spec
+    Inv-loop
+    μ-loop
+    segments-for-requires
+    loop-holds
+    size-of-requires
+    add-d
+    filler-of-requires
+    share-of-requires
+    add-end
+    add-to
+    sub-put-block
+    part-put-block-start
+    part-put-block-end
+    sub-put-block-2
+    part-put-block-start-2
+    part-put-block-end-2
+    put-block-requires
+    add-r
+    loop-less
+    loop-again
+    same-length
+    returns)
