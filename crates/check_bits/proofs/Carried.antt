@@ -103,7 +103,7 @@ only g o (b ∷ p) k {L} {s} e hs hp z =
     back g (length p) k e hs o (hp 0) (only g o p (suc k) (split g (length p) k e hs) (crcStep-lt L g s b) (λ i. hp (suc i)) z)
 
 -- the register after the data is emptied by its own bits
-emptied : (L g s : ℕ) → s < 2 ^ L → crcFrom L g s (bitsOf L s) ≡ 0
+pub emptied : (L g s : ℕ) → s < 2 ^ L → crcFrom L g s (bitsOf L s) ≡ 0
 emptied L g s h = rw div-one at (empties g L 0 (add-zero L) h (mod-one s))
 
 -- data that carries its check

@@ -1,14 +1,119 @@
 // Check bits of clause 5.1.1: the remainder of a run of bits, and its 24 bits put at the front of a slice.
+mod table;
+
 ghost use mathlib.Core.Path.{_≡_};
-ghost use Rattle.check_bits.specs.CheckBits.{crc, gCRC24A, gCRC24B};
+ghost use Prim.Native.Nat.{_+_, _^_, _≤_, _<_};
+ghost use lib.ListN.{length, take, drop};
+ghost use Rattle.laws.specs.Bits.{bitsOf};
+ghost use Rattle.check_bits.specs.CheckBits.{crc, crcFrom, gCRC24A, gCRC24B};
+ghost use Rattle.check_bits.specs.Stride.{IsTable, entries, wordOf, lowest};
 ghost use Rattle.check_bits.specs.Put.{putCheckBits};
 
-// The register of 24 bits after `bits`, first bit highest power. A product takes the generator away, so that no bit costs a branch.
-pub fn crc24(generator: u32, bits: &[u8]) -> u32
+// The transport check of `bits`.
+pub fn crc24a(bits: &[u8]) -> u32
+    ensures { λ r. ⌜ r ≡ crc 24 gCRC24A (now (bits .entry)) ⌝ }
+{
+    let t = table::table_a();
+    by_table(0x864CFB, &t, bits)
+}
+
+// The check of a code block's `bits`.
+pub fn crc24b(bits: &[u8]) -> u32
+    ensures { λ r. ⌜ r ≡ crc 24 gCRC24B (now (bits .entry)) ⌝ }
+{
+    let t = table::table_b();
+    by_table(0x800063, &t, bits)
+}
+
+// The register after `bits`: by the generator's table 24 bits a turn, as long as each byte is 0 or 1, and the others one by one.
+fn by_table(generator: u32, table: &[u32; 96], bits: &[u8]) -> u32
+    requires { ⌜ IsTable generator (now table) ⌝ }
     ensures { λ r. ⌜ r ≡ crc 24 generator (now (bits .entry)) ⌝ }
 {
+    let mut s: u32 = 0;
+    let mut i = 0;
+    while 24 <= bits.len() - i {
+        let x = gathered(bits, i);
+        if 0xFF_FFFF < x {
+            break;
+        }
+        s = passed(table, s ^ x);
+        i += 24;
+    }
+    one_by_one(generator, s, &bits[i..])
+}
+
+// The register `s` after 24 zeros: by linearity the sum of what its six times four bits give.
+fn passed(table: &[u32; 96], s: u32) -> u32
+    ensures { λ r. ⌜ r ≡ entries (now (table .entry)) s ⌝ }
+{
+    let a = (s % 16) as usize;
+    let b = 16 + ((s >> 4) % 16) as usize;
+    let c = 32 + ((s >> 8) % 16) as usize;
+    let d = 48 + ((s >> 12) % 16) as usize;
+    let e = 64 + ((s >> 16) % 16) as usize;
+    let f = 80 + ((s >> 20) % 16) as usize;
+    table[a] ^ table[b] ^ table[c] ^ table[d] ^ table[e] ^ table[f]
+}
+
+// The 24 bits from `from` on as a number, the first highest; 2 to the 24 where a byte is neither 0 nor 1.
+fn gathered(bits: &[u8], from: usize) -> u32
+    requires { ⌜ from + 24 ≤ length (now bits) ⌝ }
+    ensures { λ r. ⌜ (r < 2 ^ 24 → take 24 (drop from (now (bits .entry))) ≡ bitsOf 24 r) ⌝ }
+{
+    let above_one: u64 = 0xFEFE_FEFE_FEFE_FEFE;
+    let a = eight(bits, from);
+    let b = eight(bits, from + 8);
+    let c = eight(bits, from + 16);
+    let found = (a & above_one) | (b & above_one) | (c & above_one);
+    if found != 0 {
+        return 0x100_0000;
+    }
+    (((packed(a) << 8) | packed(b)) << 8) | packed(c)
+}
+
+// The eight bytes from `from` on as one number, the first lowest. By halves of halves, so that the compiler makes one load of them.
+fn eight(bits: &[u8], from: usize) -> u64
+    requires { ⌜ from + 8 ≤ length (now bits) ⌝ }
+    ensures { λ r. ⌜ r ≡ wordOf (take 8 (drop from (now (bits .entry)))) ⌝ }
+{
+    four(bits, from) | (four(bits, from + 4) << 32)
+}
+
+// Four bytes from `from` on in the same way.
+fn four(bits: &[u8], from: usize) -> u64
+    requires { ⌜ from + 4 ≤ length (now bits) ⌝ }
+    ensures { λ r. ⌜ r ≡ wordOf (take 4 (drop from (now (bits .entry)))) ⌝ }
+{
+    two(bits, from) | (two(bits, from + 2) << 16)
+}
+
+// Two bytes from `from` on.
+fn two(bits: &[u8], from: usize) -> u64
+    requires { ⌜ from + 2 ≤ length (now bits) ⌝ }
+    ensures { λ r. ⌜ r ≡ wordOf (take 2 (drop from (now (bits .entry)))) ⌝ }
+{
+    (bits[from] as u64) | ((bits[from + 1] as u64) << 8)
+}
+
+// The lowest bits of the eight bytes of `w` side by side, the first byte's highest: in pairs, in fours, all eight.
+fn packed(w: u64) -> u32
+    ensures { λ r. ⌜ r ≡ lowest w ⌝ }
+{
+    let twos = w | (w << 9);
+    let fours = twos | (twos << 18);
+    let all = fours | (fours << 36);
+    ((all >> 56) % 256) as u32
+}
+
+// The register of 24 bits after `bits`, from the register `from` on, first bit highest power. A product takes the generator away, so that
+// no bit costs a branch.
+fn one_by_one(generator: u32, from: u32, bits: &[u8]) -> u32
+    requires { ⌜ from < 2 ^ 24 ⌝ }
+    ensures { λ r. ⌜ r ≡ crcFrom 24 generator from (now (bits .entry)) ⌝ }
+{
     let g = generator as u64;
-    let mut s: u64 = 0;
+    let mut s = from as u64;
     let mut i = 0;
     while i < bits.len() {
         let up = (s >> 23) ^ (bits[i] as u64);
@@ -16,20 +121,6 @@ pub fn crc24(generator: u32, bits: &[u8]) -> u32
         i += 1;
     }
     s as u32
-}
-
-// The transport check of `bits`.
-pub fn crc24a(bits: &[u8]) -> u32
-    ensures { λ r. ⌜ r ≡ crc 24 gCRC24A (now (bits .entry)) ⌝ }
-{
-    crc24(0x864CFB, bits)
-}
-
-// The check of a code block's `bits`.
-pub fn crc24b(bits: &[u8]) -> u32
-    ensures { λ r. ⌜ r ≡ crc 24 gCRC24B (now (bits .entry)) ⌝ }
-{
-    crc24(0x800063, bits)
 }
 
 // Writes the 24 check bits over the front of `out`, highest power first. A slice that is too short stays as it was.

@@ -1,20 +1,20 @@
--- `check_bits::crc24` meets its contract. The loop's invariant: the register, gone on with the bits from `i` on, gives the remainder of all.
+-- `check_bits::one_by_one` meets its contract. The loop's invariant: the register, gone on with the bits from `i` on, gives the remainder of all.
 -- Assumes nothing.
 use Prim.Native.Nat.{_≤_, _-_}
 use native.Mathlib.Omega.{arith}
 use lib.ListN.{length}
 use Rattle.check_bits.proofs.Running.{Running, product-fits, start, next, finish}
-use Rattle.check_bits.proofs.crc24.Statement.{statement}
-use Rattle.check_bits.proofs.crc24.Tie as tie
+use Rattle.check_bits.proofs.one_by_one.Statement.{statement}
+use Rattle.check_bits.proofs.one_by_one.Tie as tie
 
 abbrev Inv-loop : tie.InvT-loop
-Inv-loop generator bits g s₀ i₀ s i = (i ≤ length bits) × Running g bits s i
+Inv-loop generator from bits g s₀ i₀ s i = (i ≤ length bits) × Running g from bits s i
 
 abbrev μ-loop : tie.MeasureT-loop
-μ-loop generator bits g s₀ i₀ s i = length bits - i
+μ-loop generator from bits g s₀ i₀ s i = length bits - i
 
 loop-holds : tie.Need-loop-holds Inv-loop μ-loop
-loop-holds c = (omega arith, start)
+loop-holds c = (omega arith, start (c .pre))
 
 shared-slice-read-up : tie.Need-shared-slice-read-up Inv-loop μ-loop
 shared-slice-read-up c = omega arith
@@ -42,8 +42,8 @@ cast-result c = omega arith
 returns : tie.Need-returns Inv-loop μ-loop
 returns c = finish (omega arith) (c .before .loop .inv .1)
 
-pub crc24-spec : {M : Type 1} → statement M
-crc24-spec =
+pub one-by-one-spec : {M : Type 1} → statement M
+one-by-one-spec =
     tie.close
     (tie.spec
     Inv-loop
