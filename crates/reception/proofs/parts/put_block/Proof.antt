@@ -1,6 +1,6 @@
 -- `parts::put_block` meets its contract: the table is the turn of the code block's shape, which has a place and lies in the part.
 -- Assumes nothing.
-use mathlib.Core.Path.{_≡_, _∙_, ap}
+use mathlib.Core.Path.{_∙_, ap}
 use mathlib.Core.List.{List}
 use Prim.Native.Nat.{ℕ, _≤_}
 use native.Mathlib.Omega.{arith}
