@@ -1,10 +1,10 @@
 -- `turn::lay_shape` meets its contract: the streams of a block of zeros, filler absent from the first two, are laid out.
 -- Assumes nothing.
-use mathlib.Core.Path.{_≡_, refl, sym, _∙_, ap, ap₂}
+use mathlib.Core.Path.{refl, sym, _∙_, ap, ap₂}
 use mathlib.Core.List.{List, _++_}
 use Prim.Native.Nat.{ℕ, _*_, _≤_}
 use native.Mathlib.Omega.{arith}
-use lib.ListN.{length, take, drop, replicate, length-replicate}
+use lib.ListN.{length, drop, replicate, length-replicate}
 use lib.Seq.{length-front}
 use borrow.Author.Needs.{needs}
 use Rattle.laws.proofs.Parts.{front-count}
