@@ -51,12 +51,11 @@ refused-is d0 d1 d2 v out t = rw t
 
 -- the circle w as it was laid out, the ring of one turn from the start, and the ring turn after turn
 module _ (d0 d1 d2 : List ℕ) (v : ℕ) (out : List ℕ) (t : matchable (length d0) (length d1) (length d2) v ≡ true) where
-  pub matched-is : {w laid ring sent : List ℕ} {at : ℕ} → w ≡ laid → laid ≡ circle d0 d1 d2 → at ≡ startOf (rows (length d0)) v → at ≤ length w
-      → ring ≡ ringOf w at → sent ≡ tab (length out) (turnAfterTurn ring) → sent ≡ matchedInto d0 d1 d2 v out
+  pub matched-is : {w laid sent : List ℕ} {at : ℕ} → w ≡ laid → laid ≡ circle d0 d1 d2 → at ≡ startOf (rows (length d0)) v → at ≤ length w
+      → sent ≡ tab (length out) (turnAfterTurn (ringOf w at)) → sent ≡ matchedInto d0 d1 d2 v out
   unfolding matchedInto
-  matched-is {w} {at = at} e f k h r s =
+  matched-is {w} {at = at} e f k h s =
       s
-      ∙ ap (λ (l : List ℕ). tab (length out) (turnAfterTurn l)) r
       ∙ sym (selected-ring w at (length out) h)
       ∙ ap₂ (λ (l : List ℕ) (p : ℕ). selected l p (length out)) (e ∙ f) k
       ∙ ap (λ (b : Bool). cond b (selected (circle d0 d1 d2) (startOf (rows (length d0)) v) (length out)) out) (sym t)

@@ -1,14 +1,29 @@
--- Laws of lent rooms: a fresh array of N entries x whose front of n entries is lent to be written and, when it is back, lent to be read;
--- a slice whose front and then whose rest is lent.
+-- Laws of lent rooms: a slice, or a fresh array of N entries x, whose front of n entries is lent to be written and, when it is back, lent to be
+-- read; a slice whose front and then whose rest is lent.
 -- Assumes nothing.
 use mathlib.Core.Path.{_≡_, sym, _∙_, ap, ap₂}
 use mathlib.Core.List.{List, _++_, append-nil}
 use Prim.Native.Nat.{ℕ, _+_, _-_, _≤_}
 use native.Mathlib.Omega.{arith}
 use lib.ListN.{length, take, drop, replicate, length-append, length-replicate, replicate-append-replicate}
-use lib.Seq.{length-front, take-at, drop-at, drop-length}
+use lib.Seq.{length-front, length-take-le, take-at, drop-at, drop-length}
 use borrow.Rule.Slice.PartMut.{midOf, putMid}
 use Rattle.laws.proofs.Parts.{length-mid, put-is}
+
+-- the front of n entries came back as `last`
+module _ (xs : List ℕ) (n : ℕ) (h : n ≤ length xs) (last : List ℕ) (e : length last ≡ length (take n xs)) where
+  lent-length : length last ≡ n
+  lent-length = e ∙ length-take-le n xs h
+
+  -- it is what is lent then
+  pub lent-front : take n (last ++ drop n xs) ≡ last
+  lent-front = take-at last (drop n xs) n lent-length
+
+  pub lent-count : n ≡ length (take n (last ++ drop n xs))
+  lent-count = sym (ap length lent-front ∙ lent-length)
+
+  pub lent-within : n ≤ length (last ++ drop n xs)
+  lent-within = omega (arith, length-front xs last n e)
 
 module _ (x : ℕ) (N n : ℕ) (h : n ≤ N) where
   parts : replicate N x ≡ replicate n x ++ replicate (N - n) x
@@ -27,19 +42,18 @@ module _ (x : ℕ) (N n : ℕ) (h : n ≤ N) where
   pub fresh-count : n ≡ length (take n (replicate N x))
   fresh-count = sym (ap length take-fresh ∙ length-replicate n x)
 
-  module _ (last : List ℕ) (e : length last ≡ length (take n (replicate N x))) where
-    back-length : length last ≡ n
-    back-length = e ∙ sym fresh-count
+  room : n ≤ length (replicate N x)
+  room = rw (length-replicate N x) h
 
-    -- the front that came back is what is lent then
+  module _ (last : List ℕ) (e : length last ≡ length (take n (replicate N x))) where
     pub back-front : take n (last ++ drop n (replicate N x)) ≡ last
-    back-front = take-at last (drop n (replicate N x)) n back-length
+    back-front = lent-front (replicate N x) n room last e
 
     pub back-count : n ≡ length (take n (last ++ drop n (replicate N x)))
-    back-count = sym (ap length back-front ∙ back-length)
+    back-count = lent-count (replicate N x) n room last e
 
     pub back-within : n ≤ length (last ++ drop n (replicate N x))
-    back-within = omega (arith, length-front (replicate N x) last n e, length-replicate N x)
+    back-within = lent-within (replicate N x) n room last e
 
 -- the front of a slice came back as `first`, and the rest is lent
 module _ (first rest : List ℕ) (n : ℕ) (e : length first ≡ n) where

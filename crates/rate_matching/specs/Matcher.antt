@@ -47,6 +47,12 @@ pub record Gathered (part ring : List ℕ) (n : ℕ) (ring′ : List ℕ) (r : �
   pub within : r ≤ n + length part
   pub told : take r ring′ ≡ take n ring ++ keep isBit part
 
+-- the same until the ring holds `most` entries
+pub record GatheredTo (most : ℕ) (part ring : List ℕ) (n : ℕ) (ring′ : List ℕ) (r : ℕ) : Type 0 where
+  pub within : r ≤ n + length part
+  pub few : r ≤ most
+  pub told : take r ring′ ≡ take most (take n ring ++ keep isBit part)
+
 -- the bits of one turn from place k0
 unfoldable pub turnBits : List ℕ → ℕ → List ℕ
 turnBits w k0 = keep isBit (drop k0 w ++ take k0 w)

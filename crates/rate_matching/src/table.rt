@@ -1,6 +1,6 @@
 // Table 5.1.4-1: the column numbers, one table for all three sub-block interleavers.
 ghost use mathlib.Core.Path.{_≡_};
-ghost use Rattle.rate_matching.specs.Columns.{column};
+ghost use Rattle.rate_matching.specs.Columns.{columnTable, column};
 
 // P(0), .., P(31)
 const COLUMNS: [u8; 32] = [
@@ -37,6 +37,13 @@ const COLUMNS: [u8; 32] = [
     15,
     31,
 ];
+
+// The whole table, for a loop that reads it once.
+pub fn columns() -> [u8; 32]
+    ensures { λ r. ⌜ r ≡ columnTable ⌝ }
+{
+    COLUMNS
+}
 
 // P(c), the original position of column c; 0 past the table.
 pub fn column_at(c: usize) -> usize

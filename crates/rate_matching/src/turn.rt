@@ -2,7 +2,7 @@
 use crate::matcher;
 ghost use mathlib.Core.Path.{_≡_};
 ghost use Prim.Native.Nat.{ℕ, _+_, _-_, _*_, _≤_, _<_};
-ghost use lib.ListN.{length, replicate};
+ghost use lib.ListN.{length};
 ghost use Rattle.turbo.specs.Streams.{NULL};
 ghost use Rattle.rate_matching.specs.SubBlocks.{rows};
 ghost use Rattle.rate_matching.specs.Places.{longest};
@@ -14,19 +14,11 @@ const NULL: u8 = 2;
 // The largest D, that of K = 6,144.
 const LONGEST: usize = 6148;
 
+// The largest sub-block, 32·R places.
+const SUB_BLOCK: usize = 6176;
+
 // The largest circle, 96·R places.
 const CIRCLE: usize = 18528;
-
-// Writes <NULL> over all of `d`.
-fn set_absent(d: &mut [u8])
-    ensures { λ _. ⌜ now (d .exit) ≡ replicate {A = ℕ} (length (now (d .entry))) NULL ⌝ }
-{
-    let mut i = 0;
-    while i < d.len() {
-        d[i] = NULL;
-        i += 1;
-    }
-}
 
 // Lays out the circle of a block of zeros, as the matcher lays out a block's: filler is absent from streams 0 and 1 alone.
 fn lay_shape(d: usize, filler: usize, w: &mut [u8])
@@ -35,9 +27,22 @@ fn lay_shape(d: usize, filler: usize, w: &mut [u8])
 {
     let mut filled = [0u8; LONGEST];
     let blank = [0u8; LONGEST];
-    set_absent(&mut filled[..filler]);
+    let mut y = [0u8; SUB_BLOCK + 1];
+    let mut v1 = [0u8; SUB_BLOCK];
+    let mut v2 = [0u8; SUB_BLOCK];
+    let m = w.len() / 3;
+    let end = m + 1;
+    matcher::set_absent(&mut filled[..filler]);
     let stream = &filled[..d];
-    matcher::lay_out(stream, stream, &blank[..d], w);
+    matcher::lay_out(
+        stream,
+        stream,
+        &blank[..d],
+        &mut y[..end],
+        &mut v1[..m],
+        &mut v2[..m],
+        w,
+    );
 }
 
 // Lists the places of `w` from `from` to `to` that hold a bit in the table from its entry n on, and tells where they end.

@@ -4,7 +4,7 @@ use Prim.Native.Nat.{_-_}
 use native.Mathlib.Omega.{arith}
 use lib.ListN.{length}
 use borrow.Author.Needs.{needs}
-use Rattle.rate_matching.proofs.MatcherPadded.{Room, room, room-lent, room-back, room-filled}
+use Rattle.rate_matching.proofs.MatcherPadded.{Room, room, room-front, room-lent, room-back, room-filled}
 use Rattle.rate_matching.proofs.matcher.pad.Statement.{statement}
 use Rattle.rate_matching.proofs.matcher.pad.Tie as tie
 
@@ -12,10 +12,19 @@ lent : (c : tie.Start) → Room (c .args .d .now) (c .args .y .now) (length (c .
 lent c = room _ _ (c .pre .1)
 
 sub-end : tie.Need-sub-end
-sub-end c = omega (arith, lent (c .before .before))
+sub-end c = search needs
 
 sub-from : tie.Need-sub-from
 sub-from c = omega (arith, lent (c .before .before))
+
+slice-relend-prefix-set-absent : tie.Need-slice-relend-prefix-set-absent
+slice-relend-prefix-set-absent c = search needs
+
+slice-aggregate-set-absent : tie.Need-slice-aggregate-set-absent
+slice-aggregate-set-absent c = room-front (lent (c .before .before .before))
+
+set-absent-requires : tie.Need-set-absent-requires
+set-absent-requires c κs = search needs
 
 sub-copy : tie.Need-sub-copy
 sub-copy c = search needs
@@ -27,19 +36,19 @@ part-copy-end : tie.Need-part-copy-end
 part-copy-end c = search needs
 
 copy-requires : tie.Need-copy-requires
-copy-requires c κs = room-lent (lent (c .before .before .before))
+copy-requires c κs = room-lent (lent (c .before .before .before .before .before .before .before)) (c .before .before .before .set-absent .last .0) (c .before .before .before .set-absent .kept .0)
 
 slice-read-y : tie.Need-slice-read-y
-slice-read-y c = omega (arith, room-back (lent (c .before .before .before .before .before .before .before)) (c .before .before .before .copy .last .1 .0) (c .before .before .before .copy .kept .1 .0))
+slice-read-y c = search needs
 
 slice-write-y : tie.Need-slice-write-y
-slice-write-y c = omega (arith, room-back (lent (c .before .before .before .before .before .before .before)) (c .before .before .before .copy .last .1 .0) (c .before .before .before .copy .kept .1 .0))
+slice-write-y c = search needs
 
 same-length : tie.Need-same-length
-same-length c = search needs
+same-length c = room-back (lent (c .before .before .before .before .before .before .before .before .before .before .before)) (c .before .before .before .before .before .before .before .set-absent .last .0) (c .before .before .before .before .before .before .before .set-absent .kept .0) (c .before .before .before .copy .last .1 .0) (c .before .before .before .copy .kept .1 .0) _ _
 
 returns : tie.Need-returns
-returns c = room-filled (lent (c .before .before .before .before .before .before .before)) (c .before .before .before .before .before .before .before .pre .0) (c .before .before .before .copy .ensures)
+returns c = room-filled (lent (c .before .before .before .before .before .before .before .before .before .before .before)) (c .before .before .before .before .before .before .before .set-absent .last .0) (c .before .before .before .before .before .before .before .set-absent .kept .0) (c .before .before .before .before .before .before .before .before .before .before .before .pre .0) (c .before .before .before .before .before .before .before .set-absent .ensures) (c .before .before .before .copy .ensures)
 
 pub pad-spec : {M : Type 1} → statement M
 pad-spec =
@@ -47,6 +56,9 @@ pad-spec =
     (tie.spec
     sub-end
     sub-from
+    slice-relend-prefix-set-absent
+    slice-aggregate-set-absent
+    set-absent-requires
     sub-copy
     part-copy-start
     part-copy-end

@@ -1,4 +1,4 @@
--- `turn::set_absent` meets its contract: after i turns the first i places are <NULL> and the others as they were.
+-- `matcher::set_absent` meets its contract: after i turns the first i places are <NULL> and the others as they were.
 -- Assumes nothing.
 use mathlib.Core.Path.{_≡_, refl, _∙_, ap}
 use mathlib.Core.List.{List, _++_, append-nil}
@@ -8,8 +8,8 @@ use native.Mathlib.Omega.{arith}
 use borrow.Author.Fill.{fill-none, fill-more}
 use lib.ListN.{length, drop, set, replicate, length-set, drop-of-length-le}
 use Rattle.turbo.specs.Streams.{NULL}
-use Rattle.rate_matching.proofs.turn.set_absent.Statement.{statement}
-use Rattle.rate_matching.proofs.turn.set_absent.Tie as tie
+use Rattle.rate_matching.proofs.matcher.set_absent.Statement.{statement}
+use Rattle.rate_matching.proofs.matcher.set_absent.Tie as tie
 
 abbrev Inv-loop : tie.InvT-loop
 Inv-loop d₀ i₀ d i = (i ≤ length d₀) × (length d ≡ length d₀) × (d ≡ replicate {A = ℕ} i NULL ++ drop i d₀)
