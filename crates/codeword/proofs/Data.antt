@@ -5,7 +5,7 @@ use mathlib.Core.Bool.{Bool, true, false, cond}
 use mathlib.Core.List.{List, [], _∷_, _++_}
 use Prim.Native.Nat.{ℕ, zero, suc, _+_, _-_, _≤_, _<_}
 use native.Mathlib.Omega.{arith}
-use lib.Dec.{eqb, lit<, eqb·suc-zero}
+use lib.Dec.{eqb, lit<}
 use lib.ListN.{length, getD, take, drop, replicate, length-replicate, List·getD-append}
 use lib.Seq.{getD-append-add, getD-take, getD-drop}
 use Rattle.laws.proofs.Bits.{bitsOf-bit}
@@ -13,7 +13,7 @@ use Rattle.check_bits.specs.CheckBits.{checkBits, gCRC24A, gCRC24B}
 use Rattle.segmentation.specs.Segmentation.{checkLength, blocks, filler, sizeOf, rowOf, fillerOf}
 use Rattle.segmentation.specs.CodeBlocks.{withCheck, takenBefore, payload, codeBlock}
 use Rattle.segmentation.proofs.Segmentation.{size-row}
-use Rattle.segmentation.proofs.CodeBlocks.{length-payload, length-codeBlock, filler-first, filler-taken}
+use Rattle.segmentation.proofs.CodeBlocks.{length-payload, length-codeBlock, filler-within, filler-taken}
 use Rattle.turbo.specs.Streams.{stream0, stream1, stream2}
 use Rattle.turbo.proofs.Encoder.{AllBits}
 use Rattle.turbo.proofs.Streams.{append-bits, length-stream2, stream0-data}
@@ -66,12 +66,7 @@ codeBlock-bits b r h = append-bits (payload b r) _ (payload-bits b r h) (last (e
 -- ---- a sequence b of B bits
 
 module _ (B : ℕ) (low : 24 ≤ B) (high : B ≤ 30600) where
-  -- the filler leaves room for the check bits, and is over before a later code block
-  pub filler-within : (r : ℕ) → fillerOf B r ≤ sizeOf B r - checkLength B
-  unfolding fillerOf
-  filler-within zero = omega (arith, filler-first B high low)
-  filler-within (suc r) = rw (eqb·suc-zero r) (omega arith)
-
+  -- the filler is over before a later code block
   pub filler-over : (r : ℕ) → filler B ≤ takenBefore B r + fillerOf B r
   unfolding fillerOf takenBefore
   filler-over zero = omega arith
@@ -79,7 +74,7 @@ module _ (B : ℕ) (low : 24 ≤ B) (high : B ≤ 30600) where
 
   module _ (b : List ℕ) (long : length b ≡ B) (r : ℕ) (below : r < blocks B) where
     filler-short : fillerOf B r ≤ length (codeBlock b r)
-    filler-short = rw (length-codeBlock B high b long r below) (omega (arith, filler-within r))
+    filler-short = rw (length-codeBlock B high b long r below) (omega (arith, filler-within B high low r))
 
     pub block-filled : AllBits b → Filled (sizeOf B r + 4) (fillerOf B r)
         (stream0 (rowOf B r) (fillerOf B r) (codeBlock b r)) (stream1 (rowOf B r) (fillerOf B r) (codeBlock b r)) (stream2 (rowOf B r) (codeBlock b r))

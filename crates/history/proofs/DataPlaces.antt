@@ -13,18 +13,12 @@ use Rattle.segmentation.specs.CodeBlocks.{takenBefore}
 use Rattle.segmentation.proofs.Segmentation.{single, several, large-of, blocks-least, size-checks}
 use Rattle.segmentation.proofs.CodeBlocks.{taken-all, filler-first}
 use Rattle.slots.specs.Reading.{sumFrom}
+use Rattle.slots.proofs.Sums.{sumFrom-done, sumFrom-more, sumFrom-ext, sumFrom-same, sumFrom-none}
 use Rattle.history.specs.Calls.{Reception}
 use Rattle.history.specs.Sent.{notSent, unsentIn, unsent, DataPlace, sentData, AllSent, NoneSent, dataPlacesIn, dataPlaces}
-use Rattle.history.proofs.Sums.{sumFrom-ext, sumFrom-none}
 
--- a sum of equal terms
-sumFrom-same : (c i n : ℕ) → sumFrom (λ (k : ℕ). c) i n ≡ n * c
-unfolding sumFrom
-sumFrom-same c i zero = omega arith
-sumFrom-same c i (suc n) = rw (sumFrom-same c (suc i) n) (omega arith)
-
--- 1 where a place is not sent
-abbrev missing : Bool → ℕ
+-- 1 where a place is not heard, or not sent
+abbrev pub missing : Bool → ℕ
 missing t = cond t 0 1
 
 -- ---- the count of data places unsent
@@ -52,24 +46,22 @@ module _ (A : ℕ) (xs : List Reception) where
       ∙ sumFrom-same 0 0 (blocks (A + 24))
       ∙ omega arith
 
+  -- and only where all were
+  pub none-unsent : unsent A xs ≡ 0 → AllSent A xs
+  unfolding unsent unsentIn notSent
+  none-unsent z r i d =
+      let block = sumFrom-none _ 0 (blocks (A + 24)) z r (omega arith) (omega arith) in
+      none-missing _ (sumFrom-none _ (fillerOf (A + 24) r) (sizeOf (A + 24) r - fillerOf (A + 24) r) block i (d .past-filler) (omega arith))
+    where
+      none-missing : (t : Bool) → missing t ≡ 0 → t ≡ true
+      none-missing true e = refl
+      none-missing false e = absurd (omega arith)
+
   -- one was not
   pub unsent-some : (r i : ℕ) → DataPlace A r i → sentData A xs r i ≡ false → unsent A xs ≡ 0 → ⊥
-  unfolding unsent unsentIn notSent
-  unsent-some r i d f z =
-      let block = sumFrom-none _ 0 (blocks (A + 24)) z r (omega arith) (omega arith) in
-      let place = sumFrom-none _ (fillerOf (A + 24) r) (sizeOf (A + 24) r - fillerOf (A + 24) r) block i (d .past-filler) (omega arith) in
-      let one : _≡_ {A = ℕ} 1 0 = sym (ap missing f) ∙ place in
-      omega arith
+  unsent-some r i d f z = let one : _≡_ {A = ℕ} 1 0 = ap missing (sym f ∙ none-unsent z r i d) in omega arith
 
 -- ---- how many data places there are
-
-sumFrom-done : (f : ℕ → ℕ) (i : ℕ) → sumFrom f i 0 ≡ 0
-unfolding sumFrom
-sumFrom-done f i = refl
-
-sumFrom-more : (f : ℕ → ℕ) (i n : ℕ) → sumFrom f i (suc n) ≡ f i + sumFrom f (suc i) n
-unfolding sumFrom
-sumFrom-more f i n = refl
 
 taken-none : (B : ℕ) → takenBefore B 0 ≡ 0
 unfolding takenBefore

@@ -16,7 +16,8 @@ use Rattle.slots.specs.State.{closedHead, newState, broken, badShape, badState}
 use Rattle.slots.specs.Answers.{numberOf, unlessRefused}
 use Rattle.slots.specs.Calls.{withHead, storeRules, ownerRules, newOutcome, openNumber, openOutcome, receiveNumber, receiveOutcome, readNumber, lackingAt, wrongAt, readOutcome, streamsNumber, streamsOutcome, closeNumber, closeOutcome}
 use Rattle.slots.proofs.Accepted.{openable}
-use Rattle.slots.proofs.HeadLaws.{closed-unbroken, fitting-unbroken, good-with, good-new}
+use Rattle.slots.proofs.Heads.{closed-unbroken}
+use Rattle.slots.proofs.HeadLaws.{fitting-unbroken, good-with, good-new}
 use Rattle.history.specs.Calls.{Call, opening, receiving, reading, streaming, closing, History}
 use Rattle.history.specs.Run.{lent, begin, run}
 use Rattle.history.specs.Accepted.{lentLength, headsAfterCall, headsAfter}

@@ -4,12 +4,12 @@ use mathlib.Core.Path.{_≡_, refl, sym, _∙_, ap, subst}
 use mathlib.Core.Bool.{Bool, true, false, cond, not, _&&_}
 use mathlib.Core.List.{List, [], _∷_, _++_}
 use Prim.Native.Nat.{ℕ, _≤_}
-use native.Mathlib.Decide.{decLt}
 use native.Mathlib.Omega.{arith}
 use lib.Dec.{eqb}
-use lib.ListN.{length, drop, replicate, length-replicate, getD-replicate, List·getD-eq-default}
+use lib.ListN.{length, drop, replicate, length-replicate}
 use borrow.Author.Tests.{eq-eqb, ne-eqb, eqb-true}
 use Rattle.check_bits.specs.Division.{AreBits}
+use Rattle.codeword.proofs.Data.{zero-bits}
 use Rattle.slots.specs.declared.Answer.the-variants.{Done, Lacking, Refused}
 use Rattle.slots.specs.declared.Outcome.{Outcome}
 use Rattle.slots.specs.declared.State.{State}
@@ -153,13 +153,7 @@ module _ (S M : ℕ) (store₀ : List ℕ) (earlier : History) (past₀ : List �
     -- directly after the opening
     pub june-opened : Withheld (stateAfter S M store₀ opened) (storeAfter S M store₀ opened past) slot terminal out (dataPlaces A)
     unfolding acceptedIn sent
-    june-opened = june [] tt past (replicate A 0) zeros (length-replicate A 0) tt out enough (λ r i d. refl)
-      where
-        zeros : AreBits (replicate A 0)
-        zeros i = elim (decLt i A) [
-          | yes l ↦ rw (getD-replicate {A = ℕ} A i 0 0 l) (omega arith)
-          | no l ↦ rw (List·getD-eq-default (replicate {A = ℕ} A 0) 0 {n = i} (omega (arith, length-replicate {A = ℕ} A 0))) (omega arith)
-        ]
+    june-opened = june [] tt past (replicate A 0) (zero-bits A) (length-replicate A 0) tt out enough (λ r i d. refl)
 
     -- and after one reception, accepted or not, of a true transmission that sends parity alone
     pub june-parity : (sender : ℕ) (x : Reception) (past₁ : List ℕ) (a : List ℕ) → AreBits a → length a ≡ A → True a x → NoneSent A (x ∷ [])

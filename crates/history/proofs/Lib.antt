@@ -3,7 +3,6 @@ pub mod Heads
 pub mod Received
 pub mod Others
 pub mod Holds
-pub mod Sums
 pub mod SameRoom
 pub mod Depends
 pub mod Own

@@ -19,16 +19,13 @@ use Rattle.slots.specs.State.{perBlock}
 use Rattle.slots.specs.Room.{unheard, heard, byteOf}
 use Rattle.slots.specs.Reading.{keptAt, lacks, lackingIn, lacking}
 use Rattle.slots.proofs.PlaceBounds.{place-below}
+use Rattle.slots.proofs.Sums.{sumFrom-ext}
 use Rattle.history.specs.Calls.{Reception}
 use Rattle.history.specs.Accepted.{lastBit}
 use Rattle.history.specs.Sent.{AllTrue, sent, notSent, unsentIn, unsent}
-use Rattle.history.proofs.Sums.{sumFrom-ext}
+use Rattle.history.proofs.DataPlaces.{missing}
 use Rattle.history.proofs.ReleaseMeet.{heard-bit, unheard-not}
 use Rattle.history.proofs.ReleaseTrue.{true-bit}
-
--- 1 where a place is not heard, or not sent
-abbrev missing : Bool → ℕ
-missing t = cond t 0 1
 
 -- the room of a slot holds the last bits of the receptions for a block of A bits
 abbrev pub HoldsLast : ℕ → ℕ → ℕ → List Reception → List ℕ → Type 0

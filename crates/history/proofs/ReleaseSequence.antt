@@ -1,7 +1,7 @@
 -- What a room holds when every data place was sent by true transmissions, demand 3: the block with its transport check, bit for bit.
 -- Assumes nothing.
 use mathlib.Core.Path.{_≡_, refl, sym, _∙_, ap, ap₂}
-use mathlib.Core.Bool.{Bool, true, false, cond, not}
+use mathlib.Core.Bool.{Bool, false, cond, not}
 use mathlib.Core.List.{List, _++_}
 use Prim.Native.Nat.{ℕ, zero, suc, _+_, _-_, _≤_, _<_}
 use native.Mathlib.Omega.{arith}
@@ -17,33 +17,16 @@ use Rattle.segmentation.specs.Segmentation.{checkLength, blocks, filler, sizeOf
 use Rattle.segmentation.specs.Sizes.{badSize}
 use Rattle.segmentation.specs.CodeBlocks.{withCheck, takenBefore, codeBlock}
 use Rattle.segmentation.proofs.Segmentation.{in-range}
-use Rattle.segmentation.proofs.CodeBlocks.{taken-all, taken-within}
+use Rattle.segmentation.proofs.CodeBlocks.{taken-all, taken-within, filler-within}
 use Rattle.turbo.proofs.Encoder.{AllBits}
-use Rattle.rate_matching.specs.Places.{placeNumber}
-use Rattle.codeword.proofs.Data.{filler-within, filler-over, carries}
+use Rattle.codeword.proofs.Data.{filler-over, carries}
 use Rattle.codeword.proofs.Taken.{length-withCheck}
 use Rattle.slots.specs.Room.{unheard}
 use Rattle.slots.specs.Reading.{keptAt, heardIn, heardFrom, heardSequence, wrongCheck, heardBlock}
 use Rattle.history.specs.Calls.{Reception}
-use Rattle.history.specs.Sent.{AllTrue, sent, notSent, unsentIn, unsent}
-use Rattle.history.proofs.Sums.{sumFrom-none}
+use Rattle.history.specs.Sent.{AllTrue, unsent}
+use Rattle.history.proofs.DataPlaces.{none-unsent}
 use Rattle.history.proofs.ReleaseCount.{HoldsLast, kept-data}
-
--- ---- nothing unsent
-
-sent-yes : (s : Bool) → _≡_ {A = ℕ} (cond s 0 1) 0 → s ≡ true
-sent-yes true e = refl
-sent-yes false e = absurd (omega arith)
-
--- each data place was sent
-all-sent : (A : ℕ) (xs : List Reception) → unsent A xs ≡ 0
-    → (r i : ℕ) → r < blocks (A + 24) → fillerOf (A + 24) r ≤ i → i < sizeOf (A + 24) r
-    → sent A xs r (placeNumber (sizeOf (A + 24) r + 4) 0 i) ≡ true
-unfolding unsent unsentIn notSent
-all-sent A xs e r i h l m =
-    sent-yes _
-    (sumFrom-none (notSent A xs r) (fillerOf (A + 24) r) (sizeOf (A + 24) r - fillerOf (A + 24) r)
-    (sumFrom-none (unsentIn A xs) 0 (blocks (A + 24)) e r (omega arith) (omega arith)) i l (omega arith))
 
 -- ---- the bits of b that each code block carries, in order
 
@@ -58,7 +41,7 @@ module _ (B : ℕ) (low : 24 ≤ B) (high : B ≤ 30600) (b : List ℕ) (long : 
 
   begins-next : (r : ℕ) → begins (suc r) ≡ begins r + many r
   unfolding takenBefore fillerOf
-  begins-next r = rw (eqb·suc-zero r) (omega (arith, filler-over B low high r, filler-within B low high r))
+  begins-next r = rw (eqb·suc-zero r) (omega (arith, filler-over B low high r, filler-within B high low r))
 
   module _ (M slot : ℕ) (store : List ℕ)
       (held : (r i : ℕ) → r < blocks B → fillerOf B r ≤ i → i < sizeOf B r → keptAt M slot B store r 0 i ≡ getD (codeBlock b r) i 0) where
@@ -70,7 +53,7 @@ module _ (B : ℕ) (low : 24 ≤ B) (high : B ≤ 30600) (b : List ℕ) (long : 
         (λ k l. entry k (rw length-tabFrom at l))
       where
         enough : many r ≤ length (drop (begins r) b)
-        enough = rw (length-drop, long) (omega (arith, taken-within B high r h, filler-over B low high r, filler-within B low high r))
+        enough = rw (length-drop, long) (omega (arith, taken-within B high r h, filler-over B low high r, filler-within B high low r))
 
         entry : (k : ℕ) → k < many r → getD (tabFrom (fillerOf B r) (many r) (keptAt M slot B store r 0)) k 0 ≡ getD (take (many r) (drop (begins r) b)) k 0
         entry k l =
@@ -110,7 +93,7 @@ module _ (a : List ℕ) (admitted : badSize (length a) ≡ false) (bits : AllBit
       heard-all (length a + 24) (omega arith) (omega arith) (withCheck a) (length-withCheck a) M slot store
       (λ r i h l m.
       kept-data a admitted bits xs true-all M slot store kept r i h l m
-      ∙ ap (λ (s : Bool). cond s (getD (codeBlock (withCheck a) r) i 0) unheard) (all-sent (length a) xs all r i h l m))
+      ∙ ap (λ (s : Bool). cond s (getD (codeBlock (withCheck a) r) i 0) unheard) (none-unsent (length a) xs all r i (record { block = h; past-filler = l; below-size = m })))
 
   -- so the transport check is right
   pub right-check : wrongCheck M slot (length a) store ≡ false

@@ -10,6 +10,7 @@ use lib.ListN.{length, getD, drop, length-replicate}
 use borrow.Author.Tests.{eqb-true}
 use Rattle.segmentation.specs.Segmentation.{blocks, sizeOf, fillerOf}
 use Rattle.segmentation.specs.CodeBlocks.{withCheck}
+use Rattle.segmentation.proofs.CodeBlocks.{filler-within}
 use Rattle.turbo.specs.Streams.{withoutFiller}
 use Rattle.turbo.proofs.Encoder.{AllBits}
 use Rattle.turbo.proofs.Streams.{length-withoutFiller, filler-null, past-filler}
@@ -18,7 +19,7 @@ use Rattle.rate_matching.specs.Walk.{onCircle, selected}
 use Rattle.codeword.specs.Shares.{share, sharesBefore}
 use Rattle.codeword.specs.Codeword.{blockCircle, blockRows, sentBits, blockBits, bitsFrom}
 use Rattle.codeword.proofs.Alike.{BitsFrom, Filled, bits-from, same-sent}
-use Rattle.codeword.proofs.Data.{zero-bits, withCheck-bits, filler-within, block-filled}
+use Rattle.codeword.proofs.Data.{zero-bits, withCheck-bits, block-filled}
 use Rattle.codeword.proofs.Taken.{length-withCheck, stretch-is}
 use Rattle.slots.specs.Room.{unheard, meet}
 use Rattle.rate_matching.specs.Shape.{blank, shape}
@@ -58,7 +59,7 @@ module _ (b : List ℕ) (B : ℕ) (low : 24 ≤ B) (high : B ≤ 30600) (long : 
   block-bits Q N v G r h =
       rw long
       (ap (map _)
-      (same-sent (block-filled B low high b long r h bits) (shape-filled (sizeOf B r + 4) (fillerOf B r) (omega (arith, filler-within B low high r)))
+      (same-sent (block-filled B low high b long r h bits) (shape-filled (sizeOf B r + 4) (fillerOf B r) (omega (arith, filler-within B high low r)))
       (startOf (blockRows B r) v) (share (blocks B) Q N G r)))
 
 -- ---- the bits of true transmissions

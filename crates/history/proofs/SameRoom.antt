@@ -1,28 +1,24 @@
 -- What is read of a slot's room, and what a reception leaves in it, follow from the bytes of that room alone.
 -- Assumes nothing.
-use mathlib.Core.Path.{_≡_, refl, sym, _∙_, ap, ap₂}
-use mathlib.Core.Bool.{false, cond, not, _&&_}
-use mathlib.Core.List.{List, _++_}
-use Prim.Native.Nat.{ℕ, zero, suc, _+_, _-_, _*_, _≤_, _<_}
+use mathlib.Core.Path.{_≡_, sym, _∙_, ap}
+use mathlib.Core.Bool.{false}
+use mathlib.Core.List.{List}
+use Prim.Native.Nat.{ℕ, _+_, _*_, _≤_, _<_}
 use native.Mathlib.Decide.{decLt}
 use native.Mathlib.Omega.{arith}
 use lib.Arith.{digits-lt}
-use lib.Dec.{eqb, ltb}
-use lib.ListN.{length, getD, take}
-use Rattle.laws.specs.Lists.{tab}
-use Rattle.laws.proofs.Tab.{tabFrom-ext, tab-ext}
-use Rattle.check_bits.specs.CheckBits.{crc, gCRC24A}
-use Rattle.segmentation.specs.Segmentation.{checkLength, blocks, sizeOf, fillerOf}
+use lib.ListN.{length, getD}
+use Rattle.segmentation.specs.Segmentation.{blocks, sizeOf}
 use Rattle.segmentation.specs.Sizes.{badSize}
 use Rattle.rate_matching.specs.Places.{placeNumber}
 use Rattle.slots.specs.State.{perBlock, roomLength, roomStart}
-use Rattle.slots.specs.Room.{heard, byteOf}
+use Rattle.slots.specs.Room.{byteOf}
 use Rattle.slots.specs.Reception.{received}
-use Rattle.slots.specs.Reading.{keptAt, lacks, lackingIn, lacking, heardIn, heardFrom, heardSequence, wrongCheck, heardBlock, streamByte, threeStreams}
+use Rattle.slots.specs.Reading.{keptAt, lacking, heardSequence, wrongCheck, heardBlock, threeStreams}
 use Rattle.slots.proofs.RoomLaws.{AllPlaces, by-place, byte-in-room, received-past}
 use Rattle.slots.proofs.PlaceBounds.{place-below}
+use Rattle.slots.proofs.SameKept as SameKept
 use Rattle.history.specs.Answered.{SameRoom}
-use Rattle.history.proofs.Sums.{sumFrom-ext}
 use Rattle.history.proofs.Received.{brought, received-here}
 
 -- a room for M code blocks that is open for a block of A bits, in two stores
@@ -38,41 +34,21 @@ module _ (M slot A : ℕ) (admitted : badSize A ≡ false) (fits : blocks (A + 2
 
   -- how many data places lack a bit
   pub same-lacking : lacking M slot A store ≡ lacking M slot A other
-  unfolding lacking lackingIn lacks
-  same-lacking = sumFrom-ext _ _ 0 (blocks (A + 24))
-      (λ r a h. sumFrom-ext _ _ (fillerOf (A + 24) r) (sizeOf (A + 24) r - fillerOf (A + 24) r)
-      (λ i b l. ap (λ (x : ℕ). cond (heard x) 0 1) (same-kept r 0 i (omega arith) (omega arith) (omega arith))))
-
-  same-heardFrom : (r n : ℕ) → r + n ≤ blocks (A + 24) → heardFrom M slot (A + 24) store r n ≡ heardFrom M slot (A + 24) other r n
-  unfolding heardFrom heardIn
-  same-heardFrom r zero h = refl
-  same-heardFrom r (suc n) h =
-      ap₂ _++_
-      (tabFrom-ext (fillerOf (A + 24) r) (sizeOf (A + 24) r - checkLength (A + 24) - fillerOf (A + 24) r) _ _
-      (λ i a b. same-kept r 0 i (omega arith) (omega arith) (omega arith)))
-      (same-heardFrom (suc r) n (omega arith))
+  same-lacking = SameKept.same-lacking A M slot M slot store other same-kept
 
   -- the block with its transport check
   pub same-sequence : heardSequence M slot A store ≡ heardSequence M slot A other
-  unfolding heardSequence
-  same-sequence = same-heardFrom 0 (blocks (A + 24)) (omega arith)
+  same-sequence = SameKept.same-sequence A M slot M slot store other same-kept
 
   pub same-wrong : wrongCheck M slot A store ≡ wrongCheck M slot A other
-  unfolding wrongCheck
-  same-wrong = ap (λ (l : List ℕ). not (eqb (crc 24 gCRC24A l) 0)) same-sequence
+  same-wrong = SameKept.same-wrong A M slot M slot store other same-kept
 
   pub same-block : heardBlock M slot A store ≡ heardBlock M slot A other
-  unfolding heardBlock
-  same-block = ap (take A) same-sequence
+  same-block = SameKept.same-block A M slot M slot store other same-kept
 
   -- the three streams of a code block
   pub same-streams : (r : ℕ) → r < blocks (A + 24) → threeStreams M slot (A + 24) store r ≡ threeStreams M slot (A + 24) other r
-  unfolding threeStreams streamByte
-  same-streams r h = ap₂ _++_ (one 0 (omega arith)) (ap₂ _++_ (one 1 (omega arith)) (one 2 (omega arith)))
-    where
-      one : (s : ℕ) → s < 3 → tab (sizeOf (A + 24) r + 4) (streamByte M slot (A + 24) store r s) ≡ tab (sizeOf (A + 24) r + 4) (streamByte M slot (A + 24) other r s)
-      one s u = tab-ext (sizeOf (A + 24) r + 4) _ _
-          (λ i l. ap (λ (x : ℕ). cond (ltb s 2 && ltb i (fillerOf (A + 24) r)) 0 (cond (heard x) x 2)) (same-kept r s i h u l))
+  same-streams = SameKept.same-streams A M slot M slot store other same-kept
 
   -- what a reception leaves
   pub same-received : (Q N v : ℕ) (bits : List ℕ) → AllPlaces (A + 24) Q N v (length bits)

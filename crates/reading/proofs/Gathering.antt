@@ -3,7 +3,7 @@
 use mathlib.Core.Path.{_≡_, refl, sym, _∙_, ap}
 use mathlib.Core.List.{List, map}
 use Prim.Native.Nat.{ℕ, suc, _+_, _-_, _≤_, _<_}
-use native.Mathlib.Nat.{add-zero}
+use native.Mathlib.Nat.{add-zero, sub-zero}
 use native.Mathlib.Numerals.{add-one}
 use native.Mathlib.Omega.{arith}
 use lib.ListN.{length, set}
@@ -48,10 +48,7 @@ pub record Gathering (f : ℕ → ℕ) (from : ℕ) (out₀ out : List ℕ) (i k
 
 module _ {f : ℕ → ℕ} {from : ℕ} {out₀ : List ℕ} where
   pub gathering-start : Gathering f from out₀ out₀ from 0
-  gathering-start = record { place = sym (add-zero from); passed = omega arith; wrote = same (ap (λ (n : ℕ). tabFrom from n f) (less (length out₀))) start }
-    where
-      less : (n : ℕ) → n ≡ n - 0
-      less n = omega arith
+  gathering-start = record { place = sym (add-zero from); passed = omega arith; wrote = same (ap (λ (n : ℕ). tabFrom from n f) (sym (sub-zero (length out₀)))) start }
 
   pub gathering-next : {out : List ℕ} {i k x : ℕ} → k < length out → x ≡ f i → Gathering f from out₀ out i k → Gathering f from out₀ (set out k x) (i + 1) (k + 1)
   unfolding tabFrom

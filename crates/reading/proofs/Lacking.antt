@@ -20,9 +20,10 @@ use Rattle.slots.specs.State.{perBlock, roomStart}
 use Rattle.slots.specs.Room.{heard, byteOf}
 use Rattle.slots.specs.Reading.{keptAt, lacks, sumFrom, lackingIn, lacking}
 use Rattle.slots.proofs.PlaceBounds.{place-below}
+use Rattle.slots.proofs.Sums.{sumFrom-ext, sumFrom-shift, sumFrom-most}
 use Rattle.reading.specs.Circle.{keptOn, missing, missingAt, missingOn, Stretch}
 use Rattle.reading.specs.Room.{roomFits}
-use Rattle.reading.proofs.Sums.{sumFrom-ext, sumFrom-shift, sumFrom-most, Summing, start, next, finish}
+use Rattle.reading.proofs.Sums.{Summing, start, next, finish}
 use Rattle.reading.proofs.Bytes.{missing-le}
 use Rattle.reading.proofs.Blocks.{streams, filler-below, stretch, by-range, blocks-few, Block, block-of}
 use Rattle.reading.proofs.Lent.{circle-lent}

@@ -21,9 +21,9 @@ use Rattle.slots.specs.State.{perBlock, roomLength, roomStart}
 use Rattle.slots.specs.Room.{heard, byteOf}
 use Rattle.slots.specs.Reading.{keptAt, lacking, wrongCheck, heardBlock, streamByte, threeStreams}
 use Rattle.slots.proofs.PlaceBounds.{place-below}
+use Rattle.slots.proofs.SameKept.{same-lacking, same-wrong, same-block}
 use Rattle.reading.specs.Circle.{keptOn, shown, streamOn, streamsOn}
 use Rattle.reading.specs.Room.{roomFits}
-use Rattle.reading.proofs.SameKept.{same-lacking, same-wrong, same-block}
 
 -- the circle of code block r
 pub circle-lent : (M slot B r : ℕ) {from : ℕ} (store : List ℕ) (s i : ℕ) → from ≡ byteOf M slot r 0 → placeNumber (sizeOf B r + 4) s i < perBlock

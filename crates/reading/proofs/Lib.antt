@@ -3,7 +3,6 @@ pub mod Bytes
 pub mod Rows
 pub mod Gathering
 pub mod Blocks
-pub mod SameKept
 pub mod Lent
 pub mod Lacking
 pub mod Sequence

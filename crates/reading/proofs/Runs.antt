@@ -4,7 +4,7 @@ use mathlib.Core.Path.{_≡_, sym, _∙_, ap}
 use mathlib.Core.Bool.{cond, _&&_}
 use mathlib.Core.List.{List, [], _++_, append-nil}
 use Prim.Native.Nat.{ℕ, zero, suc, _+_, _-_, _*_, _≤_, _<_}
-use native.Mathlib.Nat.{zero-add, add-zero, mul-le-mul-right}
+use native.Mathlib.Nat.{zero-add, add-zero, add-sub-cancel-left, mul-le-mul-right}
 use native.Mathlib.Numerals.{add-one}
 use native.Mathlib.Decide.{decLt}
 use native.Mathlib.Omega.{arith}
@@ -124,10 +124,7 @@ module _ {circle : List ℕ} {D F : ℕ} {out₀ out : List ℕ} {at s : ℕ} (w
   run-within h = omega (arith, w .place, w .long, mul-le-mul-right D h)
 
   pub run-long : s < 3 → length (midOf at (at + D - at) out) ≡ D
-  run-long h = length-mid at (at + D) out (run-within h) ∙ back at D
-    where
-      back : (a b : ℕ) → a + b - a ≡ b
-      back a b = omega arith
+  run-long h = length-mid at (at + D) out (run-within h) ∙ add-sub-cancel-left at D
 
   pub running-next : {part : List ℕ} → s < 3 → part ≡ tab D (streamOn circle D F s) → Running circle D F out₀ (putMid at (at + D - at) out part) (at + D) (s + 1)
   running-next {part} h e = record {
@@ -144,10 +141,7 @@ module _ {circle : List ℕ} {D F : ℕ} {out₀ out : List ℕ} {at s : ℕ} (w
       more = ap (runsFrom (run circle D F) s) one ∙ ap (λ (k : ℕ). run circle D F s ++ runsFrom (run circle D F) k (3 - (s + 1))) (sym (add-one s))
 
       wrote′ : Writing out₀ (putMid at (at + D - at) out part) (at + D) (runsFrom (run circle D F) (s + 1) (3 - (s + 1))) (streamsOn circle D F)
-      wrote′ = pushPart e (omega arith) (run-within h) (ap length e ∙ length-tab D (streamOn circle D F s) ∙ back at D) (same more (w .wrote))
-        where
-          back : (a b : ℕ) → b ≡ a + b - a
-          back a b = omega arith
+      wrote′ = pushPart e (omega arith) (run-within h) (ap length e ∙ length-tab D (streamOn circle D F s) ∙ sym (add-sub-cancel-left at D)) (same more (w .wrote))
 
   pub running-finish : 3 ≤ s → out ≡ streamsOn circle D F ++ drop (3 * D) out₀
   running-finish h = rw ends at (finish (ap (runsFrom (run circle D F) s) none) (w .wrote))

@@ -4,7 +4,7 @@ use mathlib.Core.Path.{_≡_, refl, sym, _∙_, ap}
 use mathlib.Core.Bool.{Bool, true, false, cond, not, _&&_, true≢false}
 use mathlib.Core.List.{List, [], _++_}
 use Prim.Native.Nat.{ℕ, suc, _+_, _-_, _*_, _≤_, _<_}
-use native.Mathlib.Nat.{mul-le-mul-right}
+use native.Mathlib.Nat.{sub-zero, add-sub-cancel-left, mul-le-mul-right}
 use native.Mathlib.Numerals.{add-one}
 use native.Mathlib.Decide.{decLe}
 use native.Mathlib.Omega.{arith}
@@ -110,11 +110,8 @@ hearing-start A room out w e = record {
   place = refl;
   taken = omega arith;
   long = e;
-  wrote = same (ap (heardFrom 1 0 (A + 24) room 0) (less (blocks (A + 24)))) start;
+  wrote = same (ap (heardFrom 1 0 (A + 24) room 0) (sym (sub-zero (blocks (A + 24))))) start;
 }
-  where
-    less : (n : ℕ) → n ≡ n - 0
-    less n = omega arith
 
 -- how many bits code block r carries
 abbrev carries : ℕ → ℕ → ℕ
@@ -132,10 +129,7 @@ module _ (A : ℕ) {room out₀ out : List ℕ} {from at r : ℕ} (below : r < b
   ends = omega (arith, w .taken, w .long, w .wrote .long, filler-below A good r, taken-within (A + 24) (high A good) r below)
 
   part-long : length (midOf at (at + carries (A + 24) r - at) out) ≡ carries (A + 24) r
-  part-long = length-mid at (at + carries (A + 24) r) out ends ∙ back at (carries (A + 24) r)
-    where
-      back : (a b : ℕ) → a + b - a ≡ b
-      back a b = omega arith
+  part-long = length-mid at (at + carries (A + 24) r) out ends ∙ add-sub-cancel-left at (carries (A + 24) r)
 
   data-stretch : Stretch (length (midOf from (from + perBlock - from) room)) (sizeOf (A + 24) r + 4) 0 (fillerOf (A + 24) r)
       (length (midOf at (at + carries (A + 24) r - at) out))

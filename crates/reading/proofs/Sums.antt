@@ -1,29 +1,11 @@
--- Laws of the sums f i + f (i + 1) + .. of 01's counts (`sumFrom`), and of the loop that adds one term a turn.
+-- The loop that adds one term a turn to a sum f 0 + f 1 + .. of 01's counts (`sumFrom`).
 -- Assumes nothing.
-use mathlib.Core.Path.{_≡_, refl, sym, _∙_, ap, ap₂}
-use Prim.Native.Nat.{ℕ, zero, suc, _+_, _-_, _*_, _≤_, _<_}
-use native.Mathlib.Nat.{add-suc}
+use mathlib.Core.Path.{_≡_, sym, _∙_, ap}
+use Prim.Native.Nat.{ℕ, suc, _+_, _-_, _*_, _≤_, _<_}
+use native.Mathlib.Nat.{sub-zero}
 use native.Mathlib.Numerals.{add-one}
 use native.Mathlib.Omega.{arith}
 use Rattle.slots.specs.Reading.{sumFrom}
-
--- f and g agree on the terms
-pub sumFrom-ext : (f g : ℕ → ℕ) (i n : ℕ) → ((k : ℕ) → i ≤ k → k < i + n → f k ≡ g k) → sumFrom f i n ≡ sumFrom g i n
-unfolding sumFrom
-sumFrom-ext f g i zero h = refl
-sumFrom-ext f g i (suc n) h = ap₂ _+_ (h i (omega arith) (omega arith)) (sumFrom-ext f g (suc i) n (λ k a b. h k (omega arith) (omega arith)))
-
--- the terms counted from elsewhere
-pub sumFrom-shift : (i m n : ℕ) (f : ℕ → ℕ) → sumFrom f (i + m) n ≡ sumFrom (λ (k : ℕ). f (i + k)) m n
-unfolding sumFrom
-sumFrom-shift i m zero f = refl
-sumFrom-shift i m (suc n) f = ap (λ (x : ℕ). f (i + m) + x) (rw (← add-suc) (sumFrom-shift i (suc m) n f))
-
--- n terms of at most 1
-pub sumFrom-most : (f : ℕ → ℕ) (i n : ℕ) → ((k : ℕ) → f k ≤ 1) → sumFrom f i n ≤ n
-unfolding sumFrom
-sumFrom-most f i zero h = omega arith
-sumFrom-most f i (suc n) h = omega (arith, h i, sumFrom-most f (suc i) n h)
 
 -- of n terms, each at most `most`, those before i are added up
 pub record Summing (f : ℕ → ℕ) (n most i sum : ℕ) : Type 0 where
@@ -33,13 +15,7 @@ pub record Summing (f : ℕ → ℕ) (n most i sum : ℕ) : Type 0 where
 
 module _ {f : ℕ → ℕ} {n most : ℕ} where
   pub start : Summing f n most 0 0
-  start = record { passed = omega arith; few = omega arith; told = whole n }
-    where
-      less : (n : ℕ) → n - 0 ≡ n
-      less n = omega arith
-
-      whole : (n : ℕ) → 0 + sumFrom f 0 (n - 0) ≡ sumFrom f 0 n
-      whole n = omega (arith, ap (sumFrom f 0) (less n))
+  start = record { passed = omega arith; few = omega arith; told = omega (arith, ap (sumFrom f 0) (sub-zero n)) }
 
   -- `sum += x; i += 1`
   pub next : {i sum x : ℕ} → i < n → x ≡ f i → x ≤ most → Summing f n most i sum → Summing f n most (i + 1) (sum + x)

@@ -4,15 +4,15 @@ use mathlib.Core.Path.{_≡_, refl}
 use mathlib.Core.Bool.{true, false}
 use mathlib.Core.List.{List}
 use Prim.Native.Nat.{ℕ, _+_, _*_, _≤_, _<_}
-use lib.Dec.{ltb}
 use lib.ListN.{length}
-use borrow.Author.Tests.{ltb-true, ltb-false, not-false}
+use borrow.Author.Tests.{ltb-false, not-false}
 use Rattle.refusals.proofs.Refusals.{cleared}
 use Rattle.segmentation.specs.Segmentation.{blocks, sizeOf}
 use Rattle.codeword.specs.Build.{badAllocation, badVersion, badBits}
 use Rattle.slots.specs.declared.State.{State}
 use Rattle.slots.specs.State.{storeLength, headAt, badState}
 use Rattle.slots.specs.Calls.{storeRules, ownerRules, sizeAtHead, receiveNumber, readNumber, streamsNumber}
+use Rattle.slots.proofs.Accepted.{present-slot}
 
 -- an accepted reception
 pub record Receives (state : State) (room slot terminal Q N v : ℕ) (bits : List ℕ) : Type 0 where
@@ -32,7 +32,7 @@ receives state room slot terminal Q N v bits e =
     record {
       sound = clear 0;
       long = ltb-false room (storeLength state) (clear 1);
-      below = ltb-true slot (state .slots) (not-false (ltb slot (state .slots)) (clear 2));
+      below = present-slot (state .slots) slot (clear 2);
       opened = not-false (headAt state slot .opened) (clear 3);
       allocation = clear 5;
       version = clear 6;
@@ -54,7 +54,7 @@ reads state room slot terminal size e =
     record {
       sound = clear 0;
       long = ltb-false room (storeLength state) (clear 1);
-      below = ltb-true slot (state .slots) (not-false (ltb slot (state .slots)) (clear 2));
+      below = present-slot (state .slots) slot (clear 2);
       opened = not-false (headAt state slot .opened) (clear 3);
       enough = ltb-false size (sizeAtHead state slot) (clear 5);
     }
@@ -76,8 +76,8 @@ streams state room slot terminal r size e =
     record {
       sound = clear 0;
       long = ltb-false room (storeLength state) (clear 1);
-      below = ltb-true slot (state .slots) (not-false (ltb slot (state .slots)) (clear 2));
+      below = present-slot (state .slots) slot (clear 2);
       opened = not-false (headAt state slot .opened) (clear 3);
-      block = ltb-true r (blocks (sizeAtHead state slot + 24)) (not-false (ltb r (blocks (sizeAtHead state slot + 24))) (clear 5));
+      block = present-slot (blocks (sizeAtHead state slot + 24)) r (clear 5);
       enough = ltb-false size (3 * (sizeOf (sizeAtHead state slot + 24) r + 4)) (clear 6);
     }

@@ -3,6 +3,7 @@
 use mathlib.Core.Path.{_≡_, _∙_, ap}
 use mathlib.Core.List.{List}
 use Prim.Native.Nat.{ℕ, _+_, _-_, _≤_}
+use native.Mathlib.Nat.{add-sub-cancel-left}
 use native.Mathlib.Omega.{arith}
 use lib.ListN.{length, replicate}
 use borrow.Rule.Slice.PartMut.{midOf, putMid}
@@ -16,8 +17,5 @@ unfolding cleared
 room-cleared M slot {from} {long} store part starts lasts ends filled =
     put-as from (from + long) store (filled ∙ ap (λ (n : ℕ). replicate {A = ℕ} n unheard) whole) (omega arith) ∙ rw (starts, lasts)
   where
-    back : (a b : ℕ) → a + b - a ≡ b
-    back a b = omega arith
-
     whole : length (midOf from (from + long - from) store) ≡ long
-    whole = length-mid from (from + long) store ends ∙ back from long
+    whole = length-mid from (from + long) store ends ∙ add-sub-cancel-left from long

@@ -17,14 +17,10 @@ use Rattle.slots.specs.declared.State.{State}
 use Rattle.slots.specs.State.{closedHead, newState, headAt, tooMany, broken, someBroken, badShape, badState}
 use Rattle.slots.specs.Calls.{withHead, sizeAtHead}
 use Rattle.slots.proofs.Tests.{or-left, or-right}
-use Rattle.slots.proofs.Heads.{unbroken}
+use Rattle.slots.proofs.Heads.{closed-unbroken, unbroken}
 use Rattle.slots.proofs.Accepted.{Fitting, good}
 
 -- ---- broken heads
-
-pub closed-unbroken : (M : ℕ) → broken M closedHead ≡ false
-unfolding broken closedHead
-closed-unbroken M = refl
 
 -- a head that is open for an A that fits
 pub fitting-unbroken : {M A : ℕ} (terminal : ℕ) → Fitting M A → broken M (record { opened = true; terminal = terminal; size = A }) ≡ false

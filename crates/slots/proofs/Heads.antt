@@ -1,10 +1,10 @@
 -- The loop over the heads below S that looks for a broken one, and what it says of each head where it finds none.
 -- Assumes nothing.
-use mathlib.Core.Path.{_≡_, refl, _∙_, ap}
+use mathlib.Core.Path.{_≡_, refl, sym, _∙_, ap}
 use mathlib.Core.Bool.{Bool, true, false, _||_}
 use mathlib.Core.List.{List, [], _∷_}
 use Prim.Native.Nat.{ℕ, zero, suc, _+_, _-_, _≤_, _<_}
-use native.Mathlib.Nat.{not-suc-le-zero}
+use native.Mathlib.Nat.{not-suc-le-zero, sub-zero}
 use native.Mathlib.Numerals.{add-one}
 use native.Mathlib.Omega.{arith}
 use lib.ListN.{getD, drop}
@@ -18,7 +18,7 @@ unfolding someBroken
 none-broken M zero = refl
 none-broken M (suc n) = refl
 
-closed-unbroken : (M : ℕ) → broken M closedHead ≡ false
+pub closed-unbroken : (M : ℕ) → broken M closedHead ≡ false
 unfolding broken closedHead
 closed-unbroken M = refl
 
@@ -37,10 +37,7 @@ pub record Looking (M S : ℕ) (hs : List Head) (i : ℕ) : Type 0 where
 
 module _ {M S : ℕ} {hs : List Head} where
   pub start : Looking M S hs 0
-  start = record { within = omega arith; rest = ap (λ (n : ℕ). someBroken M n hs) (less S) }
-    where
-      less : (n : ℕ) → n ≡ n - 0
-      less n = omega arith
+  start = record { within = omega arith; rest = ap (λ (n : ℕ). someBroken M n hs) (sym (sub-zero S)) }
 
   turn : {i : ℕ} → i < S → Looking M S hs i → someBroken M S hs ≡ (broken M (getD hs i closedHead) || someBroken M (S - (i + 1)) (drop (i + 1) hs))
   turn {i} h w = w .rest ∙ ap (λ (n : ℕ). someBroken M n (drop i hs)) one ∙ rw add-one (one-more M (S - suc i) i hs)

@@ -6,3 +6,5 @@ pub mod RoomLaws
 pub mod HeadLaws
 pub mod PlaceBounds
 pub mod Acceptance
+pub mod Sums
+pub mod SameKept

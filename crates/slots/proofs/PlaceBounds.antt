@@ -3,17 +3,16 @@
 use mathlib.Core.Path.{_≡_}
 use mathlib.Core.Bool.{false}
 use mathlib.Core.List.{List}
-use Prim.Native.Nat.{ℕ, zero, suc, _+_, _%_, _≤_, _<_}
+use Prim.Native.Nat.{ℕ, _+_, _%_, _≤_, _<_}
 use native.Mathlib.Decide.{decLt}
 use native.Mathlib.Omega.{arith}
-use lib.Dec.{eqb·suc-zero}
 use lib.ListN.{length, getD, List·getD-eq-default}
 use borrow.Author.Tests.{ltb-false}
 use Rattle.laws.proofs.Tab.{length-tab, getD-tab}
 use Rattle.segmentation.specs.Segmentation.{blocks, sizeOf, fillerOf}
 use Rattle.segmentation.specs.Sizes.{badSize}
 use Rattle.segmentation.proofs.Segmentation.{in-range, size-most}
-use Rattle.segmentation.proofs.CodeBlocks.{filler-first}
+use Rattle.segmentation.proofs.CodeBlocks.{filler-within}
 use Rattle.rate_matching.specs.SubBlocks.{rows}
 use Rattle.rate_matching.specs.Circle.{circleLength, startOf}
 use Rattle.rate_matching.specs.Walk.{turn, turnAfterTurn, sentPlaces}
@@ -44,13 +43,8 @@ module _ (A : ℕ) (admitted : badSize A ≡ false) where
   unfolding rows
   rows-pos r = omega arith
 
-  filler-within : (r : ℕ) → fillerOf (A + 24) r ≤ sizeOf (A + 24) r + 4
-  unfolding fillerOf
-  filler-within zero = omega (arith, filler-first (A + 24) high (omega arith))
-  filler-within (suc r) = rw (eqb·suc-zero r) (omega arith)
-
   pub length-shape : (r : ℕ) → length (shape (sizeOf (A + 24) r + 4) (fillerOf (A + 24) r)) ≡ circleLength (rows (sizeOf (A + 24) r + 4))
-  length-shape r = ShapeTurn.length-shape (sizeOf (A + 24) r + 4) (fillerOf (A + 24) r) (filler-within r)
+  length-shape r = ShapeTurn.length-shape (sizeOf (A + 24) r + 4) (fillerOf (A + 24) r) (omega (arith, filler-within (A + 24) high (omega arith) r))
 
   -- the places that a code block sends
   pub sent-below : (Q N v G r : ℕ) → badVersion v ≡ false → Places (blockPlaces (A + 24) Q N v G r)

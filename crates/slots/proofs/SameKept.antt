@@ -12,9 +12,9 @@ use Rattle.laws.specs.Lists.{tab}
 use Rattle.laws.proofs.Tab.{tabFrom-ext, tab-ext}
 use Rattle.check_bits.specs.CheckBits.{crc, gCRC24A}
 use Rattle.segmentation.specs.Segmentation.{checkLength, blocks, sizeOf, fillerOf}
 use Rattle.slots.specs.Room.{heard}
 use Rattle.slots.specs.Reading.{keptAt, lacks, lackingIn, lacking, heardIn, heardFrom, heardSequence, wrongCheck, heardBlock, streamByte, threeStreams}
-use Rattle.reading.proofs.Sums.{sumFrom-ext}
+use Rattle.slots.proofs.Sums.{sumFrom-ext}
 
 module _ (A M slot N other : ℕ) (store store′ : List ℕ)
     (same : (r s i : ℕ) → r < blocks (A + 24) → s < 3 → i < sizeOf (A + 24) r + 4 → keptAt M slot (A + 24) store r s i ≡ keptAt N other (A + 24) store′ r s i)
