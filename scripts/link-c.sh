@@ -4,7 +4,10 @@ need gcc gcc
 
 link_c() {
     mkdir -p target/face || return 1
-    [ -f target/staticlib/libface.a ] || rt staticlib face || return 1
+    if [ -z "${face_built:-}" ]; then
+        rt staticlib face || return 1
+        face_built=1
+    fi
     "$toolchain/bin/clang" --target=x86_64-unknown-linux-gnu -O2 -fPIC -ffreestanding -Wall -Wextra \
         -isystem "$(gcc -print-file-name=include)" -Iinclude -c "face/$1.c" -o "target/face/$1.o" || return 1
     "$kit/on/$(uname -m)/bin/rattle-link" --target x86_64-unknown-linux-gnu --toolchain "$toolchain" \
