@@ -12,9 +12,8 @@ use lib.Dec.{lit<}
 use lib.ListN.{length}
 use lib.Bits.{xor-zero-r, xor-self, xor-lt}
 use lib.Pow.{pow-pos, field, mod-mod-pow, shr-shr}
-use Rattle.laws.specs.Bits.{_⊕_, bitsOf}
+use Rattle.laws.specs.Bits.{_⊕_, bitsOf, AreBits}
 use Rattle.laws.proofs.Bits.{xor-parity, bitsOf-mod}
-use Rattle.check_bits.specs.Division.{AreBits}
 use Rattle.check_bits.specs.CheckBits.{crcStep, crcFrom, crc, checkBits}
 use Rattle.check_bits.proofs.Register.{xor-same, doubled-bit, top-lt, crcStep-is, crcStep-lt, crcFrom-append, crc-lt}
 

@@ -3,7 +3,7 @@
 use mathlib.Core.Path.{_≡_, refl, sym, _∙_, ap, ap₂}
 use mathlib.Core.Bool.{Bool}
 use mathlib.Core.List.{List, [], _∷_, _++_}
-use Prim.Native.Nat.{ℕ, zero, suc, _+_, _-_, _*_, _/_, _%_, _^_, _≤_, _<_}
+use Prim.Native.Nat.{ℕ, suc, _+_, _-_, _*_, _/_, _%_, _^_, _≤_, _<_}
 use native.Mathlib.Nat.{zero-add, pow-suc, mod-lt, mod-eq-of-lt}
 use native.Mathlib.Omega.{arith}
 use lib.Arith.{digits-lt}
@@ -11,12 +11,12 @@ use lib.Bits.{bitAnd, bitOr, and-le-l, and-le-r, or-add-and, and-block, and-high
 use lib.Dec.{eqb, eqb→eq, lit<, lit≤}
 use lib.ListN.{length, getD, take, drop, replicate, length-drop}
 use lib.Pow.{pow-add, shl-exact, high}
-use lib.Seq.{drop-cons, drop-drop, getD-drop, take-add, length-take-le}
-use Rattle.laws.specs.Bits.{bitsOf}
+use lib.Seq.{drop-cons, drop-drop, take-add, length-take-le}
+use Rattle.laws.specs.Bits.{bitsOf, EachBelow, AreBits}
 use Rattle.laws.specs.Computed.{all-below}
+use Rattle.laws.proofs.AreBits.{no-bits, with-bit, take-below, drop-below}
 use Rattle.laws.proofs.Bits.{bitsOf-low, bitsOf-join}
 use Rattle.laws.proofs.Computed.{all-below-at}
-use Rattle.check_bits.specs.Division.{AreBits}
 use Rattle.check_bits.specs.Stride.{wordOf, lowest}
 
 -- a byte below what is already there
@@ -25,7 +25,7 @@ below j w {a} {b} ha h hb = rw (shl-exact j 8 w ha h) (or-shifted a 8 b hb)
 
 -- each entry is a byte
 abbrev pub AreBytes : List ℕ → Type 0
-AreBytes l = (i : ℕ) → getD l i 0 < 2 ^ 8
+AreBytes l = EachBelow (2 ^ 8) l
 
 -- ---- bytes as one number
 
@@ -42,18 +42,12 @@ unfolding wordOf
 word-append [] cs = omega arith
 word-append (b ∷ bs) cs = rw (word-append bs cs, one-more (length bs)) (omega arith)
 
-take-bytes : (n : ℕ) (l : List ℕ) → AreBytes l → AreBytes (take n l)
-take-bytes zero l h i = lit< tt
-take-bytes (suc n) [] h i = lit< tt
-take-bytes (suc n) (x ∷ l) h zero = h 0
-take-bytes (suc n) (x ∷ l) h (suc i) = take-bytes n l (λ j. h (suc j)) i
-
 part-length : (bits : List ℕ) (n from : ℕ) → from + n ≤ length bits → length (take n (drop from bits)) ≡ n
 part-length bits n from f = length-take-le n (drop from bits) (simp length-drop (omega arith))
 
 module _ (bits : List ℕ) (h : AreBytes bits) where
   part-bytes : (n from : ℕ) → AreBytes (take n (drop from bits))
-  part-bytes n from = take-bytes n (drop from bits) (λ i. rw getD-drop (h (from + i)))
+  part-bytes n from = take-below (2 ^ 8) (lit< tt) n (drop from bits) (drop-below (2 ^ 8) from bits h)
 
   part-lt : (n from : ℕ) {x : ℕ} → from + n ≤ length bits → x ≡ wordOf (take n (drop from bits)) → x < 2 ^ (n * 8)
   part-lt n from f e = rw e (rw (part-length bits n from f) at (word-lt (take n (drop from bits)) (part-bytes n from)))
@@ -82,10 +76,6 @@ above-one w = bitAnd w 0xFEFEFEFEFEFEFEFE
 none : (a b : ℕ) → bitOr a b ≡ 0 → (a ≡ 0) × (b ≡ 0)
 none a b e = omega (arith, or-add-and a b, and-le-l a b, and-le-r a b)
 
-with-bit : (b : ℕ) (bs : List ℕ) → b < 2 → AreBits bs → AreBits (b ∷ bs)
-with-bit b bs h f zero = h
-with-bit b bs h f (suc i) = f i
-
 low-bit : {b : ℕ} → b < 2 ^ 8 → bitAnd b 254 ≡ 0 → b < 2
 low-bit {b} h z =
     let e : b / 2 % 128 ≡ b / 2 = mod-eq-of-lt (omega arith) in
@@ -94,7 +84,7 @@ low-bit {b} h z =
 -- a word with none of them is made of bits
 clear : (bs : List ℕ) → AreBytes bs → bitAnd (wordOf bs) (wordOf (replicate (length bs) 254)) ≡ 0 → AreBits bs
 unfolding wordOf
-clear [] h e = λ i. omega arith
+clear [] h e = no-bits
 clear (b ∷ bs) h e = with-bit b bs (low-bit (h 0) (omega (arith, parts))) (clear bs (λ i. h (suc i)) (omega (arith, parts)))
   where
     parts : bitAnd (wordOf bs) (wordOf (replicate (length bs) 254)) * 2 ^ 8 + bitAnd b 254 ≡ 0

@@ -7,9 +7,8 @@ use native.Mathlib.Nat.{zero-mul, add-zero}
 use native.Mathlib.Omega.{arith}
 use lib.Bits.{xor-zero-r, xor-self, xor-shr, xor-mod, xor-block, xor-lt}
 use lib.ListN.{length, replicate}
-use Rattle.laws.specs.Bits.{_⊕_, bitsOf}
-use Rattle.laws.proofs.Bits.{xor-assoc, xor-medial, length-bitsOf, bitsOf-bit}
-use Rattle.check_bits.specs.Division.{AreBits}
+use Rattle.laws.specs.Bits.{_⊕_, bitsOf, AreBits}
+use Rattle.laws.proofs.Bits.{xor-assoc, xor-medial, length-bitsOf, bitsOf-bits}
 use Rattle.check_bits.specs.CheckBits.{crcStep, crcFrom}
 use Rattle.check_bits.proofs.Register.{top-lt, crcStep-is, crcStep-lt}
 use Rattle.check_bits.proofs.Carried.{emptied}
@@ -66,7 +65,7 @@ module _ (n g : ℕ) {L : ℕ} (e : suc n ≡ L) where
   pub beforehand : (s w : ℕ) → s < 2 ^ L → w < 2 ^ L → crcFrom L g s (bitsOf L w) ≡ crcFrom L g (s ⊕ w) (replicate L 0)
   beforehand s w hs hw =
       ap (λ (y : ℕ). crcFrom L g y (bitsOf L w)) again
-      ∙ superposed (s ⊕ w) w (bitsOf L w) (xor-lt L s w hs hw) hw (bitsOf-bit L w)
+      ∙ superposed (s ⊕ w) w (bitsOf L w) (xor-lt L s w hs hw) hw (bitsOf-bits L w)
       ∙ rw (length-bitsOf, emptied L g w hw) (xor-zero-r (crcFrom L g (s ⊕ w) (replicate L 0)))
     where
       again : s ≡ s ⊕ w ⊕ w

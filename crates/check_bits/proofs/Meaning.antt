@@ -9,9 +9,9 @@ use native.Mathlib.Omega.{arith}
 use lib.ListN.{length, replicate}
 use lib.Bits.{xor-zero-r, xor-comm, xor-self, xor-lt}
 use lib.Pow.{pow-pos}
-use Rattle.laws.specs.Bits.{_⊕_, bitsOf}
+use Rattle.laws.specs.Bits.{_⊕_, bitsOf, AreBits}
 use Rattle.laws.proofs.Bits.{xor-assoc, xor-at, length-bitsOf, bitsOf-mod}
-use Rattle.check_bits.specs.Division.{takeAway, divide, LeavesNothing, AreBits, powersCRC24A, powersCRC24B, ofPowers}
+use Rattle.check_bits.specs.Division.{takeAway, divide, LeavesNothing, powersCRC24A, powersCRC24B, ofPowers}
 use Rattle.check_bits.specs.CheckBits.{gCRC24A, gCRC24B, crcStep, crcFrom, crc, checkBits}
 use Rattle.check_bits.proofs.Register.{xor-same, doubled-bit, top-lt, crcStep-is, crcStep-lt, length-checkBits}
 

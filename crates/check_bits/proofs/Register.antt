@@ -10,10 +10,9 @@ use lib.Bits.{bitXor, xor-zero-r}
 use lib.Dec.{lit<}
 use lib.ListN.{length}
 use lib.Pow.{pow-pos, shr-lt}
-use Rattle.laws.specs.Bits.{_⊕_}
-use Rattle.laws.proofs.Bits.{length-bitsOf, bitsOf-bit, xor-cancel}
+use Rattle.laws.specs.Bits.{_⊕_, AreBits}
+use Rattle.laws.proofs.Bits.{length-bitsOf, bitsOf-bits, xor-cancel}
 use Rattle.check_bits.specs.CheckBits.{crcStep, crcFrom, crc, checkBits}
-use Rattle.check_bits.specs.Division.{AreBits}
 
 -- numbers whose exclusive or is 0 are equal
 pub xor-same : (a b : ℕ) → a ⊕ b ≡ 0 → a ≡ b
@@ -57,4 +56,4 @@ module _ (L g : ℕ) where
 
   pub checkBits-bits : (a : List ℕ) → AreBits (checkBits L g a)
   unfolding checkBits
-  checkBits-bits a = bitsOf-bit L (crc L g a)
+  checkBits-bits a = bitsOf-bits L (crc L g a)

@@ -4,12 +4,12 @@ use mathlib.Core.Path.{_≡_, refl, sym, _∙_, ap}
 use mathlib.Core.List.{List, _++_}
 use Prim.Native.Nat.{ℕ, _+_, _-_, _*_, _/_, _%_, _^_, _≤_, _<_}
 use native.Mathlib.Nat.{mod-eq-of-lt, mul-le-mul}
-use native.Mathlib.Numerals.{add-one}
 use native.Mathlib.Omega.{arith}
 use lib.ListN.{length, getD, take, drop, length-drop, take-append-drop, drop-of-length-le}
-use lib.Seq.{drop-cons, drop-drop, take-all}
+use lib.Seq.{drop-drop, take-all}
 use lib.Bits.{bitAnd, bitXor, and-mask, xor-lt}
 use Rattle.laws.specs.Bits.{bitsOf}
+use Rattle.laws.proofs.Writing.{drop-next}
 use Rattle.check_bits.specs.CheckBits.{crcStep, crcFrom, crc}
 use Rattle.check_bits.specs.Stride.{IsTable, entries}
 use Rattle.check_bits.proofs.Register.{crcStep-lt, crcFrom-lt, crcFrom-append}
@@ -47,7 +47,7 @@ module _ {g r : ℕ} {bits : List ℕ} where
   unfolding crcFrom
   next {s} {i} h w = rw (coded g (getD bits i 0) (w .small)) record {
     small = crcStep-lt 24 g s (getD bits i 0);
-    told = rw add-one (sym (ap (crcFrom 24 g s) (drop-cons bits i 0 h)) ∙ w .told);
+    told = sym (ap (crcFrom 24 g s) (drop-next bits i h)) ∙ w .told;
   }
 
   pub finish : {s i : ℕ} → length bits ≤ i → Running g r bits s i → s ≡ crcFrom 24 g r bits

@@ -3,7 +3,7 @@
 use mathlib.Core.Path.{_≡_, refl, sym, _∙_, ap, ap₂}
 use mathlib.Core.Bool.{Bool}
 use mathlib.Core.List.{List}
-use Prim.Native.Nat.{ℕ, zero, suc, _+_, _*_, _/_, _%_, _^_, _≤_, _<_}
+use Prim.Native.Nat.{ℕ, _+_, _*_, _/_, _%_, _^_, _≤_, _<_}
 use native.Mathlib.Nat.{zero-add, mul-one, lt-of-lt-of-le, mod-lt, mod-eq-of-lt}
 use native.Mathlib.Omega.{arith}
 use lib.Arith.{digits-div, digits-mod}
@@ -13,9 +13,9 @@ use lib.ListN.{getD, replicate}
 use lib.Pow.{pow-pos, pow-mono, shl-lt, mod-pow-add}
 use Rattle.laws.specs.Bits.{_⊕_, bitsOf}
 use Rattle.laws.specs.Computed.{all-below}
+use Rattle.laws.proofs.AreBits.{zero-bits}
 use Rattle.laws.proofs.Computed.{all-below-at}
 use Rattle.check_bits.specs.CheckBits.{crcFrom}
-use Rattle.check_bits.specs.Division.{AreBits}
 use Rattle.check_bits.specs.Stride.{after24, IsTable, entries}
 use Rattle.check_bits.proofs.Linear.{superposed, beforehand}
 
@@ -29,17 +29,12 @@ tested g t h = record {
   entry = λ n l. eqb→eq (getD t n 0) (after24 g (n % 16 * 2 ^ (n / 16 * 4))) (all-below-at (right g t) 96 h n l);
 }
 
-zeros : (n : ℕ) → AreBits (replicate n 0)
-zeros zero i = omega arith
-zeros (suc n) zero = omega arith
-zeros (suc n) (suc i) = zeros n i
-
 -- the lowest 4 + k bits of the register s: four bits, and the k below them
 lower : (g s k : ℕ) → 4 + k ≤ 24 → after24 g (s % 2 ^ (4 + k)) ≡ after24 g (s % 2 ^ k) ⊕ after24 g (s / 2 ^ k % 16 * 2 ^ k)
 unfolding after24
 lower g s k h =
     ap (λ (x : ℕ). crcFrom 24 g x (replicate 24 0)) (mod-pow-add s 4 k ∙ sym (xor-shifted four k low low-lt) ∙ xor-comm (four * 2 ^ k) low)
-    ∙ superposed 23 g refl low (four * 2 ^ k) (replicate 24 0) (lt-of-lt-of-le low-lt (pow-mono k≤24)) (lt-of-lt-of-le four-lt (pow-mono h)) (zeros 24)
+    ∙ superposed 23 g refl low (four * 2 ^ k) (replicate 24 0) (lt-of-lt-of-le low-lt (pow-mono k≤24)) (lt-of-lt-of-le four-lt (pow-mono h)) (zero-bits 24)
   where
     four : ℕ
     four = s / 2 ^ k % 16

@@ -3,8 +3,8 @@
 -- Assumes nothing.
 use mathlib.Core.Path.{_≡_}
 use mathlib.Core.List.{List, [], _∷_, _++_}
-use Prim.Native.Nat.{ℕ, zero, suc, _+_, _*_, _^_, _<_}
-use lib.ListN.{length, getD, replicate}
+use Prim.Native.Nat.{ℕ, zero, suc, _+_, _*_, _^_}
+use lib.ListN.{length, replicate}
 use Rattle.laws.specs.Bits.{_⊕_}
 
 -- p with a times g taken away from its highest powers (in GF(2) to take away is to add)
@@ -22,10 +22,6 @@ divide (suc n) g (a ∷ p) = divide n g (takeAway a g p)
 -- data and check bits together leave remainder 0: as many steps as there are data bits leave as many coefficients as g has
 abbrev pub LeavesNothing : List ℕ → List ℕ → List ℕ → Type 0
 LeavesNothing g a p = divide (length a) g (a ++ p) ≡ replicate (length g) 0
-
--- each entry is 0 or 1
-abbrev pub AreBits : List ℕ → Type 0
-AreBits a = (i : ℕ) → getD a i 0 < 2
 
 -- the powers of D in gCRC24A(D) and gCRC24B(D) as the clause lists them, the top term D^24 left off
 abbrev pub powersCRC24A : List ℕ

@@ -12,7 +12,7 @@ use borrow.Author.Tests.{lt-ltb, leb-true, leb-false}
 use Rattle.laws.specs.Lists.{tab, keep}
 use Rattle.laws.proofs.Keep.{keep-ext}
 use Rattle.turbo.specs.Streams.{NULL, stream0, stream1, stream2}
-use Rattle.turbo.proofs.Encoder.{AllBits}
+use Rattle.laws.specs.Bits.{AreBits}
 use Rattle.turbo.proofs.Streams.{length-stream0, length-stream1, stream0-null, stream1-null, stream0-bit, stream1-bit, stream2-bits}
 use Rattle.rate_matching.specs.declared.Held.{Held}
 use Rattle.rate_matching.specs.declared.Held.the-variants.{Bit, Dummy}
@@ -44,7 +44,7 @@ pub record Filled (D F : ℕ) (d0 d1 d2 : List ℕ) : Type 0 where
   pub bits2 : BitsFrom 0 d2
 
 -- the streams of a code block of bits
-pub streams-filled : (row F : ℕ) (c : List ℕ) → F ≤ length c → length (stream2 row c) ≡ length c + 4 → AllBits c
+pub streams-filled : (row F : ℕ) (c : List ℕ) → F ≤ length c → length (stream2 row c) ≡ length c + 4 → AreBits c
     → Filled (length c + 4) F (stream0 row F c) (stream1 row F c) (stream2 row c)
 streams-filled row F c h e bits = record {
   long0 = length-stream0 row F c h;

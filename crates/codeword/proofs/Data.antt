@@ -2,21 +2,22 @@
 -- Assumes nothing.
 use mathlib.Core.Path.{_≡_, sym, _∙_, ap}
 use mathlib.Core.Bool.{Bool, true, false, cond}
-use mathlib.Core.List.{List, [], _∷_, _++_}
+use mathlib.Core.List.{List, [], _++_}
 use Prim.Native.Nat.{ℕ, zero, suc, _+_, _-_, _≤_, _<_}
 use native.Mathlib.Omega.{arith}
 use lib.Dec.{eqb, lit<}
-use lib.ListN.{length, getD, take, drop, replicate, length-replicate, List·getD-append}
+use lib.ListN.{length, getD, drop, replicate, length-replicate, List·getD-append}
 use lib.Seq.{getD-append-add, getD-take, getD-drop}
-use Rattle.laws.proofs.Bits.{bitsOf-bit}
+use Rattle.laws.specs.Bits.{AreBits}
+use Rattle.laws.proofs.AreBits.{no-bits, append-bits, zero-bits, take-below, drop-below}
 use Rattle.check_bits.specs.CheckBits.{checkBits, gCRC24A, gCRC24B}
+use Rattle.check_bits.proofs.Register.{checkBits-bits}
 use Rattle.segmentation.specs.Segmentation.{checkLength, blocks, filler, sizeOf, rowOf, fillerOf}
 use Rattle.segmentation.specs.CodeBlocks.{withCheck, takenBefore, payload, codeBlock}
 use Rattle.segmentation.proofs.Segmentation.{size-row}
 use Rattle.segmentation.proofs.CodeBlocks.{length-payload, length-codeBlock, filler-within, filler-taken}
 use Rattle.turbo.specs.Streams.{stream0, stream1, stream2}
-use Rattle.turbo.proofs.Encoder.{AllBits}
-use Rattle.turbo.proofs.Streams.{append-bits, length-stream2, stream0-data}
+use Rattle.turbo.proofs.Streams.{length-stream2, stream0-data}
 use Rattle.rate_matching.specs.Walk.{onCircle}
 use Rattle.rate_matching.specs.Places.{placeNumber, placeOf, InStreams, streamOf, entryOf}
 use Rattle.rate_matching.proofs.Circle.{circle-holds}
@@ -26,42 +27,24 @@ use Rattle.codeword.proofs.Alike.{Filled, streams-filled}
 
 -- ---- lists of bits
 
-take-bits : (n : ℕ) (a : List ℕ) → AllBits a → AllBits (take n a)
-take-bits zero a h i = lit< tt
-take-bits (suc n) [] h i = lit< tt
-take-bits (suc n) (x ∷ a) h zero = h 0
-take-bits (suc n) (x ∷ a) h (suc i) = take-bits n a (λ k. h (suc k)) i
-
-drop-bits : (n : ℕ) (a : List ℕ) → AllBits a → AllBits (drop n a)
-drop-bits n a h i = rw (getD-drop n a i 0) (h (n + i))
-
-pub zero-bits : (n : ℕ) → AllBits (replicate {A = ℕ} n 0)
-zero-bits zero i = lit< tt
-zero-bits (suc n) zero = lit< tt
-zero-bits (suc n) (suc i) = zero-bits n i
-
-check-bits : (L g : ℕ) (a : List ℕ) → AllBits (checkBits L g a)
-unfolding checkBits
-check-bits L g a i = bitsOf-bit L _ i
-
-pub withCheck-bits : (a : List ℕ) → AllBits a → AllBits (withCheck a)
+pub withCheck-bits : (a : List ℕ) → AreBits a → AreBits (withCheck a)
 unfolding withCheck
-withCheck-bits a h = append-bits a (checkBits 24 gCRC24A a) h (check-bits 24 gCRC24A a)
+withCheck-bits a h = append-bits a (checkBits 24 gCRC24A a) h (checkBits-bits 24 gCRC24A a)
 
-payload-bits : (b : List ℕ) (r : ℕ) → AllBits b → AllBits (payload b r)
+payload-bits : (b : List ℕ) (r : ℕ) → AreBits b → AreBits (payload b r)
 unfolding payload
 payload-bits b r h =
     let F : List ℕ = replicate {A = ℕ} (filler (length b)) 0 in
-    take-bits (sizeOf (length b) r - checkLength (length b)) (drop (takenBefore (length b) r) (F ++ b))
-    (drop-bits (takenBefore (length b) r) (F ++ b) (append-bits F b (zero-bits (filler (length b))) h))
+    take-below 2 (lit< tt) (sizeOf (length b) r - checkLength (length b)) (drop (takenBefore (length b) r) (F ++ b))
+    (drop-below 2 (takenBefore (length b) r) (F ++ b) (append-bits F b (zero-bits (filler (length b))) h))
 
-pub codeBlock-bits : (b : List ℕ) (r : ℕ) → AllBits b → AllBits (codeBlock b r)
+pub codeBlock-bits : (b : List ℕ) (r : ℕ) → AreBits b → AreBits (codeBlock b r)
 unfolding codeBlock
 codeBlock-bits b r h = append-bits (payload b r) _ (payload-bits b r h) (last (eqb (blocks (length b)) 1))
   where
-    last : (t : Bool) → AllBits (cond t [] (checkBits 24 gCRC24B (payload b r)))
-    last true i = lit< tt
-    last false i = check-bits 24 gCRC24B (payload b r) i
+    last : (t : Bool) → AreBits (cond t [] (checkBits 24 gCRC24B (payload b r)))
+    last true = no-bits
+    last false = checkBits-bits 24 gCRC24B (payload b r)
 
 -- ---- a sequence b of B bits
 
@@ -76,7 +59,7 @@ module _ (B : ℕ) (low : 24 ≤ B) (high : B ≤ 30600) where
     filler-short : fillerOf B r ≤ length (codeBlock b r)
     filler-short = rw (length-codeBlock B high b long r below) (omega (arith, filler-within B high low r))
 
-    pub block-filled : AllBits b → Filled (sizeOf B r + 4) (fillerOf B r)
+    pub block-filled : AreBits b → Filled (sizeOf B r + 4) (fillerOf B r)
         (stream0 (rowOf B r) (fillerOf B r) (codeBlock b r)) (stream1 (rowOf B r) (fillerOf B r) (codeBlock b r)) (stream2 (rowOf B r) (codeBlock b r))
     block-filled bits =
         rw (length-codeBlock B high b long r below) at
@@ -85,7 +68,7 @@ module _ (B : ℕ) (low : 24 ≤ B) (high : B ≤ 30600) where
         (codeBlock-bits b r bits))
 
     -- a data place holds the code block's bit
-    pub data-place : AllBits b → (i : ℕ) → fillerOf B r ≤ i → i < sizeOf B r
+    pub data-place : AreBits b → (i : ℕ) → fillerOf B r ≤ i → i < sizeOf B r
         → onCircle (blockCircle b r) (placeNumber (sizeOf B r + 4) 0 i) ≡ getD (codeBlock b r) i 0
     unfolding blockCircle placeOf entryOf streamOf
     data-place bits i h l =

@@ -1,16 +1,13 @@
 -- Numbers in bytes: four stores over four bytes, and the loop over the six numbers of the face to C.
 -- Assumes nothing.
-use mathlib.Core.Path.{_≡_, refl, sym, _∙_, ap, ap₂}
-use mathlib.Core.Bool.{Bool, true, false, cond}
-use mathlib.Core.List.{List, [], _∷_, _++_, append-assoc}
-use Prim.Native.Nat.{ℕ, zero, suc, _+_, _-_, _*_, _≤_, _<_}
-use native.Mathlib.Numerals.{add-one}
+use mathlib.Core.Path.{_≡_, refl, _∙_, ap}
+use mathlib.Core.Bool.{true, false}
+use mathlib.Core.List.{List, [], _∷_, _++_}
+use Prim.Native.Nat.{ℕ, _+_, _-_, _*_, _≤_, _<_}
 use native.Mathlib.Omega.{arith}
-use lib.Dec.{eqb, ltb}
-use lib.ListN.{length, take, drop, getD, set, length-append, drop-of-length-le}
-use lib.Seq.{drop-cons, drop-append-le, length-take-le, take-length}
-use borrow.Author.Tests.{eq-eqb, ne-eqb, lt-ltb, le-ltb}
-use borrow.Rule.Slice.PartMut.{midOf, putMid}
+use lib.ListN.{length, drop, getD, set, drop-of-length-le}
+use borrow.Author.Tests.{lt-ltb, le-ltb}
+use borrow.Rule.Slice.PartMut.{putMid}
 use Rattle.laws.proofs.Writing as writing
 use Rattle.laws.proofs.Writing.{Writing}
 use Rattle.refusals.specs.Refusals.{firstOf}
@@ -50,7 +47,7 @@ module _ {numbers out₀ out : List ℕ} {i at : ℕ} (h : Putting numbers out�
   }
     where
       one-more : inBytes (drop i numbers) ≡ fourBytes (getD numbers i 0) ++ inBytes (drop (i + 1) numbers)
-      one-more = unfold inBytes in rw (add-one i, drop-cons numbers i 0 more) refl
+      one-more = unfold inBytes in rw (writing.drop-next numbers i more) refl
 
 pub finish : {numbers out₀ out : List ℕ} {i at : ℕ} → Putting numbers out₀ out i at → length out₀ ≤ 4 * length numbers → length numbers ≤ i
     → out ≡ inBytes numbers

@@ -10,6 +10,7 @@ use lib.Dec.{eqb}
 use lib.ListN.{length, getD, drop}
 use borrow.Author.Tests.{eqb-true}
 use Rattle.segmentation.specs.Segmentation.{blocks, sizeOf}
+use Rattle.segmentation.specs.Sizes.{badSize}
 use Rattle.slots.specs.declared.Answer.{Answer}
 use Rattle.slots.specs.declared.Answer.the-variants.{Done, Heard, Lacking, Refused}
 use Rattle.slots.specs.declared.Head.{Head}
@@ -25,7 +26,7 @@ use Rattle.slots.proofs.RoomLaws.{room-within, cleared-in}
 use Rattle.slots.proofs.HeadLaws.{open-size, its-head, no-head, closed-head}
 use Rattle.slots.proofs.Acceptance.{receives, reads, streams}
 use Rattle.history.specs.Calls.{Reception, Call, opening, receiving, reading, streaming, closing}
-use Rattle.history.specs.Run.{storeAfterCall}
+use Rattle.history.specs.Run.{outcomeOf, storeAfterCall}
 use Rattle.history.specs.Accepted.{headsAfterCall}
 use Rattle.history.specs.Answered.{answerTo, slotOf, SameRoom, SameSlot}
 use Rattle.history.proofs.State.{room-lent, open-writes, receive-writes}
@@ -84,25 +85,25 @@ module _ (slot : ℕ) (state other : State) (store otherStore : List ℕ) (same 
   -- ---- what is read of an open slot
 
   module _ (sound : badState state ≡ false) (below : slot < state .slots) (opened : headAt state slot .opened ≡ true) where
+    -- whatever is the same in two stores with the same room
+    at-slot : {B : Type 0} (f : ℕ → ℕ → ℕ → List ℕ → B)
+        → ((M s A : ℕ) → badSize A ≡ false → blocks (A + 24) ≤ M → (l r : List ℕ) → SameRoom M s l r → f M s A l ≡ f M s A r)
+        → f (state .blocks) slot (sizeAtHead state slot) store ≡ f (other .blocks) slot (sizeAtHead other slot) otherStore
+    at-slot f law =
+        let size = open-size state sound slot below opened in
+        law (state .blocks) slot (sizeAtHead state slot) (size .0) (size .1) store otherStore (same .room)
+        ∙ ap₂ (λ (M A : ℕ). f M slot A otherStore) (same .blocks) same-size
+
     same-lackingAt : lackingAt state slot store ≡ lackingAt other slot otherStore
     unfolding lackingAt
-    same-lackingAt =
-        let size = open-size state sound slot below opened in
-        same-lacking (state .blocks) slot (sizeAtHead state slot) (size .0) (size .1) store otherStore (same .room)
-        ∙ ap₂ (λ (M A : ℕ). lacking M slot A otherStore) (same .blocks) same-size
+    same-lackingAt = at-slot lacking same-lacking
 
     same-wrongAt : wrongAt state slot store ≡ wrongAt other slot otherStore
     unfolding wrongAt
-    same-wrongAt =
-        let size = open-size state sound slot below opened in
-        same-wrong (state .blocks) slot (sizeAtHead state slot) (size .0) (size .1) store otherStore (same .room)
-        ∙ ap₂ (λ (M A : ℕ). wrongCheck M slot A otherStore) (same .blocks) same-size
+    same-wrongAt = at-slot wrongCheck same-wrong
 
     same-blockAt : heardBlock (state .blocks) slot (sizeAtHead state slot) store ≡ heardBlock (other .blocks) slot (sizeAtHead other slot) otherStore
-    same-blockAt =
-        let size = open-size state sound slot below opened in
-        same-block (state .blocks) slot (sizeAtHead state slot) (size .0) (size .1) store otherStore (same .room)
-        ∙ ap₂ (λ (M A : ℕ). heardBlock M slot A otherStore) (same .blocks) same-size
+    same-blockAt = at-slot heardBlock same-block
 
     same-streamsAt : (r : ℕ) → r < blocks (sizeAtHead state slot + 24)
         → threeStreams (state .blocks) slot (sizeAtHead state slot + 24) store r ≡ threeStreams (other .blocks) slot (sizeAtHead other slot + 24) otherStore r
@@ -181,7 +182,7 @@ module _ (slot : ℕ) (state other : State) (store otherStore : List ℕ) (same 
   -- ---- the promise: the answer, and what the outputs hold
 
   pub answer-depends : (call : Call) → slotOf call ≡ slot → answerTo state store call ≡ answerTo other otherStore call
-  unfolding answerTo slotOf storeAfterCall openOutcome receiveOutcome readOutcome streamsOutcome closeOutcome
+  unfolding answerTo outcomeOf slotOf storeAfterCall openOutcome receiveOutcome readOutcome streamsOutcome closeOutcome
   answer-depends (opening s terminal A) e = rw e (same-answer _ _ state other _ _ (same-open A) (λ z. refl))
   answer-depends (receiving s terminal x) e =
       rw e (same-answer _ _ state other _ _ (same-receive terminal (x .Q) (x .N) (x .version) (x .bits)) (λ z. ap Heard (same-heard terminal x z)))

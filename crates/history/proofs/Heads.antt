@@ -19,7 +19,7 @@ use Rattle.slots.proofs.Accepted.{openable}
 use Rattle.slots.proofs.Heads.{closed-unbroken}
 use Rattle.slots.proofs.HeadLaws.{fitting-unbroken, good-with, good-new}
 use Rattle.history.specs.Calls.{Call, opening, receiving, reading, streaming, closing, History}
-use Rattle.history.specs.Run.{lent, begin, run}
+use Rattle.history.specs.Run.{lent, outcomeOf, begin, run}
 use Rattle.history.specs.Accepted.{lentLength, headsAfterCall, headsAfter}
 use Rattle.history.specs.Answered.{answerTo}
 use Rattle.history.proofs.State.{heads}
@@ -118,7 +118,7 @@ module _ (state : State) (sound : badState state ≡ false) where
       go false = f
 
   answer-not-13 : (store : List ℕ) (call : Call) → numberOf (answerTo state store call) ≡ 13 → ⊥
-  unfolding answerTo openOutcome openNumber receiveOutcome receiveNumber readOutcome readNumber streamsOutcome streamsNumber closeOutcome closeNumber storeRules ownerRules numberOf
+  unfolding answerTo outcomeOf openOutcome openNumber receiveOutcome receiveNumber readOutcome readNumber streamsOutcome streamsNumber closeOutcome closeNumber storeRules ownerRules numberOf
   answer-not-13 store (opening slot terminal A) = not-13 _ _ (behind _ tt) (eqb-false 0 13 refl)
   answer-not-13 store (receiving slot terminal r) = not-13 _ _ (behind _ tt) (eqb-false 0 13 refl)
   answer-not-13 store (reading slot terminal size) = not-13 _ _ (behind _ tt) (read (eqb (lackingAt state slot store) 0) (wrongAt state slot store))
@@ -147,7 +147,7 @@ empty-stays room (streaming slot terminal block size) = refl
 empty-stays room (closing slot terminal) = refl
 
 empty-answers : (store : List ℕ) (call : Call) → numberOf (answerTo (newState 0 0) store call) ≡ 13
-unfolding answerTo openOutcome openNumber receiveOutcome receiveNumber readOutcome readNumber streamsOutcome streamsNumber closeOutcome closeNumber storeRules unlessRefused firstOf badState badShape newState numberOf
+unfolding answerTo outcomeOf openOutcome openNumber receiveOutcome receiveNumber readOutcome readNumber streamsOutcome streamsNumber closeOutcome closeNumber storeRules unlessRefused firstOf badState badShape newState numberOf
 empty-answers store (opening slot terminal A) = refl
 empty-answers store (receiving slot terminal r) = refl
 empty-answers store (reading slot terminal size) = refl

@@ -8,8 +8,8 @@ use native.Mathlib.Omega.{arith}
 use lib.Dec.{eqb}
 use lib.ListN.{length, drop, replicate, length-replicate}
 use borrow.Author.Tests.{eq-eqb, ne-eqb, eqb-true}
-use Rattle.check_bits.specs.Division.{AreBits}
-use Rattle.codeword.proofs.Data.{zero-bits}
+use Rattle.laws.specs.Bits.{AreBits}
+use Rattle.laws.proofs.AreBits.{zero-bits}
 use Rattle.slots.specs.declared.Answer.the-variants.{Done, Lacking, Refused}
 use Rattle.slots.specs.declared.Outcome.{Outcome}
 use Rattle.slots.specs.declared.State.{State}

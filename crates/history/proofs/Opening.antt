@@ -20,7 +20,7 @@ use Rattle.slots.specs.Calls.{withHead, storeRules, ownerRules, sizeAtHead, ope
 use Rattle.slots.proofs.HeadLaws.{its-head}
 use Rattle.slots.proofs.Accepted.{openable, good-shape}
 use Rattle.history.specs.Calls.{Call, opening, receiving, reading, streaming, closing, Made, History}
-use Rattle.history.specs.Run.{World, lent, run}
+use Rattle.history.specs.Run.{World, lent, outcomeOf, run}
 use Rattle.history.specs.Accepted.{lentLength, headsAfterCall, headsAfter}
 use Rattle.history.specs.Answered.{answerTo, slotOf}
 use Rattle.history.specs.After.{made, stateAfter, storeAfter, roomsLong}
@@ -32,7 +32,7 @@ use Rattle.history.proofs.Others.{head-stays, rooms-whole}
 -- an opening that is answered Done was accepted
 pub opened-number : (state : State) (store : List ℕ) (slot terminal A : ℕ) → answerTo state store (opening slot terminal A) ≡ Done
     → openNumber state (length store) slot A ≡ 0
-unfolding answerTo openOutcome unlessRefused
+unfolding answerTo outcomeOf openOutcome unlessRefused
 opened-number state store slot terminal A e = go (eqb number 0) refl e
   where
     number : ℕ

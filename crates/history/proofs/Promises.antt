@@ -7,7 +7,7 @@ use mathlib.Core.List.{List, [], _∷_, _++_}
 use Prim.Native.Nat.{ℕ, _+_, _*_, _≤_, _<_}
 use lib.Dec.{eqb}
 use lib.ListN.{length, drop}
-use Rattle.check_bits.specs.Division.{AreBits}
+use Rattle.laws.specs.Bits.{AreBits}
 use Rattle.segmentation.specs.Segmentation.{blocks}
 use Rattle.slots.specs.declared.Answer.the-variants.{Done, Heard, Lacking}
 use Rattle.slots.specs.declared.State.{State}

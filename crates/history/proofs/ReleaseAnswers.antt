@@ -9,7 +9,7 @@ use lib.Dec.{eqb}
 use lib.ListN.{length, getD, drop}
 use borrow.Author.Tests.{eq-eqb, eqb-true}
 use Rattle.segmentation.specs.Sizes.{badSize}
-use Rattle.turbo.proofs.Encoder.{AllBits}
+use Rattle.laws.specs.Bits.{AreBits}
 use Rattle.slots.specs.declared.Answer.{Answer}
 use Rattle.slots.specs.declared.Answer.the-variants.{Done, Heard, Lacking, Refused}
 use Rattle.slots.specs.declared.Outcome.{Outcome}
@@ -37,7 +37,7 @@ unfolding unlessRefused
 accepted-is number state o e = ap (λ (b : Bool). cond b o (record { answer = Refused number; state = state })) (eq-eqb number 0 e)
 
 -- a slot that is open for a block of as many bits as a has, and its room holds the last bits of true transmissions of a
-module _ (state : State) (store : List ℕ) (slot terminal : ℕ) (a : List ℕ) (bits : AllBits a) (size-is : sizeAtHead state slot ≡ length a)
+module _ (state : State) (store : List ℕ) (slot terminal : ℕ) (a : List ℕ) (bits : AreBits a) (size-is : sizeAtHead state slot ≡ length a)
     (xs : List Reception) (true-all : AllTrue a xs) (kept : HoldsLast (state .blocks) slot (length a) xs store) where
   module _ (size : ℕ) (came : readNumber state (length store) slot terminal size ≡ 0) where
     admitted : badSize (length a) ≡ false

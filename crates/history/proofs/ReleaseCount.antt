@@ -11,7 +11,7 @@ use Rattle.segmentation.specs.Segmentation.{blocks, sizeOf, fillerOf}
 use Rattle.segmentation.specs.Sizes.{badSize}
 use Rattle.segmentation.specs.CodeBlocks.{withCheck, codeBlock}
 use Rattle.segmentation.proofs.Segmentation.{in-range}
-use Rattle.turbo.proofs.Encoder.{AllBits}
+use Rattle.laws.specs.Bits.{AreBits}
 use Rattle.rate_matching.specs.Places.{placeNumber}
 use Rattle.codeword.proofs.Data.{withCheck-bits, codeBlock-bits, data-place}
 use Rattle.codeword.proofs.Taken.{length-withCheck}
@@ -31,7 +31,7 @@ use Rattle.history.proofs.ReleaseTrue.{true-bit}
 abbrev pub HoldsLast : ℕ → ℕ → ℕ → List Reception → List ℕ → Type 0
 HoldsLast M slot A xs store = (r j : ℕ) → r < blocks (A + 24) → j < perBlock → getD store (byteOf M slot r j) 0 ≡ lastBit A xs r j
 
-module _ (a : List ℕ) (admitted : badSize (length a) ≡ false) (bits : AllBits a) (xs : List Reception) (true-all : AllTrue a xs)
+module _ (a : List ℕ) (admitted : badSize (length a) ≡ false) (bits : AreBits a) (xs : List Reception) (true-all : AllTrue a xs)
     (M slot : ℕ) (store : List ℕ) (kept : HoldsLast M slot (length a) xs store) where
   -- a data place keeps the code block's own bit where it was sent
   pub kept-data : (r i : ℕ) → r < blocks (length a + 24) → fillerOf (length a + 24) r ≤ i → i < sizeOf (length a + 24) r

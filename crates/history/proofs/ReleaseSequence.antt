@@ -18,7 +18,7 @@ use Rattle.segmentation.specs.Sizes.{badSize}
 use Rattle.segmentation.specs.CodeBlocks.{withCheck, takenBefore, codeBlock}
 use Rattle.segmentation.proofs.Segmentation.{in-range}
 use Rattle.segmentation.proofs.CodeBlocks.{taken-all, taken-within, filler-within}
-use Rattle.turbo.proofs.Encoder.{AllBits}
+use Rattle.laws.specs.Bits.{AreBits}
 use Rattle.codeword.proofs.Data.{filler-over, carries}
 use Rattle.codeword.proofs.Taken.{length-withCheck}
 use Rattle.slots.specs.Room.{unheard}
@@ -83,7 +83,7 @@ module _ (B : ℕ) (low : 24 ≤ B) (high : B ≤ 30600) (b : List ℕ) (long : 
 
 -- ---- the room
 
-module _ (a : List ℕ) (admitted : badSize (length a) ≡ false) (bits : AllBits a) (xs : List Reception) (true-all : AllTrue a xs)
+module _ (a : List ℕ) (admitted : badSize (length a) ≡ false) (bits : AreBits a) (xs : List Reception) (true-all : AllTrue a xs)
     (M slot : ℕ) (store : List ℕ) (kept : HoldsLast M slot (length a) xs store) (all : unsent (length a) xs ≡ 0) where
   -- what is heard is the block with its transport check
   pub sequence : heardSequence M slot (length a) store ≡ withCheck a

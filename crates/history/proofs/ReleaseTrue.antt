@@ -6,20 +6,21 @@ use mathlib.Core.List.{List, [], _∷_, _++_, map}
 use Prim.Native.Nat.{ℕ, suc, _+_, _-_, _≤_, _<_}
 use native.Mathlib.Omega.{arith}
 use lib.Dec.{eqb}
-use lib.ListN.{length, getD, drop, length-replicate}
+use lib.ListN.{length, drop, length-replicate}
 use borrow.Author.Tests.{eqb-true}
 use Rattle.segmentation.specs.Segmentation.{blocks, sizeOf, fillerOf}
 use Rattle.segmentation.specs.CodeBlocks.{withCheck}
 use Rattle.segmentation.proofs.CodeBlocks.{filler-within}
 use Rattle.turbo.specs.Streams.{withoutFiller}
-use Rattle.turbo.proofs.Encoder.{AllBits}
+use Rattle.laws.specs.Bits.{AreBits}
+use Rattle.laws.proofs.AreBits.{zero-bits}
 use Rattle.turbo.proofs.Streams.{length-withoutFiller, filler-null, past-filler}
 use Rattle.rate_matching.specs.Circle.{startOf}
 use Rattle.rate_matching.specs.Walk.{onCircle, selected}
 use Rattle.codeword.specs.Shares.{share, sharesBefore}
 use Rattle.codeword.specs.Codeword.{blockCircle, blockRows, sentBits, blockBits, bitsFrom}
 use Rattle.codeword.proofs.Alike.{BitsFrom, Filled, bits-from, same-sent}
-use Rattle.codeword.proofs.Data.{zero-bits, withCheck-bits, block-filled}
+use Rattle.codeword.proofs.Data.{withCheck-bits, block-filled}
 use Rattle.codeword.proofs.Taken.{length-withCheck, stretch-is}
 use Rattle.slots.specs.Room.{unheard, meet}
 use Rattle.rate_matching.specs.Shape.{blank, shape}
@@ -31,9 +32,9 @@ use Rattle.history.proofs.ReleaseMeet.{meet-first, meet-again}
 
 -- ---- the places of a transmission, from the sizes alone
 
-blank-bit : (D i : ℕ) → getD (blank D) i 0 < 2
+blank-bits : (D : ℕ) → AreBits (blank D)
 unfolding blank
-blank-bit D i = zero-bits D i
+blank-bits D = zero-bits D
 
 length-blank : (D : ℕ) → length (blank D) ≡ D
 unfolding blank
@@ -46,13 +47,13 @@ shape-filled D F h = record {
   long2 = length-blank D;
   bits0 = filled;
   bits1 = filled;
-  bits2 = bits-from 0 (blank D) (λ i l. absurd (omega arith)) (λ i l. blank-bit D i);
+  bits2 = bits-from 0 (blank D) (λ i l. absurd (omega arith)) (λ i l. blank-bits D i);
 }
   where
     filled : BitsFrom F (withoutFiller F (blank D))
-    filled = bits-from F (withoutFiller F (blank D)) (λ i l. filler-null F (blank D) i l) (λ i l. rw (past-filler F (blank D) i l) (blank-bit D i))
+    filled = bits-from F (withoutFiller F (blank D)) (λ i l. filler-null F (blank D) i l) (λ i l. rw (past-filler F (blank D) i l) (blank-bits D i))
 
-module _ (b : List ℕ) (B : ℕ) (low : 24 ≤ B) (high : B ≤ 30600) (long : length b ≡ B) (bits : AllBits b) where
+module _ (b : List ℕ) (B : ℕ) (low : 24 ≤ B) (high : B ≤ 30600) (long : length b ≡ B) (bits : AreBits b) where
   -- the bits of code block r are those at the places that a reception of it fills
   pub block-bits : (Q N v G r : ℕ) → r < blocks B → blockBits b Q N v G r ≡ map (onCircle (blockCircle b r)) (blockPlaces B Q N v G r)
   unfolding blockBits sentBits selected blockPlaces shape blockCircle
@@ -90,7 +91,7 @@ last-of-rule f (p ∷ ps) rest j u =
     one true e false = meet-first (f p) ∙ here e
     one false e u = refl
 
-module _ (a : List ℕ) (small : length a ≤ 30576) (bits : AllBits a) where
+module _ (a : List ℕ) (small : length a ≤ 30576) (bits : AreBits a) where
   -- the bits that a true transmission brings for code block r, and what follows them
   brings : (x : Reception) → True a x → (r : ℕ) → r < blocks (length a + 24)
       → drop (sharesBefore (blocks (length a + 24)) (x .Q) (x .N) (length (x .bits)) r) (x .bits)

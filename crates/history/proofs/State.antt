@@ -21,7 +21,7 @@ use Rattle.slots.specs.Calls.{withHead, sizeAtHead, newOutcome, openNumber, ope
 use Rattle.slots.proofs.RoomLaws.{length-cleared, length-received}
 use Rattle.slots.proofs.Accepted.{openable}
 use Rattle.history.specs.Calls.{Reception, Call, opening, receiving, reading, streaming, closing, Made, History}
-use Rattle.history.specs.Run.{World, lent, stateAfterCall, storeAfterCall, step, begin, run}
+use Rattle.history.specs.Run.{World, lent, outcomeOf, storeAfterCall, step, begin, run}
 use Rattle.history.specs.Accepted.{lentLength, headsAfterCall, headsAfter}
 
 -- ---- one call
@@ -79,8 +79,8 @@ state-stays number state o e = state-of number state o ∙ go (eqb number 0)
     go false = refl
 
 -- the state that a call returns follows from the state it was handed, the length of the store and the arguments
-pub state-after : (state : State) (store : List ℕ) (call : Call) → stateAfterCall state store call ≡ headsAfterCall state (length store) call
-unfolding stateAfterCall headsAfterCall openOutcome receiveOutcome readOutcome streamsOutcome closeOutcome
+pub state-after : (state : State) (store : List ℕ) (call : Call) → outcomeOf state store call .state ≡ headsAfterCall state (length store) call
+unfolding outcomeOf headsAfterCall openOutcome receiveOutcome readOutcome streamsOutcome closeOutcome
 state-after state store (opening slot terminal A) = state-of (openNumber state (length store) slot A) state _
 state-after state store (receiving slot terminal r) = state-stays _ state _ refl
 state-after state store (reading slot terminal size) = state-stays _ state _ refl

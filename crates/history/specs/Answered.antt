@@ -9,18 +9,12 @@ use lib.ListN.{length, getD}
 use Rattle.slots.specs.declared.Answer.{Answer}
 use Rattle.slots.specs.declared.State.{State}
 use Rattle.slots.specs.State.{roomStart, roomLength, headAt, badState}
-use Rattle.slots.specs.Calls.{openOutcome, receiveOutcome, readOutcome, streamsOutcome, closeOutcome}
 use Rattle.history.specs.Calls.{Call, opening, receiving, reading, streaming, closing, History}
+use Rattle.history.specs.Run.{outcomeOf}
 
 -- the answer of a call on a lent store
 unfoldable pub answerTo : State → List ℕ → Call → Answer
-answerTo state store (opening slot terminal A) = openOutcome state (length store) slot terminal A .answer
-answerTo state store (receiving slot terminal r) =
-    receiveOutcome state slot terminal (r .Q) (r .N) (r .version) (r .bits) store .answer
-answerTo state store (reading slot terminal size) = readOutcome state store slot terminal size .answer
-answerTo state store (streaming slot terminal block size) =
-    streamsOutcome state (length store) slot terminal block size .answer
-answerTo state store (closing slot terminal) = closeOutcome state slot terminal .answer
+answerTo state store call = outcomeOf state store call .answer
 
 -- the slot that a call names
 unfoldable pub slotOf : Call → ℕ

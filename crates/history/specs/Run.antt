@@ -7,6 +7,7 @@ use Prim.Native.Nat.{ℕ}
 use lib.Dec.{ltb}
 use lib.ListN.{length, take}
 use Rattle.slots.specs.declared.State.{State}
+use Rattle.slots.specs.declared.Outcome.{Outcome}
 use Rattle.slots.specs.State.{storeLength}
 use Rattle.slots.specs.Calls.{newOutcome, openOutcome, openStore, receiveOutcome, receiveStore, readOutcome, streamsOutcome, closeOutcome}
 use Rattle.history.specs.Calls.{Reception, Call, opening, receiving, reading, streaming, closing, Made, History}
@@ -20,15 +21,15 @@ pub record World : Type 0 where
 unfoldable pub lent : World → List ℕ → List ℕ
 lent w past = cond (ltb (length (w .rooms)) (storeLength (w .state))) (w .rooms) (w .rooms ++ past)
 
--- the state that a call on a lent store returns
-unfoldable pub stateAfterCall : State → List ℕ → Call → State
-stateAfterCall state store (opening slot terminal A) = openOutcome state (length store) slot terminal A .state
-stateAfterCall state store (receiving slot terminal r) =
-    receiveOutcome state slot terminal (r .Q) (r .N) (r .version) (r .bits) store .state
-stateAfterCall state store (reading slot terminal size) = readOutcome state store slot terminal size .state
-stateAfterCall state store (streaming slot terminal block size) =
-    streamsOutcome state (length store) slot terminal block size .state
-stateAfterCall state store (closing slot terminal) = closeOutcome state slot terminal .state
+-- the outcome of a call on a lent store
+unfoldable pub outcomeOf : State → List ℕ → Call → Outcome
+outcomeOf state store (opening slot terminal A) = openOutcome state (length store) slot terminal A
+outcomeOf state store (receiving slot terminal r) =
+    receiveOutcome state slot terminal (r .Q) (r .N) (r .version) (r .bits) store
+outcomeOf state store (reading slot terminal size) = readOutcome state store slot terminal size
+outcomeOf state store (streaming slot terminal block size) =
+    streamsOutcome state (length store) slot terminal block size
+outcomeOf state store (closing slot terminal) = closeOutcome state slot terminal
 
 -- the store after a call: Read, Streams and Close do not write it
 unfoldable pub storeAfterCall : State → List ℕ → Call → List ℕ
@@ -42,7 +43,7 @@ storeAfterCall state store (closing slot terminal) = store
 unfoldable pub step : World → Made → World
 step w m =
     record {
-      state = stateAfterCall (w .state) (lent w (m .past)) (m .call);
+      state = outcomeOf (w .state) (lent w (m .past)) (m .call) .state;
       rooms = take (length (w .rooms)) (storeAfterCall (w .state) (lent w (m .past)) (m .call));
     }
 

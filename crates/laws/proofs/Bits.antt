@@ -9,7 +9,7 @@ use lib.Arith.{bin-ind}
 use lib.Pow.{pow-pos, shr-shr, high, split}
 use lib.Bits.{bitXor, xor-add-and, xor-shr, xor-mod, xor-lt, xor-comm, xor-self}
 use lib.ListN.{length, getD}
-use Rattle.laws.specs.Bits.{bitsOf}
+use Rattle.laws.specs.Bits.{bitsOf, AreBits}
 
 -- ---- exclusive or
 
@@ -73,11 +73,11 @@ getD-bitsOf (suc n) x (suc i) d h = getD-bitsOf n x i d (omega arith) ∙ ap (λ
     next : (n i : ℕ) → n - (i + 1) ≡ suc n - (suc i + 1)
     next n i = omega arith
 
-pub bitsOf-bit : (n x i : ℕ) → getD (bitsOf n x) i 0 < 2
+pub bitsOf-bits : (n x : ℕ) → AreBits (bitsOf n x)
 unfolding bitsOf
-bitsOf-bit zero x i = omega arith
-bitsOf-bit (suc n) x zero = omega arith
-bitsOf-bit (suc n) x (suc i) = bitsOf-bit n x i
+bitsOf-bits zero x i = omega arith
+bitsOf-bits (suc n) x zero = omega arith
+bitsOf-bits (suc n) x (suc i) = bitsOf-bits n x i
 
 -- the upper m bits, then the lower n
 pub bitsOf-split : (m n x : ℕ) → bitsOf (m + n) x ≡ bitsOf m (x / 2 ^ n) ++ bitsOf n x

@@ -4,3 +4,6 @@ pub mod Tab
 pub mod Keep
 pub mod Computed
 pub mod Bits
+pub mod Copied
+pub mod AreBits
+pub mod Filling

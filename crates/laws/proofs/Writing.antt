@@ -3,14 +3,15 @@
 -- In a Proof file: the invariant has `Writing out₀ out i (what the definition still gives) (the whole result)`;
 -- `loop-holds` is `start`, `loop-again` is `push` (`pushPart` after a lent part), `returns` is `finish` or `finish-all`;
 -- `same` says what is still to come in another way, as by one unfolding. `start-at` serves a loop that begins at another place.
+-- `drop-next` is the turn of a list that is read from the front.
 -- Assumes nothing.
 use mathlib.Core.Path.{_≡_, refl, sym, _∙_, ap}
 use mathlib.Core.List.{List, [], _∷_, _++_, append-assoc, append-nil}
 use Prim.Native.Nat.{ℕ, _+_, _-_, _≤_, _<_}
 use native.Mathlib.Numerals.{add-one}
 use native.Mathlib.Omega.{arith}
-use lib.ListN.{length, take, drop, set, length-set, length-append, take-append-drop, drop-of-length-le}
-use lib.Seq.{append-snoc, length-take-le, drop-drop, drop-set-lt, take-suc-set, take-at}
+use lib.ListN.{length, getD, take, drop, set, length-set, length-append, take-append-drop, drop-of-length-le}
+use lib.Seq.{append-snoc, length-take-le, drop-cons, drop-drop, drop-set-lt, take-suc-set, take-at}
 use borrow.Rule.Slice.PartMut.{putMid, same-len-mid, mid-len, post-is, drop-put}
 
 -- out is out₀ after i entries were written; future is still to come of total
@@ -66,3 +67,7 @@ module _ {A : Type 0} where
   -- how many entries there are to write
   pub count : {out₀ out : List A} {i : ℕ} {future total : List A} → i ≤ length out → Writing out₀ out i future total → length total ≡ i + length future
   count {out₀} {out} {i} {future} h w = ap length (sym (w .told)) ∙ length-append (take i out) future ∙ ap (λ (m : ℕ). m + length future) (length-take-le i out h)
+
+-- what stands from place i on: its entry, and what stands from the next place on
+pub drop-next : (l : List ℕ) (i : ℕ) → i < length l → drop i l ≡ getD l i 0 ∷ drop (i + 1) l
+drop-next l i h = rw (add-one, drop-cons l i 0)

@@ -4,13 +4,11 @@ use mathlib.Core.Path.{_≡_, refl, sym, _∙_, ap}
 use mathlib.Core.Bool.{Bool, true, false, cond}
 use mathlib.Core.List.{List, [], _∷_, _++_, map}
 use Prim.Native.Nat.{ℕ, _+_, _-_, _*_, _^_, _≤_, _<_}
-use native.Mathlib.Numerals.{add-one}
 use native.Mathlib.Omega.{arith}
 use lib.Dec.{ltb}
 use lib.ListN.{length, getD, take, drop, set, length-set, drop-of-length-le}
-use lib.Seq.{drop-cons}
 use borrow.Author.Tests.{ltb-true, ltb-false}
-use Rattle.laws.proofs.Writing.{Writing, start-at, same, push}
+use Rattle.laws.proofs.Writing.{Writing, start-at, same, push, drop-next}
 use Rattle.lines.specs.Put.{putOver, putAt, endAt}
 use Rattle.lines.specs.Row.{tab, newline, decimalOf, endOf, rowOf}
 use Rattle.lines.proofs.Decimal.{decimal-length}
@@ -32,13 +30,13 @@ unfolding endOf
 end-at j l = go (ltb j (length l)) refl
   where
     go : (more : Bool) → ltb j (length l) ≡ more → cond more tab newline ≡ endOf (map decimalOf (drop j l))
-    go true e = let h : j < length l = ltb-true _ _ e in rw (drop-cons l j 0)
+    go true e = rw (drop-next l j (ltb-true _ _ e))
     go false e = rw (drop-of-length-le l (ltb-false _ _ e))
 
 rest-is : (numbers : List ℕ) (i : ℕ) → i < length numbers
     → restOf numbers i ≡ decimalOf (getD numbers i 0) ++ (endOf (map decimalOf (drop (i + 1) numbers)) ∷ restOf numbers (i + 1))
 unfolding rowOf
-rest-is numbers i h = rw (add-one, drop-cons numbers i 0)
+rest-is numbers i h = rw (drop-next numbers i h)
 
 rest-none : (numbers : List ℕ) (i : ℕ) → length numbers ≤ i → restOf numbers i ≡ []
 unfolding rowOf

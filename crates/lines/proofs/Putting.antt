@@ -3,12 +3,12 @@
 -- Assumes nothing.
 use mathlib.Core.Path.{_≡_, refl, _∙_, ap}
 use mathlib.Core.Bool.{Bool, true, false, cond}
-use mathlib.Core.List.{List, [], _++_, append-assoc, append-nil}
+use mathlib.Core.List.{List, [], _++_, append-assoc}
 use Prim.Native.Nat.{ℕ, _+_, _-_, _≤_, _<_}
 use native.Mathlib.Omega.{arith}
 use lib.Dec.{leb}
 use lib.ListN.{length, take, drop, length-append}
-use lib.Seq.{length-take-le, take-length, drop-length}
+use lib.Seq.{length-take-le}
 use borrow.Rule.Slice.PartMut.{putMid}
 use borrow.Author.Tests.{le-leb, lt-leb, leb-true}
 use Rattle.laws.proofs.Writing.{Writing, pushPart, finish, count}
@@ -40,10 +40,6 @@ end-within at w out h = go (leb (at + length w) (length out)) refl
     go : (b : Bool) → leb (at + length w) (length out) ≡ b → cond b (at + length w) at ≤ length out
     go true e = leb-true _ _ e
     go false e = h
-
--- what `bytes::copy` leaves in a part of the same length
-pub all-copied : (w part : List ℕ) → length part ≡ length w → take (length w) w ++ drop (length w) part ≡ w
-all-copied w part h = rw (take-length w, ← h, drop-length part) (append-nil w)
 
 -- a call that asks for its room has put w
 pub wrote : {out₀ out out′ : List ℕ} {i r : ℕ} (w : List ℕ) {future total : List ℕ} → i + length w ≤ length out → Writing out₀ out i (w ++ future) total

@@ -9,8 +9,8 @@ use native.Mathlib.Numerals.{add-one}
 use native.Mathlib.Omega.{arith}
 use lib.Dec.{lit<}
 use lib.ListN.{length, getD, drop, drop-of-length-le}
-use lib.Seq.{drop-cons}
 use borrow.Author.Tests.{le-leb, lt-leb, ne-eqb, le-ltb}
+use Rattle.laws.proofs.Writing.{drop-next}
 use Rattle.lines.specs.declared.Line.the-variants.{Read, Unreadable}
 use Rattle.lines.specs.Line.{isDigit, readOn, tooLong, leadingZero, lineOf}
 
@@ -27,7 +27,7 @@ start line = record { within = omega arith; small = omega arith; told = refl }
 turn : (line : List ℕ) (n i : ℕ) → i < length line
     → readOn n (drop i line) ≡ cond (isDigit (getD line i 0)) (readOn (n * 10 + (getD line i 0 - 48)) (drop (i + 1) line)) Unreadable
 unfolding readOn
-turn line n i h = rw (add-one i, drop-cons line i 0)
+turn line n i h = rw (drop-next line i h)
 
 module _ {line : List ℕ} {n i : ℕ} (r : Reading line n i) (h : i < length line) where
   pub next : 48 ≤ getD line i 0 → getD line i 0 ≤ 57 → Reading line (n * 10 + (getD line i 0 - 48)) (i + 1)

@@ -1,7 +1,7 @@
 -- A line that can be read is its number in decimal, so that a number that is printed is the line itself.
 -- Assumes nothing.
 use mathlib.Core.Path.{_≡_, refl, sym, _∙_, ap}
-use mathlib.Core.Bool.{Bool, true, false, cond, _&&_, _||_}
+use mathlib.Core.Bool.{Bool, true, false, cond, _||_, and-eq-true-iff, and-false}
 use mathlib.Core.List.{List, [], _∷_, _++_}
 use Prim.Native.Nat.{ℕ, zero, suc, _+_, _-_, _*_, _/_, _%_, _^_, _≤_, _<_, min}
 use native.Mathlib.Nat.{pow-suc, pow-succ', div-one, one-le-pow, div-div-eq-div-mul, div-add-mod', div-eq-of-lt, div-lt-iff-lt-mul, mod-lt, mod-eq-of-lt}
@@ -31,20 +31,13 @@ digits-front (suc k) n =
 glyph-is : (b : ℕ) → 48 ≤ b → b ≤ 57 → glyph (b - 48) ≡ b
 glyph-is b h g = let small : b - 48 < 10 = omega arith in simp (lt-ltb _ _ small) (omega arith)
 
-both : (x y : Bool) → x && y ≡ true → (x ≡ true) × (y ≡ true)
-both true y e = (refl, e)
-both false y e = let z : _≡_ {A = ℕ} 0 1 = cc in absurd (no-one z)
-  where
-    no-one : _≡_ {A = ℕ} 0 1 → ⊥
-    no-one z = omega arith
-
 -- the first byte of a line that can be read is a digit, and the others are read on
 first-read : (b : ℕ) (l : List ℕ) (m n : ℕ) → readOn m (b ∷ l) ≡ Read n → (48 ≤ b) × (b ≤ 57) × (readOn (m * 10 + (b - 48)) l ≡ Read n)
 unfolding readOn isDigit
 first-read b l m n e = go (isDigit b) refl e
   where
     go : (t : Bool) → isDigit b ≡ t → cond t (readOn (m * 10 + (b - 48)) l) Unreadable ≡ Read n → (48 ≤ b) × (b ≤ 57) × (readOn (m * 10 + (b - 48)) l ≡ Read n)
-    go true t e = let d = both (leb 48 b) (leb b 57) t in (leb-true 48 b (d .0), leb-true b 57 (d .1), e)
+    go true t e = let d = and-eq-true-iff (leb 48 b) (leb b 57) .0 t in (leb-true 48 b (d .0), leb-true b 57 (d .1), e)
     go false t e = let z : _≡_ {A = ℕ} 0 1 = cc in let none : ⊥ = omega arith in absurd none
 
 -- n read after m has m in front and the line behind it
@@ -132,10 +125,6 @@ read-digits (suc k) m n =
   where
     same : (m * 10 + n / 10 ^ k % 10) * 10 ^ k + n % 10 ^ k ≡ m * 10 ^ suc k + n % 10 ^ suc k
     same = rw (pow-succ' 10 k, mod-mul n (lit< tt) (tens k)) (omega arith)
-
-and-false : (b : Bool) → b && false ≡ false
-and-false true = refl
-and-false false = refl
 
 -- no 0 stands in front
 no-zero : (n k : ℕ) → Fewest 10 1 n k → leadingZero (digits 10 k n) ≡ false

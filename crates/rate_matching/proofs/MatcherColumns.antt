@@ -4,24 +4,18 @@ use mathlib.Core.Path.{_≡_, sym, _∙_, ap}
 use mathlib.Core.List.{List, [], _∷_, _++_}
 use Prim.Native.Nat.{ℕ, _+_, _-_, _*_, _≤_, _<_}
 use native.Mathlib.Nat.{add-zero, mul-le-mul-right}
-use native.Mathlib.Numerals.{add-one}
 use native.Mathlib.Omega.{arith}
 use lib.Arith.{digits-div, digits-mod}
 use lib.ListN.{length, getD, drop, set, length-set, drop-of-length-le}
-use lib.Seq.{drop-cons}
 use borrow.Rule.Slice.PartMut.{midOf, putMid}
 use Rattle.laws.specs.Lists.{tab, tabFrom}
 use Rattle.laws.proofs.Parts.{length-mid}
 use Rattle.laws.proofs.Tab.{tab-ext, tabFrom-split, tabFrom-shift, rest-more, rest-none, tab-rest, length-tab}
-use Rattle.laws.proofs.Writing.{Writing, start, same, push, pushPart, finish-all}
+use Rattle.laws.proofs.Writing.{Writing, start, same, push, pushPart, finish-all, drop-next}
 use Rattle.rate_matching.specs.Columns.{column}
 use Rattle.rate_matching.specs.SubBlocks.{readPlain}
 use Rattle.rate_matching.specs.Circle.{byTurns}
 use Rattle.rate_matching.specs.Matcher.{everyRow, readFrom, columnsFrom}
-
--- one entry of a list more
-pub drop-next : (l : List ℕ) (i : ℕ) → i < length l → drop i l ≡ getD l i 0 ∷ drop (i + 1) l
-drop-next l i h = rw (add-one, drop-cons l i 0)
 
 -- ---- a column: place `at` is row q
 

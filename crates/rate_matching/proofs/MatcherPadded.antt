@@ -11,11 +11,11 @@ use lib.Seq.{length-front, take-at, set-at, getD-at}
 use borrow.Rule.Slice.PartMut.{midOf, putMid, same-len-mid}
 use Rattle.laws.proofs.Parts.{put-as, length-mid, front-count}
 use Rattle.laws.proofs.Tab.{tab-ext}
+use Rattle.laws.proofs.Writing.{drop-next}
 use Rattle.turbo.specs.Streams.{NULL}
 use Rattle.rate_matching.specs.SubBlocks.{rows, dummies, padded, readPlain, readShifted, yAt, plain, shifted}
 use Rattle.rate_matching.specs.Matcher.{readFrom, columnsFrom, interleavedFrom, wrapped}
 use Rattle.rate_matching.proofs.Places.{dummies-add, read-lt}
-use Rattle.rate_matching.proofs.MatcherColumns.{drop-next}
 
 length-padded : (d : List ℕ) → length (padded d) ≡ 32 * rows (length d)
 unfolding padded

@@ -18,10 +18,10 @@ use Rattle.laws.specs.Lists.{tab, keep}
 use Rattle.laws.proofs.Keep.{keep-yes, keep-no, keep-append}
 use Rattle.laws.proofs.Parts.{length-mid}
 use Rattle.laws.proofs.Tab.{tab-ext}
+use Rattle.laws.proofs.Writing.{drop-next}
 use Rattle.turbo.specs.Streams.{NULL}
 use Rattle.rate_matching.specs.Walk.{isBit, onCircle, turnAfterTurn}
 use Rattle.rate_matching.specs.Matcher.{Gathered, GatheredTo, turnBits, ringOf}
-use Rattle.rate_matching.proofs.MatcherColumns.{drop-next}
 
 -- i entries of a part are passed, and the bits among them stand in the ring from place n to place end
 pub record Gathering (part ring₀ : List ℕ) (n : ℕ) (ring : List ℕ) (end i : ℕ) : Type 0 where

@@ -30,18 +30,6 @@ const SHORT: usize = 544;
 
 const SHORT_CIRCLE: usize = 1632;
 
-// Copies `from` to `to`, which is as long.
-fn copy(from: &[u8], to: &mut [u8])
-    requires { ⌜ length (now to) ≡ length (now from) ⌝ }
-    ensures { λ _. ⌜ now (to .exit) ≡ now (from .entry) ⌝ }
-{
-    let mut i = 0;
-    while i < to.len() {
-        to[i] = from[i];
-        i += 1;
-    }
-}
-
 // Writes <NULL> over all of `d`.
 pub(crate) fn set_absent(d: &mut [u8])
     ensures { λ _. ⌜ now (d .exit) ≡ replicate {A = ℕ} (length (now (d .entry))) NULL ⌝ }
@@ -61,7 +49,7 @@ fn pad(d: &[u8], y: &mut [u8])
     let end = y.len() - 1;
     let from = end - d.len();
     set_absent(&mut y[..from]);
-    copy(d, &mut y[from..end]);
+    bytes::copy(d, &mut y[from..end]);
     y[end] = y[0];
 }
 
@@ -227,11 +215,11 @@ fn repeat(ring: &[u8], out: &mut [u8])
     let mut left = out.len();
     while n <= left {
         let end = i + n;
-        copy(ring, &mut out[i..end]);
+        bytes::copy(ring, &mut out[i..end]);
         i = end;
         left -= n;
     }
-    copy(&ring[..left], &mut out[i..]);
+    bytes::copy(&ring[..left], &mut out[i..]);
 }
 
 // Whether these are the lengths of a code block's streams, and one of the four versions.

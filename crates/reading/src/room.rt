@@ -5,10 +5,9 @@ use segmentation::block;
 use slots::Answer;
 ghost use mathlib.Core.Path.{_≡_};
 ghost use mathlib.Core.Bool.{true, cond, not};
-ghost use mathlib.Core.List.{_++_};
 ghost use Prim.Native.Nat.{_+_, _≤_};
 ghost use lib.Dec.{eqb};
-ghost use lib.ListN.{length, drop};
+ghost use lib.ListN.{length};
 ghost use Rattle.slots.specs.Reading.{lacking, heardSequence, wrongCheck};
 ghost use Rattle.reading.specs.Room.{roomFits, roomAnswer, releasedInto, roomOutput};
 
@@ -68,18 +67,6 @@ fn sequence(a: usize, room: &[u8], out: &mut [u8])
     }
 }
 
-// Copies `part` over the front of `out`.
-fn copy(part: &[u8], out: &mut [u8])
-    requires { ⌜ length (now part) ≤ length (now out) ⌝ }
-    ensures { λ _. ⌜ now (out .exit) ≡ now (part .entry) ++ drop (length (now (part .entry))) (now (out .entry)) ⌝ }
-{
-    let mut i = 0;
-    while i < part.len() {
-        out[i] = part[i];
-        i += 1;
-    }
-}
-
 // Releases the block where its transport check is right, and tells whether it is. The sequence is put together in `b`, so that a
 // wrong one leaves `out` as it was.
 fn release(a: usize, room: &[u8], b: &mut [u8], out: &mut [u8]) -> bool
@@ -91,7 +78,7 @@ fn release(a: usize, room: &[u8], b: &mut [u8], out: &mut [u8]) -> bool
     if check_bits::crc24a(b) != 0 {
         return false;
     }
-    copy(&b[..a], out);
+    bytes::copy(&b[..a], out);
     true
 }
 

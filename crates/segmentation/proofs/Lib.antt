@@ -2,7 +2,6 @@ pub mod FirstRow
 pub mod Segmentation
 pub mod Worked
 pub mod CodeBlocks
-pub mod Filling
 pub mod Tails
 pub mod Payload
 pub mod Into

@@ -55,7 +55,7 @@ fn fill(zeros: usize, part: &[u8], c: &mut [u8])
     ensures { λ _. ⌜ now (c .exit) ≡ replicate {A = ℕ} zeros 0 ++ (now (part .entry) ++ drop (zeros + length (now (part .entry))) (now (c .entry))) ⌝ }
 {
     clear(&mut c[..zeros]);
-    copy(part, &mut c[zeros..]);
+    bytes::copy(part, &mut c[zeros..]);
 }
 
 // Writes 0 over all of `c`.
@@ -65,18 +65,6 @@ fn clear(c: &mut [u8])
     let mut i = 0;
     while i < c.len() {
         c[i] = 0;
-        i += 1;
-    }
-}
-
-// Copies `part` over the front of `c`.
-fn copy(part: &[u8], c: &mut [u8])
-    requires { ⌜ length (now part) ≤ length (now c) ⌝ }
-    ensures { λ _. ⌜ now (c .exit) ≡ now (part .entry) ++ drop (length (now (part .entry))) (now (c .entry)) ⌝ }
-{
-    let mut i = 0;
-    while i < part.len() {
-        c[i] = part[i];
         i += 1;
     }
 }

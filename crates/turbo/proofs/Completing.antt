@@ -6,12 +6,13 @@ use Prim.Native.Nat.{ℕ, _+_, _-_, _≤_, _<_}
 use native.Mathlib.Nat.{le-refl}
 use native.Mathlib.Omega.{arith}
 use borrow.Rule.Slice.PartMut.{midOf, putMid}
-use lib.ListN.{length, take, drop, drop-of-length-le}
+use lib.ListN.{length, take, drop}
 use lib.Seq.{drop-length, length-take-le, take-at, drop-at}
 use Rattle.interleaver.specs.Table.{rowCount, sizeAt}
 use Rattle.interleaver.specs.Place.{interleaved}
 use Rattle.interleaver.specs.Into.{interleavedInto}
 use Rattle.interleaver.proofs.Into.{length-interleaved, into-fits}
+use Rattle.laws.proofs.Copied.{all-copied}
 use Rattle.laws.proofs.Parts.{put-as, length-mid}
 use Rattle.turbo.specs.declared.Registers.{Registers}
 use Rattle.turbo.specs.declared.Tail.{Tail}
@@ -21,14 +22,13 @@ use Rattle.turbo.specs.Encode.{tailOf, completed}
 use Rattle.turbo.proofs.Encoder.{length-parities}
 use Rattle.turbo.proofs.Streams.{withoutFiller-none, withoutFiller-append}
 
--- ---- an encoder at the front of a list d that begins with its k input bits
+-- ---- an encoder at the front of a list d that begins with its k input bits: its outputs stand there, and its tail is that of the input
 
-module _ (input rest : List ℕ) {d : List ℕ} {k : ℕ} (told : d ≡ input ++ rest) (long : length input ≡ k) where
-  pub front-outputs : {part : List ℕ} → part ≡ parities start (take k d) → part ++ drop k d ≡ parities start input ++ rest
-  front-outputs e = rw (e, told, take-at input rest k long, drop-at input rest k long)
-
-  pub front-after : {s : Registers} → s ≡ after start (take k d) → s ≡ after start input
-  front-after e = e ∙ rw (told, take-at input rest k long)
+pub front-encoded : (input rest : List ℕ) {d : List ℕ} {k : ℕ} → d ≡ input ++ rest → length input ≡ k
+    → {part : List ℕ} {s : Registers} {t : Tail} → (part ≡ parities start (take k d)) × (s ≡ after start (take k d)) → t ≡ tailOf s
+    → (part ++ drop k d ≡ parities start input ++ rest) × (t ≡ tailOf (after start input))
+front-encoded input rest {d} {k} told long e tail =
+    (rw (e .0, told, take-at input rest k long, drop-at input rest k long), tail ∙ ap tailOf (e .1 ∙ rw (told, take-at input rest k long)))
 
 -- the interleaver has written the front of a list
 pub front-interleaved : (row : ℕ) (c out : List ℕ) {part : List ℕ} → row < rowCount → length c ≡ sizeAt row → length c ≤ length out
@@ -39,18 +39,15 @@ front-interleaved row c out h n l e = e ∙ into-fits row c (take (length c) out
 
 -- the tail over the last four places, then the filler places
 pub completing : (F : ℕ) (d tail : List ℕ) {part : List ℕ} → F + 4 ≤ length d → length tail ≡ 4
-    → part ≡ tail ++ drop (length tail) (midOf (length d - 4) (length d - (length d - 4)) d)
+    → part ≡ take (length tail) tail ++ drop (length tail) (midOf (length d - 4) (length d - (length d - 4)) d)
     → withoutFiller F (putMid (length d - 4) (length d - (length d - 4)) d part) ≡ completed F d tail
 unfolding completed
 completing F d tail h n e =
-    ap (withoutFiller F) (put-as (length d - 4) (length d) d (e ∙ whole) (omega arith) ∙ rw (drop-length d, append-nil))
+    ap (withoutFiller F) (put-as (length d - 4) (length d) d (all-copied tail _ e long) (omega arith) ∙ rw (drop-length d, append-nil))
     ∙ withoutFiller-append F (take (length d - 4) d) tail (rw (length-take-le (length d - 4) d (omega arith)) (omega arith))
   where
-    long : length (midOf (length d - 4) (length d - (length d - 4)) d) ≤ length tail
+    long : length (midOf (length d - 4) (length d - (length d - 4)) d) ≡ length tail
     long = rw (length-mid (length d - 4) (length d) d (le-refl (length d))) (omega arith)
-
-    whole : tail ++ drop (length tail) (midOf (length d - 4) (length d - (length d - 4)) d) ≡ tail
-    whole = rw (drop-of-length-le (midOf (length d - 4) (length d - (length d - 4)) d) long, append-nil)
 
 -- the bits of a completed stream stand at its front
 completed-is : (F : ℕ) (d bits rest tail : List ℕ) → d ≡ bits ++ rest → length d ≡ length bits + 4 → completed F d tail ≡ withoutFiller F bits ++ tail

@@ -1,24 +1,20 @@
 -- The test of a call's arguments and the facts that it stands for.
 -- Assumes nothing.
-use mathlib.Core.Bool.{Bool, true, false, _&&_}
-use mathlib.Core.Path.{_≡_, refl}
+use mathlib.Core.Bool.{true, and-eq-true-iff}
+use mathlib.Core.Path.{_≡_}
 use Prim.Native.Nat.{ℕ}
 use borrow.Author.Tests.{ltb-true, leb-true, eqb-true, lt-ltb, le-leb, eq-eqb}
 use Rattle.turbo.specs.Encode.{encodable, Encodable}
-
-both : (a b : Bool) → (a && b) ≡ true → (a ≡ true) × (b ≡ true)
-both true b e = (refl, e)
-both false b e = (e, cc)
 
 module _ (row F K D0 D1 D2 : ℕ) where
   pub encodable-true : encodable row F K D0 D1 D2 ≡ true → Encodable row F K D0 D1 D2
   unfolding encodable
   encodable-true e =
-      let to2 = both _ _ e in
-      let to1 = both _ _ (to2 .0) in
-      let to0 = both _ _ (to1 .0) in
-      let filled = both _ _ (to0 .0) in
-      let sized = both _ _ (filled .0) in
+      let to2 = and-eq-true-iff _ _ .0 e in
+      let to1 = and-eq-true-iff _ _ .0 (to2 .0) in
+      let to0 = and-eq-true-iff _ _ .0 (to1 .0) in
+      let filled = and-eq-true-iff _ _ .0 (to0 .0) in
+      let sized = and-eq-true-iff _ _ .0 (filled .0) in
       record {
         below = ltb-true _ _ (sized .0);
         size = eqb-true _ _ (sized .1);

@@ -5,8 +5,8 @@ use mathlib.Core.List.{List, [], _∷_}
 use Prim.Native.Nat.{ℕ, zero, suc, _<_}
 use lib.Bits.{xor-lt, xor-self, xor-zero-l}
 use lib.Dec.{lit<}
-use lib.ListN.{length, getD}
-use Rattle.laws.specs.Bits.{_⊕_}
+use lib.ListN.{length}
+use Rattle.laws.specs.Bits.{_⊕_, AreBits}
 use Rattle.turbo.specs.declared.Registers.{Registers}
 use Rattle.turbo.specs.Encoder.{start, feedback, entering, parity, next, parities, after, tailed, xTail, zTail}
 
@@ -59,10 +59,6 @@ pub ruleset tails = (xTail-zero, xTail-one, xTail-two, zTail-zero, zTail-one, zT
 
 -- ---- bits from bits
 
--- every entry is 0 or 1
-abbrev pub AllBits : List ℕ → Type 0
-AllBits l = (i : ℕ) → getD l i 0 < 2
-
 pub record BitRegisters (s : Registers) : Type 0 where
   pub one : s .d1 < 2
   pub two : s .d2 < 2
@@ -88,13 +84,13 @@ pub next-bits : {s : Registers} {x : ℕ} → BitRegisters s → x < 2 → BitRe
 unfolding next
 next-bits h b = record { one = entering-bit h b; two = h .one; three = h .two }
 
-pub parities-bits : {s : Registers} (c : List ℕ) → BitRegisters s → AllBits c → AllBits (parities s c)
+pub parities-bits : {s : Registers} (c : List ℕ) → BitRegisters s → AreBits c → AreBits (parities s c)
 unfolding parities
 parities-bits [] h b i = b i
 parities-bits (x ∷ c) h b zero = parity-bit h (b 0)
 parities-bits (x ∷ c) h b (suc i) = parities-bits c (next-bits h (b 0)) (λ k. b (suc k)) i
 
-pub after-bits : {s : Registers} (c : List ℕ) → BitRegisters s → AllBits c → BitRegisters (after s c)
+pub after-bits : {s : Registers} (c : List ℕ) → BitRegisters s → AreBits c → BitRegisters (after s c)
 unfolding after
 after-bits [] h b = h
 after-bits (x ∷ c) h b = after-bits c (next-bits h (b 0)) (λ k. b (suc k))

@@ -2,11 +2,10 @@
 -- Assumes nothing.
 use mathlib.Core.Path.{_≡_, refl, sym, _∙_, ap}
 use mathlib.Core.List.{List, _∷_}
-use Prim.Native.Nat.{ℕ, suc, _+_, _≤_, _<_}
-use native.Mathlib.Numerals.{add-one}
+use Prim.Native.Nat.{ℕ, _+_, _≤_, _<_}
 use native.Mathlib.Omega.{arith}
 use lib.ListN.{length, getD, drop, set, length-set, drop-of-length-le}
-use lib.Seq.{drop-cons, drop-set-lt}
+use lib.Seq.{drop-set-lt}
 use Rattle.laws.proofs.Writing as writing
 use Rattle.turbo.specs.declared.Registers.{Registers}
 use Rattle.turbo.specs.Encoder.{start, parity, next, parities, after}
@@ -22,7 +21,7 @@ begin bits = record { within = omega arith; outputs = writing.start; registers =
 
 -- the bit at i, and what follows it, also after a write at i
 ahead : (bits : List ℕ) (i z : ℕ) → i < length bits → drop i bits ≡ getD bits i 0 ∷ drop (i + 1) (set bits i z)
-ahead bits i z h = drop-cons bits i 0 h ∙ rw (add-one, drop-set-lt (suc i) bits i z (omega arith))
+ahead bits i z h = writing.drop-next bits i h ∙ rw (drop-set-lt (i + 1) bits i z (omega arith))
 
 module _ {bits₀ bits : List ℕ} {s : Registers} {i : ℕ} where
   pub turn : i < length bits → InPlace bits₀ bits s i → InPlace bits₀ (set bits i (parity s (getD bits i 0))) (next s (getD bits i 0)) (i + 1)

@@ -3,35 +3,27 @@
 use mathlib.Core.Bool.{Bool, true, false}
 use mathlib.Core.Path.{_≡_, refl, sym, _∙_, ap}
 use mathlib.Core.List.{List, [], _∷_, _++_, append-assoc}
-use Prim.Native.Nat.{ℕ, zero, suc, _+_, _-_, _≤_, _<_}
+use Prim.Native.Nat.{ℕ, _+_, _-_, _≤_, _<_}
 use native.Mathlib.Omega.{arith}
 use borrow.Author.Tests.{ltb-true, ltb-false}
-use borrow.Author.Fill.{fill-more}
 use lib.Dec.{ltb, lit<}
-use lib.ListN.{length, getD, drop, set, replicate, length-append, length-drop, length-replicate, getD-replicate, List·getD-append, List·getD-eq-default}
+use lib.ListN.{length, getD, drop, replicate, length-append, length-drop, length-replicate, getD-replicate, List·getD-append, List·getD-eq-default}
 use lib.Seq.{drop-append-le, getD-append-add, getD-drop}
+use Rattle.laws.specs.Bits.{AreBits}
+use Rattle.laws.proofs.AreBits.{no-bits, with-bit, append-bits}
 use Rattle.interleaver.specs.Table.{sizeAt}
 use Rattle.interleaver.specs.Place.{interleaved, secondPlace}
 use Rattle.interleaver.proofs.Into.{length-interleaved, getD-interleaved}
 use Rattle.turbo.specs.Encoder.{start, parities}
 use Rattle.turbo.specs.Streams.{NULL, withoutFiller, firstEnd, secondEnd, stream0, stream1, stream2}
-use Rattle.turbo.proofs.Encoder.{length-parities, AllBits, BitRegisters, start-bits, parities-bits, after-bits, xTail-bit, zTail-bit}
+use Rattle.turbo.proofs.Encoder.{length-parities, BitRegisters, start-bits, parities-bits, after-bits, xTail-bit, zTail-bit}
 
 -- ---- bits
 
-pub append-bits : (a b : List ℕ) → AllBits a → AllBits b → AllBits (a ++ b)
-append-bits [] b ha hb i = hb i
-append-bits (x ∷ a) b ha hb zero = ha 0
-append-bits (x ∷ a) b ha hb (suc i) = append-bits a b (λ k. ha (suc k)) hb i
+tail-bits : {a b x y : ℕ} → a < 2 → b < 2 → x < 2 → y < 2 → AreBits (a ∷ b ∷ x ∷ y ∷ [])
+tail-bits {a} {b} {x} {y} ha hb hx hy = with-bit a (b ∷ x ∷ y ∷ []) ha (with-bit b (x ∷ y ∷ []) hb (with-bit x (y ∷ []) hx (with-bit y [] hy no-bits)))
 
-tail-bits : {a b x y : ℕ} → a < 2 → b < 2 → x < 2 → y < 2 → AllBits (a ∷ b ∷ x ∷ y ∷ [])
-tail-bits ha hb hx hy zero = ha
-tail-bits ha hb hx hy (suc zero) = hb
-tail-bits ha hb hx hy (suc (suc zero)) = hx
-tail-bits ha hb hx hy (suc (suc (suc zero))) = hy
-tail-bits ha hb hx hy (suc (suc (suc (suc i)))) = lit< tt
-
-pub interleaved-bits : (row : ℕ) (c : List ℕ) → AllBits c → AllBits (interleaved row c)
+pub interleaved-bits : (row : ℕ) (c : List ℕ) → AreBits c → AreBits (interleaved row c)
 interleaved-bits row c h i = split (ltb i (sizeAt row)) refl
   where
     split : (b : Bool) → ltb i (sizeAt row) ≡ b → getD (interleaved row c) i 0 < 2
@@ -41,11 +33,11 @@ interleaved-bits row c h i = split (ltb i (sizeAt row)) refl
         past : length (interleaved row c) ≤ i
         past = rw length-interleaved (ltb-false _ _ e)
 
-pub firstEnd-bits : (c : List ℕ) → AllBits c → BitRegisters (firstEnd c)
+pub firstEnd-bits : (c : List ℕ) → AreBits c → BitRegisters (firstEnd c)
 unfolding firstEnd
 firstEnd-bits c h = after-bits c start-bits h
 
-pub secondEnd-bits : (row : ℕ) (c : List ℕ) → AllBits c → BitRegisters (secondEnd row c)
+pub secondEnd-bits : (row : ℕ) (c : List ℕ) → AreBits c → BitRegisters (secondEnd row c)
 unfolding secondEnd
 secondEnd-bits row c h = after-bits (interleaved row c) start-bits (interleaved-bits row c h)
 
@@ -54,11 +46,6 @@ secondEnd-bits row c h = after-bits (interleaved row c) start-bits (interleaved-
 pub withoutFiller-none : (d : List ℕ) → d ≡ withoutFiller 0 d
 unfolding withoutFiller
 withoutFiller-none d = refl
-
--- one place more
-pub withoutFiller-more : (F : ℕ) (d : List ℕ) → F < length d → set (withoutFiller F d) F NULL ≡ withoutFiller (F + 1) d
-unfolding withoutFiller
-withoutFiller-more F d h = fill-more F NULL d h
 
 pub length-withoutFiller : (F : ℕ) (d : List ℕ) → F ≤ length d → length (withoutFiller F d) ≡ length d
 unfolding withoutFiller
@@ -104,7 +91,7 @@ module _ (F : ℕ) (d tail : List ℕ) (i : ℕ) (h : F ≤ length d) where
   null-in : i < F → getD (withoutFiller F d ++ tail) i 0 ≡ NULL
   null-in l = List·getD-append (withoutFiller F d) tail 0 i (rw (length-withoutFiller F d h) (omega arith)) ∙ filler-null F d i l
 
-  bit-in : AllBits d → AllBits tail → F ≤ i → getD (withoutFiller F d ++ tail) i 0 < 2
+  bit-in : AreBits d → AreBits tail → F ≤ i → getD (withoutFiller F d ++ tail) i 0 < 2
   bit-in hd ht l = rw (← withoutFiller-append F d tail h, past-filler F (d ++ tail) i l) (append-bits d tail hd ht i)
 
 module _ (row F : ℕ) (c : List ℕ) (i : ℕ) (h : F ≤ length c) where
@@ -121,21 +108,21 @@ module _ (row F : ℕ) (c : List ℕ) (i : ℕ) (h : F ≤ length c) where
   unfolding stream0
   stream0-data l m = List·getD-append (withoutFiller F c) _ 0 i (rw (length-withoutFiller F c h) m) ∙ past-filler F c i l
 
-  pub stream0-bit : AllBits c → F ≤ i → getD (stream0 row F c) i 0 < 2
+  pub stream0-bit : AreBits c → F ≤ i → getD (stream0 row F c) i 0 < 2
   unfolding stream0
   stream0-bit b l =
       let p = firstEnd-bits c b in
       let q = secondEnd-bits row c b in
       bit-in F c _ i h b (tail-bits (xTail-bit 0 p) (zTail-bit 1 p) (xTail-bit 0 q) (zTail-bit 1 q)) l
 
-  pub stream1-bit : AllBits c → F ≤ i → getD (stream1 row F c) i 0 < 2
+  pub stream1-bit : AreBits c → F ≤ i → getD (stream1 row F c) i 0 < 2
   unfolding stream1
   stream1-bit b l =
       let p = firstEnd-bits c b in
       let q = secondEnd-bits row c b in
       bit-in F (parities start c) _ i (rw length-parities h) (parities-bits c start-bits b) (tail-bits (zTail-bit 0 p) (xTail-bit 2 p) (zTail-bit 0 q) (xTail-bit 2 q)) l
 
-pub stream2-bits : (row : ℕ) (c : List ℕ) → AllBits c → AllBits (stream2 row c)
+pub stream2-bits : (row : ℕ) (c : List ℕ) → AreBits c → AreBits (stream2 row c)
 unfolding stream2
 stream2-bits row c b =
     let p = firstEnd-bits c b in

@@ -46,18 +46,6 @@ fn is_encodable(row: usize, filler: usize, k: usize, n0: usize, n1: usize, n2: u
         & (n2 == n)
 }
 
-// Copies bits to the front of `out`.
-fn copy(bits: &[u8], out: &mut [u8])
-    requires { ⌜ length (now bits) ≤ length (now out) ⌝ }
-    ensures { λ r. ⌜ now (out .exit) ≡ now (bits .entry) ++ drop (length (now (bits .entry))) (now (out .entry)) ⌝ }
-{
-    let mut i = 0;
-    while i < bits.len() {
-        out[i] = bits[i];
-        i += 1;
-    }
-}
-
 // One constituent encoder: each input bit gives way to its output bit, so that no second list is needed. Gives the registers
 // after the last bit.
 fn encode_in_place(bits: &mut [u8]) -> Registers
@@ -111,7 +99,7 @@ fn complete(d: &mut [u8], filler: usize, tail: [u8; 4])
     ensures { λ r. ⌜ now (d .exit) ≡ completed filler (now (d .entry)) tail ⌝ }
 {
     let k = d.len() - 4;
-    copy(&tail, &mut d[k..]);
+    bytes::copy(&tail, &mut d[k..]);
     set_absent(d, filler);
 }
 
@@ -122,7 +110,7 @@ fn encode_first(c: &[u8], d1: &mut [u8]) -> Tail
     ensures tail { λ r. ⌜ r ≡ tailOf (firstEnd (now (c .entry))) ⌝ }
 {
     let k = c.len();
-    copy(c, d1);
+    bytes::copy(c, d1);
     tail_of(encode_in_place(&mut d1[..k]))
 }
 
@@ -144,7 +132,7 @@ fn encode_streams(row: usize, filler: usize, c: &[u8], d0: &mut [u8], d1: &mut [
     ensures second { λ r. ⌜ now (d1 .exit) ≡ stream1 row filler (now (c .entry)) ⌝ }
     ensures third { λ r. ⌜ now (d2 .exit) ≡ stream2 row (now (c .entry)) ⌝ }
 {
-    copy(c, d0);
+    bytes::copy(c, d0);
     let first = encode_first(c, d1);
     let second = encode_second(row, c, d2);
     complete(d0, filler, [first.x0, first.z1, second.x0, second.z1]);

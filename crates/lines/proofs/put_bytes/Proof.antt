@@ -5,9 +5,10 @@ use Prim.Native.Nat.{_+_}
 use native.Mathlib.Omega.{arith}
 use lib.ListN.{length}
 use denote.Ref.{now}
+use Rattle.laws.proofs.Copied.{all-copied}
 use Rattle.laws.proofs.Parts.{put-as, length-mid}
 use Rattle.lines.specs.Put.{putOver}
-use Rattle.lines.proofs.Putting.{all-copied, put-fits, end-fits, put-none, end-none}
+use Rattle.lines.proofs.Putting.{put-fits, end-fits, put-none, end-none}
 use borrow.Author.Needs.{needs}
 use Rattle.lines.proofs.put_bytes.Statement.{statement}
 use Rattle.lines.proofs.put_bytes.Tie as tie
@@ -44,7 +45,7 @@ unfolding putOver
 returns-3 c =
     let args = c .before .before .before .before .before .before .before .before .args in (
       sym (end-fits _ _ _ (omega arith)),
-      put-as (args .at) (args .at + length (now (args .given))) (now (args .out)) (c .before .before .copy .ensures .1 ∙ all-copied (now (args .given)) _ (length-mid (args .at) (args .at + length (now (args .given))) (now (args .out)) (omega arith) ∙ omega arith)) (omega arith)
+      put-as (args .at) (args .at + length (now (args .given))) (now (args .out)) (all-copied (now (args .given)) _ (c .before .before .copy .ensures .1) (length-mid (args .at) (args .at + length (now (args .given))) (now (args .out)) (omega arith) ∙ omega arith)) (omega arith)
           ∙ sym (put-fits _ _ _ (omega arith)),
     )
 

@@ -35,7 +35,7 @@ returns : tie.Need-returns
 returns c =
     let lent = c .before .before .before .before .before .before in
     let start = lent .before .before .before .before in
-    c .before .before .set-absent .ensures ∙ completing (start .args .filler) (start .args .d .now) (start .args .t3) (start .pre) (omega (arith, start .good)) (lent .copy .ensures)
+    c .before .before .set-absent .ensures ∙ completing (start .args .filler) (start .args .d .now) (start .args .t3) (start .pre) (omega (arith, start .good)) (lent .copy .ensures .1)
 
 pub complete-spec : {M : Type 1} → statement M
 complete-spec =

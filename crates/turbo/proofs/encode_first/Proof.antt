@@ -1,13 +1,13 @@
 -- `turbo::encode_first` meets its contract: the bits are copied to the front of the stream and encoded there.
 -- Assumes nothing.
 use borrow.Author.Needs.{needs}
-use mathlib.Core.Path.{refl, _∙_, ap}
+use mathlib.Core.Path.{refl}
 use native.Mathlib.Omega.{arith}
 use lib.ListN.{length, drop}
+use Rattle.laws.proofs.Copied.{copied}
 use Rattle.laws.proofs.Parts.{front-count}
 use Rattle.turbo.specs.Streams.{firstEnd}
-use Rattle.turbo.specs.Encode.{tailOf}
-use Rattle.turbo.proofs.Completing.{front-outputs, front-after}
+use Rattle.turbo.proofs.Completing.{front-encoded}
 use Rattle.turbo.proofs.encode_first.Statement.{statement}
 use Rattle.turbo.proofs.encode_first.Tie as tie
 
@@ -33,13 +33,11 @@ returns : tie.Need-returns
 unfolding firstEnd
 returns c =
     let coded = c .before .before .before in
-    let copied = coded .before .before .before .before in
-    let start = copied .before .before .before .before in
+    let front = coded .before .before .before .before in
+    let start = front .before .before .before .before in
     let bits = start .args .c .now in
-    let rest = drop (length bits) (start .args .d1 .now) in (
-      front-outputs bits rest (copied .copy .ensures) refl (coded .encode-in-place .ensures .0),
-      c .tail-of .ensures ∙ ap tailOf (front-after bits rest (copied .copy .ensures) refl (coded .encode-in-place .ensures .1)),
-    )
+    let rest = drop (length bits) (start .args .d1 .now) in
+    front-encoded bits rest (copied bits _ (front .copy .ensures .1)) refl (coded .encode-in-place .ensures) (c .tail-of .ensures)
 
 pub encode-first-spec : {M : Type 1} → statement M
 encode-first-spec =

@@ -1,7 +1,7 @@
 -- `turbo::encode_second` meets its contract: the bits are interleaved into the front of the stream and encoded there.
 -- Assumes nothing.
 use borrow.Author.Needs.{needs}
-use mathlib.Core.Path.{_≡_, sym, _∙_, ap}
+use mathlib.Core.Path.{sym, _∙_, ap}
 use mathlib.Core.List.{List, _++_}
 use Prim.Native.Nat.{ℕ}
 use native.Mathlib.Omega.{arith}
@@ -10,8 +10,7 @@ use Rattle.interleaver.specs.Place.{interleaved}
 use Rattle.interleaver.proofs.Into.{length-interleaved}
 use Rattle.laws.proofs.Parts.{front-count}
 use Rattle.turbo.specs.Streams.{secondEnd}
-use Rattle.turbo.specs.Encode.{tailOf}
-use Rattle.turbo.proofs.Completing.{front-interleaved, front-outputs, front-after}
+use Rattle.turbo.proofs.Completing.{front-interleaved, front-encoded}
 use Rattle.turbo.proofs.encode_second.Statement.{statement}
 use Rattle.turbo.proofs.encode_second.Tie as tie
 
@@ -49,10 +48,7 @@ returns c =
     let bits = start .args .c .now in
     let rest = drop (length bits) (start .args .d2 .now) in
     let told = ap (λ (l : List ℕ). l ++ rest) (front-interleaved row bits (start .args .d2 .now) (start .pre .0) (start .pre .1) (start .pre .2) (woven .interleave .ensures)) in
-    let long : length (interleaved row bits) ≡ length bits = length-interleaved row bits ∙ sym (start .pre .1) in (
-      front-outputs (interleaved row bits) rest told long (coded .encode-in-place .ensures .0),
-      c .tail-of .ensures ∙ ap tailOf (front-after (interleaved row bits) rest told long (coded .encode-in-place .ensures .1)),
-    )
+    front-encoded (interleaved row bits) rest told (length-interleaved row bits ∙ sym (start .pre .1)) (coded .encode-in-place .ensures) (c .tail-of .ensures)
 
 pub encode-second-spec : {M : Type 1} → statement M
 encode-second-spec =

@@ -6,6 +6,7 @@ use mathlib.Core.List.{List}
 use Prim.Native.Nat.{ℕ}
 use native.Mathlib.Omega.{arith}
 use lib.ListN.{length, drop}
+use Rattle.laws.proofs.Copied.{copied}
 use Rattle.turbo.proofs.Completing.{stream0-is, stream1-is, stream2-is}
 use Rattle.turbo.proofs.encode_streams.Statement.{statement}
 use Rattle.turbo.proofs.encode_streams.Tie as tie
@@ -47,8 +48,8 @@ returns c =
     let done0 = done1 .before .before .before .before in
     let coded2 = done0 .before .before .before .before in
     let coded1 = coded2 .before .before .before .before in
-    let copied = coded1 .before .before .before .before in
-    let start = copied .before .before .before .before .before .before in
+    let front = coded1 .before .before .before .before in
+    let start = front .before .before .before .before .before .before in
     let row = start .args .row in
     let bits = start .args .c .now in
     let F = start .args .filler in
@@ -56,7 +57,7 @@ returns c =
     let second = coded2 .encode-second .ensures in
     let past : List ℕ → List ℕ = drop (length bits) in (
       done0 .complete .ensures
-          ∙ stream0-is row bits (past (start .args .d0 .now)) (first .1) (second .1) (copied .copy .kept .1 .0 ∙ start .pre .long0) F (copied .copy .ensures),
+          ∙ stream0-is row bits (past (start .args .d0 .now)) (first .1) (second .1) (front .copy .kept .1 .0 ∙ start .pre .long0) F (copied bits _ (front .copy .ensures .1)),
       (
         done1 .complete2 .ensures
             ∙ stream1-is row bits (past (start .args .d1 .now)) (first .1) (second .1) (coded1 .encode-first .kept .1 .0 ∙ start .pre .long1) F (first .0),

@@ -2,12 +2,11 @@
 -- Assumes nothing.
 use mathlib.Core.Path.{_≡_, refl, sym, _∙_, ap}
 use mathlib.Core.Bool.{Bool, false, _||_, or-false, or-assoc}
-use Prim.Native.Nat.{_+_, _-_, _≤_, _<_}
-use native.Mathlib.Numerals.{add-one}
+use Prim.Native.Nat.{_+_, _-_, _≤_}
 use native.Mathlib.Omega.{arith}
 use lib.Dec.{ltb}
 use lib.ListN.{length, drop, getD, drop-of-length-le}
-use lib.Seq.{drop-cons}
+use Rattle.laws.proofs.Writing.{drop-next}
 use Rattle.codeword.specs.Build.{badBits}
 use Rattle.codeword.proofs.Accepted.{seen-more}
 use Rattle.codeword.proofs.allocation.bad_bits.Statement.{statement}
@@ -38,7 +37,7 @@ loop-again c =
     let i = c .before .before .loop .i in
     let seen = c .before .before .loop .seen in
     let opened : badBits (drop i bits) ≡ (ltb 1 (getD bits i 0) || badBits (drop (i + 1) bits)) =
-    rw (add-one, drop-cons bits i 0 (omega arith)) refl in (
+    rw (drop-next bits i (omega arith)) refl in (
       omega arith,
       ap (λ (t : Bool). t || badBits (drop (i + 1) bits)) (seen-more seen (getD bits i 0))
           ∙ or-assoc (ltb 1 seen) (ltb 1 (getD bits i 0)) (badBits (drop (i + 1) bits))

@@ -4,6 +4,7 @@ use Prim.Native.Nat.{_-_}
 use native.Mathlib.Omega.{arith}
 use lib.ListN.{length}
 use borrow.Author.Needs.{needs}
+use Rattle.laws.proofs.Copied.{all-copied}
 use Rattle.rate_matching.proofs.MatcherPadded.{Room, room, room-front, room-lent, room-back, room-filled}
 use Rattle.rate_matching.proofs.matcher.pad.Statement.{statement}
 use Rattle.rate_matching.proofs.matcher.pad.Tie as tie
@@ -36,7 +37,7 @@ part-copy-end : tie.Need-part-copy-end
 part-copy-end c = search needs
 
 copy-requires : tie.Need-copy-requires
-copy-requires c κs = room-lent (lent (c .before .before .before .before .before .before .before)) (c .before .before .before .set-absent .last .0) (c .before .before .before .set-absent .kept .0)
+copy-requires c κs = omega (arith, room-lent (lent (c .before .before .before .before .before .before .before)) (c .before .before .before .set-absent .last .0) (c .before .before .before .set-absent .kept .0))
 
 slice-read-y : tie.Need-slice-read-y
 slice-read-y c = search needs
@@ -48,7 +49,11 @@ same-length : tie.Need-same-length
 same-length c = room-back (lent (c .before .before .before .before .before .before .before .before .before .before .before)) (c .before .before .before .before .before .before .before .set-absent .last .0) (c .before .before .before .before .before .before .before .set-absent .kept .0) (c .before .before .before .copy .last .1 .0) (c .before .before .before .copy .kept .1 .0) _ _
 
 returns : tie.Need-returns
-returns c = room-filled (lent (c .before .before .before .before .before .before .before .before .before .before .before)) (c .before .before .before .before .before .before .before .set-absent .last .0) (c .before .before .before .before .before .before .before .set-absent .kept .0) (c .before .before .before .before .before .before .before .before .before .before .before .pre .0) (c .before .before .before .before .before .before .before .set-absent .ensures) (c .before .before .before .copy .ensures)
+returns c =
+    let blank = c .before .before .before .before .before .before .before in
+    let entry = blank .before .before .before .before in
+    room-filled (lent entry) (blank .set-absent .last .0) (blank .set-absent .kept .0) (entry .pre .0) (blank .set-absent .ensures)
+    (all-copied (entry .args .d .now) _ (c .before .before .before .copy .ensures .1) (room-lent (lent entry) (blank .set-absent .last .0) (blank .set-absent .kept .0)))
 
 pub pad-spec : {M : Type 1} → statement M
 pad-spec =

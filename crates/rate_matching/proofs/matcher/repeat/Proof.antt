@@ -1,6 +1,8 @@
 -- `matcher::repeat` meets its contract: a whole number of turns is written, and the rest is the begin of one.
 -- Assumes nothing.
 use native.Mathlib.Omega.{arith}
+use lib.ListN.{take}
+use Rattle.laws.proofs.Copied.{all-copied}
 use Rattle.laws.proofs.Parts.{front-count}
 use Rattle.rate_matching.proofs.MatcherTurns.{Turning, turning-start, turn-lent, last-lent, last-back, turning-next, turning-last}
 use Rattle.rate_matching.proofs.matcher.repeat.Statement.{statement}
@@ -28,13 +30,16 @@ part-copy-end : tie.Need-part-copy-end Inv-loop μ-loop
 part-copy-end c = omega arith
 
 copy-requires : tie.Need-copy-requires Inv-loop μ-loop
-copy-requires c κs = turn-lent (c .before .before .loop .inv) (omega arith)
+copy-requires c κs = omega (arith, turn-lent (c .before .before .loop .inv) (omega arith))
 
 loop-less : tie.Need-loop-less Inv-loop μ-loop
 loop-less c = omega arith
 
 loop-again : tie.Need-loop-again Inv-loop μ-loop
-loop-again c = turning-next (c .before .before .before .before .before .loop .inv) (c .before .before .before .before .before .before .before .before .pre) (omega arith) (c .before .before .copy .ensures)
+loop-again c =
+    let turns = c .before .before .before .before .before in
+    let entry = turns .before .before .before in
+    turning-next (turns .loop .inv) (entry .pre) (omega arith) (all-copied (entry .args .ring .now) _ (c .before .before .copy .ensures .1) (turn-lent (turns .loop .inv) (omega arith)))
 
 slice-aggregate-copy : tie.Need-slice-aggregate-copy Inv-loop μ-loop
 slice-aggregate-copy c = front-count _ _ (omega arith)
@@ -49,13 +54,17 @@ part-copy-end-2 : tie.Need-part-copy-end-2 Inv-loop μ-loop
 part-copy-end-2 c = omega arith
 
 copy-requires-2 : tie.Need-copy-requires-2 Inv-loop μ-loop
-copy-requires-2 c κs = last-lent (c .before .before .before .loop .inv) (omega arith)
+copy-requires-2 c κs = omega (arith, last-lent (c .before .before .before .loop .inv) (omega arith))
 
 same-length : tie.Need-same-length Inv-loop μ-loop
 same-length c = last-back (c .before .before .before .before .before .before .loop .inv) (c .before .before .copy2 .last .1 .0) (c .before .before .copy2 .kept .1 .0)
 
 returns : tie.Need-returns Inv-loop μ-loop
-returns c = turning-last (c .before .before .before .before .before .before .loop .inv) (c .before .before .before .before .before .before .before .before .before .pre) (omega arith) (c .before .before .copy2 .ensures)
+returns c =
+    let turns = c .before .before .before .before .before .before in
+    let entry = turns .before .before .before in
+    turning-last (turns .loop .inv) (entry .pre) (omega arith)
+    (all-copied (take (turns .loop .left) (entry .args .ring .now)) _ (c .before .before .copy2 .ensures .1) (last-lent (turns .loop .inv) (omega arith)))
 
 pub repeat-spec : {M : Type 1} → statement M
 repeat-spec =

@@ -2,8 +2,9 @@
 -- Assumes nothing.
 use Prim.Native.Nat.{_≤_}
 use native.Mathlib.Omega.{arith}
-use lib.ListN.{length}
+use lib.ListN.{length, take}
 use borrow.Author.Needs.{needs}
+use Rattle.laws.proofs.Copied.{copied}
 use Rattle.laws.proofs.Parts.{front-count}
 use Rattle.reading.proofs.Release.{wrong, right}
 use Rattle.reading.proofs.room.release.Statement.{statement}
@@ -48,8 +49,9 @@ same-length-3 c = search needs
 returns-2 : tie.Need-returns-2
 returns-2 c =
     let tested = c .before .before .before .before .before in
-    right _ _ (tested .before .before .before .before .before .sequence .ensures) (tested .before .crc24a .ensures) _ (tested .if1 .left) (long tested)
-    (c .before .before .copy .ensures)
+    let heard = tested .before .before .before .before .before in
+    let block = take (heard .before .before .before .before .before .args .a) (heard .sequence .last .1 .1 .0) in
+    right _ _ (heard .sequence .ensures) (tested .before .crc24a .ensures) _ (tested .if1 .left) (long tested) (copied block _ (c .before .before .copy .ensures .1))
 
 pub release-spec : {M : Type 1} → statement M
 release-spec =

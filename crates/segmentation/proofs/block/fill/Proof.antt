@@ -1,6 +1,7 @@
 -- `block::fill` meets its contract: what the two lent parts came back as, put together (`filled`).
 -- Assumes nothing.
 use native.Mathlib.Omega.{arith}
+use Rattle.laws.proofs.Copied.{copied}
 use Rattle.laws.proofs.Parts.{front-count}
 use Rattle.segmentation.proofs.Tails.{filled}
 use borrow.Author.Needs.{needs}
@@ -36,7 +37,7 @@ returns c =
     let cleared = c .before .before .before .before .before .before in
     let at-start = cleared .before .before .before .before in
     filled (at-start .args .zeros) (at-start .args .part .now) (at-start .args .c .now) (cleared .clear .last .0) (c .before .before .copy .last .1 .0)
-    (at-start .pre) (cleared .clear .ensures) (c .before .before .copy .ensures)
+    (at-start .pre) (cleared .clear .ensures) (copied (at-start .args .part .now) _ (c .before .before .copy .ensures .1))
 
 pub fill-spec : {M : Type 1} → statement M
 fill-spec =

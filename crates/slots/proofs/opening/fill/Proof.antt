@@ -1,24 +1,21 @@
--- `opening::fill` meets its contract: after i turns the first i bytes are unheard and the others as they were.
+-- `opening::fill` meets its contract: after i turns the first i bytes are unheard.
 -- Assumes nothing.
-use mathlib.Core.Path.{_≡_, refl, _∙_, ap}
-use mathlib.Core.List.{List, _++_, append-nil}
-use Prim.Native.Nat.{ℕ, _-_, _≤_, _<_}
-use native.Mathlib.Nat.{le-refl}
+use Prim.Native.Nat.{_-_}
 use native.Mathlib.Omega.{arith}
-use borrow.Author.Fill.{fill-none, fill-more}
-use lib.ListN.{length, drop, set, replicate, length-set, drop-of-length-le}
+use lib.ListN.{length}
+use Rattle.laws.proofs.Filling.{Filling, start, fill, filled}
 use Rattle.slots.specs.Room.{unheard}
 use Rattle.slots.proofs.opening.fill.Statement.{statement}
 use Rattle.slots.proofs.opening.fill.Tie as tie
 
 abbrev Inv-loop : tie.InvT-loop
-Inv-loop room₀ i₀ room i = (i ≤ length room₀) × ((length room ≡ length room₀) × (room ≡ replicate {A = ℕ} i unheard ++ drop i room₀))
+Inv-loop room₀ i₀ room i = Filling unheard room₀ room i
 
 abbrev μ-loop : tie.MeasureT-loop
-μ-loop room₀ i₀ room i = length room - i
+μ-loop room₀ i₀ room i = length room₀ - i
 
 loop-holds : tie.Need-loop-holds Inv-loop μ-loop
-loop-holds c = (omega arith, (refl, fill-none _ 2))
+loop-holds c = start
 
 slice-write-room : tie.Need-slice-write-room Inv-loop μ-loop
 slice-write-room c = omega arith
@@ -27,23 +24,16 @@ add-i : tie.Need-add-i Inv-loop μ-loop
 add-i c = omega arith
 
 loop-less : tie.Need-loop-less Inv-loop μ-loop
-loop-less c = simp length-set (omega arith)
+loop-less c = omega arith
 
 loop-again : tie.Need-loop-again Inv-loop μ-loop
-loop-again c =
-    let inv = c .before .loop .inv in
-    let within : c .before .loop .i < length (c .before .before .args .room .now) = omega arith in
-    (omega arith, (simp length-set (inv .1 .0), ap (λ (l : List ℕ). set l (c .before .loop .i) unheard) (inv .1 .1) ∙ fill-more (c .before .loop .i) unheard (c .before .before .args .room .now) within))
+loop-again c = fill (omega arith) (c .before .loop .inv)
 
 same-length : tie.Need-same-length Inv-loop μ-loop
-same-length c = c .before .loop .inv .1 .0
+same-length c = c .before .loop .inv .long
 
 returns : tie.Need-returns Inv-loop μ-loop
-returns c =
-    let inv = c .before .loop .inv in
-    let before = c .before .before .args .room .now in
-    let all : c .before .loop .i ≡ length before = omega arith in
-    inv .1 .1 ∙ rw (all, drop-of-length-le before (le-refl (length before))) (append-nil _)
+returns c = filled (omega arith) (c .before .loop .inv)
 
 pub fill-spec : {M : Type 1} → statement M
 fill-spec =
