@@ -24,5 +24,10 @@ pub mod protocol; // how a bridge to another program is asked and answers
 pub mod cases; // what it is asked
 pub mod compare; // asks it and compares
 pub mod stub; // a bridge to this program, sound or with a planted fault
+pub mod replay; // the calls of 01 as lines with answers
+pub mod replay_faults; // the same as a program, sound or with a planted fault
+pub mod history; // runs of such lines
+pub mod histories; // sends them to another program and compares
+pub mod figures; // the numbers of the pictures
 #[cfg(feature = "linked")]
 pub mod bench; // Build timed beside the proved library

@@ -1,7 +1,7 @@
 //! The command line of the second program.
 
 use independent::compare::{self, Options};
-use independent::{sizes, stage, stub, xorshift};
+use independent::{figures, histories, replay_faults, sizes, stage, stub, xorshift};
 use std::fs::File;
 use std::io::{self, Read, Write};
 use std::os::fd::AsFd;
@@ -29,6 +29,17 @@ independent compare [--seed N] [--cases N] [--every N] [--case N] COMMAND...
     --case N   send only case N
 independent bridge-stub [--fault NAME]
     a bridge to this program itself, to try compare; the faults are in src/stub.rs
+independent replay [--fault NAME]
+    calls of 01 as lines, each answered with one line: standard input to standard output;
+    the protocol is in src/replay.rs, the faults are in src/replay_faults.rs
+independent histories [--seed N] [--histories N] [--only N] COMMAND...
+    compares whole histories of such lines between the program COMMAND and this one: exit
+    status 0 if all histories pass, 1 if not
+    --seed N       what the histories are made from, 1 if not given
+    --histories N  how many, 2000 if not given
+    --only N       send only history N, counted from 0; the rooms begin as zeros
+independent figures
+    the numbers of the pictures, for scripts/pictures
 independent bench [--rounds N] [--only NAME --calls N] [A:G]...
     times Build of the proved library, of the fast program and of the literal one, least
     of the rounds; needs the library linked, as scripts/bench does
@@ -60,6 +71,8 @@ fn run(words: &[&str]) -> Result<ExitCode, String> {
     match words {
         ["compare", rest @ ..] => return compare_status(rest),
         ["bridge-stub", rest @ ..] => bridge_stub(rest)?,
+        ["replay", rest @ ..] => replay(rest)?,
+        ["histories", rest @ ..] => return histories_status(rest),
         ["bench", rest @ ..] => bench(rest)?,
         _ => print(&answer(words)?)?,
     }
@@ -104,6 +117,43 @@ fn bridge_stub(words: &[&str]) -> Result<(), String> {
     ended.map_err(|error| format!("bridge-stub: {error}"))
 }
 
+fn replay(words: &[&str]) -> Result<(), String> {
+    let fault = match words {
+        [] => None,
+        ["--fault", name] => Some(replay_faults::fault(name).ok_or(format!("no such fault: {name}"))?),
+        _ => return Err("replay takes --fault NAME or nothing".into()),
+    };
+    let ended = replay_faults::run(io::stdin(), io::stdout(), fault);
+    ended.map_err(|error| format!("replay: {error}"))
+}
+
+fn histories_status(words: &[&str]) -> Result<ExitCode, String> {
+    let outcome = histories::run(&histories_options(words)?)?;
+    println!("{} passed, {} failed", outcome.passed, outcome.failed);
+    Ok(ExitCode::from(u8::from(outcome.failed > 0)))
+}
+
+/// Options, then the other program's command.
+fn histories_options(words: &[&str]) -> Result<histories::Options, String> {
+    let mut options =
+        histories::Options { seed: 1, histories: histories::HISTORIES, only: None, command: Vec::new() };
+    let mut rest = words;
+    while let [option, value, later @ ..] = rest {
+        match *option {
+            "--seed" => options.seed = number(value)?,
+            "--histories" => options.histories = number(value)?,
+            "--only" => options.only = Some(number(value)?),
+            _ => break,
+        }
+        rest = later;
+    }
+    match rest.first() {
+        Some(name) if !name.starts_with("--") => options.command = rest.iter().map(|w| w.to_string()).collect(),
+        _ => return Err("histories takes options, then the other program's command".into()),
+    }
+    Ok(options)
+}
+
 #[cfg(not(feature = "linked"))]
 fn bench(_: &[&str]) -> Result<(), String> {
     Err("bench needs the proved library linked: scripts/bench".into())
@@ -140,6 +190,7 @@ fn answer(words: &[&str]) -> Result<Vec<u8>, String> {
     match words {
         ["sizes"] => Ok(sizes::program(&read_input()?)),
         ["stage", name, bits, numbers @ ..] => stage_text(name, bits, numbers),
+        ["figures"] => Ok(figures::text().into_bytes()),
         ["help"] => Ok(HELP.into()),
         _ => Err("no such command; try: independent help".into()),
     }

@@ -7,8 +7,9 @@ use Prim.Native.Nat.{ℕ, _+_, _-_, _*_, _^_, _≤_, _<_}
 use native.Mathlib.Omega.{arith}
 use lib.Dec.{ltb}
 use lib.ListN.{length, getD, take, drop, set, length-set, drop-of-length-le}
-use borrow.Author.Tests.{ltb-true, ltb-false}
+use borrow.Author.Tests.{ltb-true, ltb-false, le-leb, lt-leb}
 use Rattle.laws.proofs.Writing.{Writing, start-at, same, push, drop-next}
+use Rattle.lines.specs.Numbers.{numbersRow, hasRoom, putNumbers, endNumbers}
 use Rattle.lines.specs.Put.{putOver, putAt, endAt}
 use Rattle.lines.specs.Row.{tab, newline, decimalOf, endOf, rowOf}
 use Rattle.lines.proofs.Decimal.{decimal-length}
@@ -75,3 +76,15 @@ module _ {numbers : List ℕ} {at : ℕ} {out₀ out : List ℕ} {end i : ℕ} (
 pub finish : {numbers : List ℕ} {at : ℕ} {out₀ out : List ℕ} {end i : ℕ} → at ≤ length out₀ → length numbers ≤ i → Numbers numbers at out₀ out end i
     → (end ≡ at + length (rowOf (map decimalOf numbers))) × (out ≡ putOver at (rowOf (map decimalOf numbers)) out₀)
 finish {numbers} {i = i} l h r = all-put (rowOf (map decimalOf numbers)) l (omega (arith, r .room)) (same (rest-none numbers i h) (r .writing))
+
+-- ---- a put that looks for its room
+
+module _ (at : ℕ) (numbers out : List ℕ) where
+  pub row-fits : at + 21 * length numbers ≤ length out
+      → (endNumbers at numbers out ≡ at + length (numbersRow numbers)) × (putNumbers at numbers out ≡ putOver at (numbersRow numbers) out)
+  unfolding endNumbers putNumbers hasRoom
+  row-fits h = simp (le-leb _ _ h) (refl, refl)
+
+  pub row-none : length out < at + 21 * length numbers → (endNumbers at numbers out ≡ at) × (putNumbers at numbers out ≡ out)
+  unfolding endNumbers putNumbers hasRoom
+  row-none h = simp (lt-leb _ _ h) (refl, refl)

@@ -1,4 +1,5 @@
 pub mod Line
+pub mod Numbers
 pub mod Put
 pub mod Row
 pub mod Text

@@ -5,6 +5,7 @@ ghost use mathlib.Core.List.{_∷_, [], map};
 ghost use Prim.Native.Nat.{_+_, _*_, _≤_, min};
 ghost use lib.ListN.{length};
 ghost use Rattle.lines.specs.Line.{lineOf, readOn};
+ghost use Rattle.lines.specs.Numbers.{putNumbers, endNumbers};
 ghost use Rattle.lines.specs.Put.{putOver, putAt, endAt};
 ghost use Rattle.lines.specs.Row.{decimalOf, rowOf, tab, newline, refused, answerFields, sizesRow};
 ghost use Rattle.lines.specs.Text.{lineEnd, header, rowRoom, progressOf, rowsOver};
@@ -38,6 +39,9 @@ const DIGITS_HELD: usize = 19;
 
 // The number of a line that can't be read.
 const UNREADABLE: usize = 15;
+
+// No number with its tab or newline is longer: 20 digits at most.
+const NUMBER_ROOM: usize = 21;
 
 // No row is longer: 7 fields of 20 digits at most, each with its tab or newline.
 const ROW_ROOM: usize = 147;
@@ -140,6 +144,21 @@ pub fn put_header(out: &mut [u8]) -> usize
         out,
         0,
     )
+}
+
+// Puts a row of numbers into out at a place and answers the place after it; where it might not fit, as there are not 21 bytes
+// for each number, it does nothing and answers `at`.
+pub fn put_number_row(numbers: &[usize], out: &mut [u8], at: usize) -> usize
+    ensures { λ r. ⌜ r ≡ endNumbers at (now (numbers .entry)) (now (out .entry)) ⌝ }
+    ensures { λ r. ⌜ now (out .exit) ≡ putNumbers at (now (numbers .entry)) (now (out .entry)) ⌝ }
+{
+    if out.len() < at {
+        return at;
+    }
+    if (out.len() - at) / NUMBER_ROOM < numbers.len() {
+        return at;
+    }
+    put_numbers(numbers, out, at)
 }
 
 // A row of numbers.

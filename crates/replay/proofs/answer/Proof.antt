@@ -1,0 +1,54 @@
+-- `replay::answer` is safe: a row stands within the output.
+-- Assumes nothing.
+use mathlib.Core.Path.{_≡_, ap}
+use Prim.Native.Nat.{_≤_}
+use native.Mathlib.Omega.{arith}
+use lib.ListN.{length}
+use denote.Ref.{now}
+use Rattle.laws.proofs.Parts.{front-count}
+use Rattle.lines.specs.Put.{endAt}
+use Rattle.lines.proofs.Putting.{end-within}
+use Rattle.yard.specs.declared.Step.{Step}
+use Rattle.yard.specs.Step.{rowOfLine, stepOf}
+use borrow.Author.Needs.{needs}
+use Rattle.replay.proofs.answer.Statement.{statement}
+use Rattle.replay.proofs.answer.Tie as tie
+
+replay-line-requires : tie.Need-replay-line-requires
+replay-line-requires c κs = search needs
+
+slice-reshare-prefix-write-all : tie.Need-slice-reshare-prefix-write-all
+unfolding stepOf
+slice-reshare-prefix-write-all c =
+    let args = c .before .before .before .before .before .before .before .before .before .before .before .args in
+    let made = c .before .before .before .before .before .replay-line in
+    let row = rowOfLine (args .state) (now (args .store)) (now (args .line)) in
+    let ends : made .result .written ≡ endAt 0 row (now (args .out)) = ap (λ (s : Step). s .written) (made .ensures .0) in
+    omega (arith, ends, end-within 0 row (now (args .out)) (omega arith), made .kept .1 .1 .1 .0)
+
+slice-aggregate-write-all : tie.Need-slice-aggregate-write-all
+slice-aggregate-write-all c = front-count _ _ (slice-reshare-prefix-write-all (c .before))
+
+write-all-requires : tie.Need-write-all-requires
+write-all-requires c κs = search needs
+
+same-length : tie.Need-same-length
+same-length c = search needs
+
+same-length-2 : tie.Need-same-length-2
+same-length-2 c = search needs
+
+returns : tie.Need-returns
+returns c = search needs
+
+pub answer-spec : {M : Type 1} → statement M
+answer-spec =
+    tie.close
+    (tie.spec
+    replay-line-requires
+    slice-reshare-prefix-write-all
+    slice-aggregate-write-all
+    write-all-requires
+    same-length
+    same-length-2
+    returns)

@@ -1,0 +1,96 @@
+-- `replay::replay_lines` meets its contract: each turn answers a line, so the loop ends.
+-- Assumes nothing.
+use mathlib.Core.Path.{_≡_, refl, _∙_}
+use mathlib.Core.List.{List}
+use Prim.Native.Nat.{ℕ, _+_, _-_, _≤_}
+use native.Mathlib.Omega.{arith}
+use lib.ListN.{length}
+use denote.Ref.{now}
+use Rattle.lines.specs.Text.{lineEnd}
+use Rattle.replay.proofs.replay_lines.Statement.{statement}
+use Rattle.replay.proofs.replay_lines.Tie as tie
+
+abbrev Inv-loop : tie.InvT-loop
+Inv-loop text store₀ out₀ after₀ next₀ end₀ store out after next end = (next ≤ end) × (next ≤ length text) × (length store ≡ length store₀) × (length out ≡ length out₀)
+
+abbrev μ-loop : tie.MeasureT-loop
+μ-loop text store₀ out₀ after₀ next₀ end₀ store out after next end = length text - next
+
+-- a line ends at its start or later
+end-after : (text : List ℕ) (from : ℕ) → from ≤ lineEnd text from
+unfolding lineEnd
+end-after text from = omega arith
+
+line-end-requires : tie.Need-line-end-requires Inv-loop μ-loop
+line-end-requires c κs = tt
+
+loop-holds : tie.Need-loop-holds Inv-loop μ-loop
+loop-holds c = (omega arith, omega arith, refl, refl)
+
+sub-answer : tie.Need-sub-answer Inv-loop μ-loop
+sub-answer c = c .before .loop .inv .0
+
+part-answer-start : tie.Need-part-answer-start Inv-loop μ-loop
+part-answer-start c = c .before .loop .inv .0
+
+part-answer-end : tie.Need-part-answer-end Inv-loop μ-loop
+part-answer-end c = omega arith
+
+answer-requires : tie.Need-answer-requires Inv-loop μ-loop
+answer-requires c κs = tt
+
+add-next : tie.Need-add-next Inv-loop μ-loop
+add-next c = omega arith
+
+same-length : tie.Need-same-length Inv-loop μ-loop
+same-length c = c .before .before .before .before .before .before .before .answer .kept .1 .1 .0 ∙ c .before .before .before .before .before .before .before .before .before .before .before .before .loop .inv .2
+
+same-length-2 : tie.Need-same-length-2 Inv-loop μ-loop
+same-length-2 c = c .before .before .before .before .before .before .before .answer .kept .1 .1 .1 .0 ∙ c .before .before .before .before .before .before .before .before .before .before .before .before .loop .inv .3
+
+returns : tie.Need-returns Inv-loop μ-loop
+returns c = omega arith
+
+line-end-requires-2 : tie.Need-line-end-requires-2 Inv-loop μ-loop
+line-end-requires-2 c κs = tt
+
+loop-less : tie.Need-loop-less Inv-loop μ-loop
+loop-less c = omega (arith, c .before .before .before .before .before .before .before .before .before .before .before .before .before .loop .inv .0)
+
+loop-again : tie.Need-loop-again Inv-loop μ-loop
+loop-again c =
+    let inv = c .before .before .before .before .before .before .before .before .before .before .before .before .before .loop .inv in
+    let kept = c .before .before .before .before .before .before .before .before .answer .kept in
+    (omega (arith, c .line-end2 .ensures, end-after (now (c .before .before .before .before .before .before .before .before .before .before .before .before .before .before .before .before .before .before .args .text)) (c .before .before .before .before .before .before .before .before .before .before .before .before .before .loop .end + 1)), omega arith, kept .1 .1 .0 ∙ inv .2, kept .1 .1 .1 .0 ∙ inv .3)
+
+same-length-3 : tie.Need-same-length-3 Inv-loop μ-loop
+same-length-3 c = c .before .loop .inv .2
+
+same-length-4 : tie.Need-same-length-4 Inv-loop μ-loop
+same-length-4 c = c .before .loop .inv .3
+
+returns-2 : tie.Need-returns-2 Inv-loop μ-loop
+returns-2 c = c .before .loop .inv .1
+
+pub replay-lines-spec : {M : Type 1} → statement M
+replay-lines-spec =
+    tie.close
+    (tie.spec
+    Inv-loop
+    μ-loop
+    line-end-requires
+    loop-holds
+    sub-answer
+    part-answer-start
+    part-answer-end
+    answer-requires
+    add-next
+    same-length
+    same-length-2
+    returns
+    line-end-requires-2
+    loop-less
+    loop-again
+    same-length-3
+    same-length-4
+    returns-2)

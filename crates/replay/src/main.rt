@@ -1,0 +1,158 @@
+// Replays a log of the yard: each line of standard input is one call of 01, and its answer one line of standard output.
+use libc::STDIN_FILENO;
+use libc::STDOUT_FILENO;
+use slots::State;
+ghost use mathlib.Core.Path.{_≡_};
+ghost use Prim.Native.Nat.{_+_, _≤_, _<_, min};
+ghost use lib.ListN.{length};
+
+// So much of a line is kept as shows that it is too long to be read.
+const KEPT: usize = 200001;
+
+// Where a text's unfinished last line starts, with the state after its whole lines; `going` until an answer can't be written.
+struct Progress {
+    state: State,
+    next: usize,
+    going: bool,
+}
+
+// The state after a line's call, and whether its answer could be written.
+struct Told {
+    state: State,
+    going: bool,
+}
+
+fn main() {
+    let mut text = text_room();
+    let mut store = store_room();
+    let mut out = answer_room();
+    replay_input(&mut text, &mut store, &mut out);
+}
+
+// Room for the longest line that is read, and for what comes behind it.
+fn text_room() -> [u8; 262144]
+    ensures { λ r. ⌜ 262144 ≡ length r ⌝ }
+{
+    [0; 262144]
+}
+
+// Room for S·M at most 3; a larger S·M meets number 5.
+fn store_room() -> [u8; 55584]
+    ensures { λ r. ⌜ 55584 ≡ length r ⌝ }
+{
+    [0; 55584]
+}
+
+// Room for the longest answer: a codeword of 172,800 bits with `ok`, a tab and a newline.
+fn answer_room() -> [u8; 172804]
+    ensures { λ r. ⌜ 172804 ≡ length r ⌝ }
+{
+    [0; 172804]
+}
+
+// Before the first `new` the state is that of a refused New. A proved loop has to end, and nothing says that an input does: so it
+// counts its turns down, from a number that no run uses up.
+fn replay_input(text: &mut [u8], store: &mut [u8], out: &mut [u8])
+    requires { ⌜ 200001 < length (now text) ⌝ }
+{
+    let begun = slots::new(0, 0);
+    let mut state = begun.state;
+    let mut have = 0;
+    let mut got = read_more(text, 0);
+    let mut turns = u64::MAX;
+    while 0 < got {
+        if turns == 0 {
+            return;
+        }
+        turns -= 1;
+        let end = have + got;
+        let progress = replay_lines(state, &text[..end], store, out);
+        if !progress.going {
+            return;
+        }
+        state = progress.state;
+        have = keep(text, progress.next, end);
+        got = read_more(text, have);
+    }
+    if have > 0 {
+        answer(state, &text[..have], store, out);
+    }
+}
+
+// One read to the place `have` and what follows it: how many bytes came, 0 at the end.
+fn read_more(text: &mut [u8], have: usize) -> usize
+    requires { ⌜ have ≤ length (now text) ⌝ }
+    ensures { λ r. ⌜ have + r ≤ length (now (text .exit)) ⌝ }
+{
+    let got = libc::read(STDIN_FILENO, &mut text[have..]);
+    io::count(got, &text[have..])
+}
+
+// Answers each whole line of the text.
+fn replay_lines(state: State, text: &[u8], store: &mut [u8], out: &mut [u8]) -> Progress
+    ensures { λ r. ⌜ r .next ≤ length (now (text .entry)) ⌝ }
+{
+    let mut after = state;
+    let mut next = 0;
+    let mut end = lines::line_end(text, 0);
+    while end < text.len() {
+        let told = answer(after, &text[next..end], store, out);
+        after = told.state;
+        next = end + 1;
+        if !told.going {
+            return Progress {
+                state: after,
+                next,
+                going: false,
+            };
+        }
+        end = lines::line_end(text, next);
+    }
+    Progress {
+        state: after,
+        next,
+        going: true,
+    }
+}
+
+// Makes a line's call and writes its answer.
+fn answer(state: State, line: &[u8], store: &mut [u8], out: &mut [u8]) -> Told {
+    let step = yard::replay_line(state, line, store, out);
+    let after = step.state;
+    let written = step.written;
+    let going = io::write_all(STDOUT_FILENO, &out[..written]);
+    Told {
+        state: after,
+        going,
+    }
+}
+
+// Moves an unfinished line to the front of the text, to be gone on with by the next read, and tells how much of it is kept. What a
+// line of more than 200,001 bytes loses here would not change its answer.
+fn keep(text: &mut [u8], from: usize, end: usize) -> usize
+    requires { ⌜ (from ≤ end) × (end ≤ length (now text)) ⌝ }
+    ensures { λ r. ⌜ r ≤ 200001 ⌝ }
+{
+    let kept = kept_of(end - from);
+    if 0 < from {
+        move_down(text, from, kept);
+    }
+    kept
+}
+
+// How much of so many bytes is kept.
+fn kept_of(count: usize) -> usize
+    ensures { λ r. ⌜ r ≡ min count 200001 ⌝ }
+{
+    if count < KEPT { count } else { KEPT }
+}
+
+fn move_down(text: &mut [u8], from: usize, count: usize)
+    requires { ⌜ from + count ≤ length (now text) ⌝ }
+{
+    let mut i = 0;
+    while i < count {
+        text[i] = text[from + i];
+        i += 1;
+    }
+}

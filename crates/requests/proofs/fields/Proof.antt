@@ -1,0 +1,36 @@
+-- `requests::fields` meets its contract: number by number.
+-- Assumes nothing.
+use borrow.Author.Needs.{needs}
+use Rattle.requests.specs.Numbers.{fields}
+use Rattle.requests.proofs.fields.Statement.{statement}
+use Rattle.requests.proofs.fields.Tie as tie
+
+number-at-requires : tie.Need-number-at-requires
+number-at-requires c κs = search needs
+
+number-at-requires-2 : tie.Need-number-at-requires-2
+number-at-requires-2 c κs = search needs
+
+number-at-requires-3 : tie.Need-number-at-requires-3
+number-at-requires-3 c κs = search needs
+
+number-at-requires-4 : tie.Need-number-at-requires-4
+number-at-requires-4 c κs = search needs
+
+number-at-requires-5 : tie.Need-number-at-requires-5
+number-at-requires-5 c κs = search needs
+
+returns : tie.Need-returns
+unfolding fields
+returns c = cc
+
+pub fields-spec : {M : Type 1} → statement M
+fields-spec =
+    tie.close
+    (tie.spec
+    number-at-requires
+    number-at-requires-2
+    number-at-requires-3
+    number-at-requires-4
+    number-at-requires-5
+    returns)

@@ -1,0 +1,36 @@
+-- `requests::says_number` meets its contract: what `lines::read_number` says of the word.
+-- Assumes nothing.
+use mathlib.Core.Path.{sym, _∙_, ap}
+use borrow.Author.Needs.{needs}
+use Rattle.lines.specs.Line.{lineOf}
+use Rattle.requests.specs.Numbers.{isNumber, saysNumber}
+use Rattle.requests.proofs.says_number.Statement.{statement}
+use Rattle.requests.proofs.says_number.Tie as tie
+
+word-requires : tie.Need-word-requires
+word-requires c κs = search needs
+
+read-number-requires : tie.Need-read-number-requires
+read-number-requires c κs = search needs
+
+enum-told : tie.Need-enum-told
+enum-told c = search needs
+
+enum-told-2 : tie.Need-enum-told-2
+enum-told-2 c = search needs
+
+returns : tie.Need-returns
+unfolding saysNumber isNumber
+returns c =
+    let read = c .before .before .read-number .ensures ∙ ap (lineOf 6) (c .before .before .before .word .ensures) in
+    ap isNumber (sym (c .enum-told .given .1) ∙ read)
+
+returns-2 : tie.Need-returns-2
+unfolding saysNumber isNumber
+returns-2 c =
+    let read = c .before .before .read-number .ensures ∙ ap (lineOf 6) (c .before .before .before .word .ensures) in
+    ap isNumber (sym (c .enum-told2 .given .1) ∙ read)
+
+pub says-number-spec : {M : Type 1} → statement M
+says-number-spec =
+    tie.close (tie.spec word-requires read-number-requires enum-told enum-told-2 returns returns-2)

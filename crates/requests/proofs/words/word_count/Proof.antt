@@ -1,0 +1,56 @@
+-- `requests::words::word_count` meets its contract: a loop that counts blanks, with the laws of `WordLaws`.
+-- Assumes nothing.
+use Prim.Native.Nat.{_-_}
+use native.Mathlib.Omega.{arith}
+use lib.Dec.{eqb}
+use lib.ListN.{length, getD}
+use denote.Ref.{now}
+use Rattle.requests.specs.Words.{blank}
+use Rattle.requests.proofs.WordLaws.{byte-le, Counting, start, next, finish}
+use Rattle.requests.proofs.words.word_count.Statement.{statement}
+use Rattle.requests.proofs.words.word_count.Tie as tie
+
+abbrev Inv-loop : tie.InvT-loop
+Inv-loop line n₀ i₀ n i = Counting line n i
+
+abbrev μ-loop : tie.MeasureT-loop
+μ-loop line n₀ i₀ n i = length line - i
+
+loop-holds : tie.Need-loop-holds Inv-loop μ-loop
+loop-holds c = start _
+
+shared-slice-read-n : tie.Need-shared-slice-read-n Inv-loop μ-loop
+shared-slice-read-n c = omega arith
+
+cast-n : tie.Need-cast-n Inv-loop μ-loop
+cast-n c = tt
+
+add-n : tie.Need-add-n Inv-loop μ-loop
+add-n c = omega (arith, byte-le (eqb (getD (now (c .before .before .before .args .line)) (c .before .before .loop .i) 0) blank))
+
+add-i : tie.Need-add-i Inv-loop μ-loop
+add-i c = omega arith
+
+loop-less : tie.Need-loop-less Inv-loop μ-loop
+loop-less c = omega arith
+
+loop-again : tie.Need-loop-again Inv-loop μ-loop
+loop-again c = next (c .before .before .loop .inv) (omega arith)
+
+returns : tie.Need-returns Inv-loop μ-loop
+returns c = finish (c .before .loop .inv) (omega arith)
+
+pub word-count-spec : {M : Type 1} → statement M
+word-count-spec =
+    tie.close
+    (tie.spec
+    Inv-loop
+    μ-loop
+    loop-holds
+    shared-slice-read-n
+    cast-n
+    add-n
+    add-i
+    loop-less
+    loop-again
+    returns)

@@ -1,0 +1,69 @@
+// The verbs of a log: the word of each, and what follows it.
+use crate::Form;
+use crate::Verb;
+use crate::words::same_bytes;
+ghost use mathlib.Core.Path.{_≡_};
+ghost use mathlib.Core.Bool.{cond};
+ghost use Rattle.requests.specs.Words.{sameBytes};
+ghost use Rattle.requests.specs.Verbs.{verbOf, form, noForm, formOf};
+
+// The verb that a word names.
+pub(crate) fn verb_of(word: &[u8]) -> Verb
+    ensures { λ r. ⌜ r ≡ verbOf (now (word .entry)) ⌝ }
+{
+    let v8 = named(word, b"sizes", Verb::Sizes, Verb::Unreadable);
+    let v7 = named(word, b"build", Verb::Build, v8);
+    let v6 = named(word, b"streams", Verb::Streams, v7);
+    let v5 = named(word, b"read", Verb::Read, v6);
+    let v4 = named(word, b"receive", Verb::Receive, v5);
+    let v3 = named(word, b"close", Verb::Close, v4);
+    let v2 = named(word, b"open", Verb::Open, v3);
+    named(word, b"new", Verb::New, v2)
+}
+
+// This verb where the word is its name, else the other.
+fn named(word: &[u8], name: &[u8], verb: Verb, other: Verb) -> Verb
+    ensures { λ r. ⌜ r ≡ cond (sameBytes (now (word .entry)) (now (name .entry))) verb other ⌝ }
+{
+    if same_bytes(word, name) { verb } else { other }
+}
+
+// What follows a verb.
+pub(crate) fn form_of(verb: Verb) -> Form
+    ensures { λ r. ⌜ r ≡ formOf verb ⌝ }
+{
+    match verb {
+        Verb::New => form(2, false, false),
+        Verb::Open => form(3, true, false),
+        Verb::Close => form(2, true, false),
+        Verb::Receive => form(5, true, true),
+        Verb::Read => form(2, true, false),
+        Verb::Streams => form(3, true, false),
+        Verb::Build => form(4, false, true),
+        Verb::Sizes => form(1, false, false),
+        Verb::Nothing => no_form(),
+        Verb::Unreadable => no_form(),
+    }
+}
+
+fn form(numbers: usize, terminal: bool, bits: bool) -> Form
+    ensures { λ r. ⌜ r ≡ form numbers terminal bits ⌝ }
+{
+    Form {
+        known: true,
+        numbers,
+        terminal,
+        bits,
+    }
+}
+
+fn no_form() -> Form
+    ensures { λ r. ⌜ r ≡ noForm ⌝ }
+{
+    Form {
+        known: false,
+        numbers: 0,
+        terminal: false,
+        bits: false,
+    }
+}

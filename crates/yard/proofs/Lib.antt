@@ -1,0 +1,3 @@
+pub mod Wrote
+pub mod Given
+pub mod Steps

@@ -1,0 +1,80 @@
+-- `yard::received` meets its contract: the line's BITS are what the call is given.
+-- Assumes nothing.
+use mathlib.Core.Path.{_≡_}
+use Prim.Native.Nat.{_≤_}
+use native.Mathlib.Omega.{arith}
+use lib.ListN.{length, take}
+use denote.Ref.{now}
+use Rattle.laws.proofs.Parts.{front-count}
+use Rattle.requests.specs.Request.{bitsFrom}
+use Rattle.yard.proofs.Given.{given-bits}
+use borrow.Author.Needs.{needs}
+use Rattle.yard.proofs.received.Statement.{statement}
+use Rattle.yard.proofs.received.Tie as tie
+
+bits-room-requires : tie.Need-bits-room-requires
+bits-room-requires c κs = search needs
+
+slice-aggregate-read-bits : tie.Need-slice-aggregate-read-bits
+slice-aggregate-read-bits c = search needs
+
+read-bits-requires : tie.Need-read-bits-requires
+read-bits-requires c κs = search needs
+
+array-read-terminal : tie.Need-array-read-terminal
+array-read-terminal c = search needs
+
+cast-terminal : tie.Need-cast-terminal
+cast-terminal c = search needs
+
+array-read-receive : tie.Need-array-read-receive
+array-read-receive c = search needs
+
+array-read-receive-2 : tie.Need-array-read-receive-2
+array-read-receive-2 c = search needs
+
+array-read-receive-3 : tie.Need-array-read-receive-3
+array-read-receive-3 c = search needs
+
+array-read-receive-4 : tie.Need-array-read-receive-4
+array-read-receive-4 c = search needs
+
+array-share-prefix-given : tie.Need-array-share-prefix-given
+array-share-prefix-given c =
+    let bits = c .before .read-bits in
+    let args = c .before .before .before .before .before .before .args in
+    omega (arith, given-bits (now (args .line)) (args .from) _ (omega (arith, c .before .before .before .before .before .before .pre, c .before .before .before .bits-room .ensures)) (bits .ensures .0) (bits .ensures .1) .0, bits .kept .1 .1 .0)
+
+slice-aggregate-receive : tie.Need-slice-aggregate-receive
+slice-aggregate-receive c = front-count _ _ (array-share-prefix-given (c .before))
+
+receive-requires : tie.Need-receive-requires
+receive-requires c κs = search needs
+
+same-length : tie.Need-same-length
+same-length c = search needs
+
+returns : tie.Need-returns
+returns c =
+    let args = c .before .before .before .before .before .before .before .before .before .before .before .args in
+    let bits = c .before .before .before .before .before .before .read-bits in
+    rw (given-bits (now (args .line)) (args .from) _ (omega (arith, c .before .before .before .before .before .before .before .before .before .before .before .pre .0, c .before .before .before .before .before .before .before .before .bits-room .ensures)) (bits .ensures .0) (bits .ensures .1) .1) at (c .before .before .receive .ensures)
+
+pub received-spec : {M : Type 1} → statement M
+received-spec =
+    tie.close
+    (tie.spec
+    bits-room-requires
+    slice-aggregate-read-bits
+    read-bits-requires
+    array-read-terminal
+    cast-terminal
+    array-read-receive
+    array-read-receive-2
+    array-read-receive-3
+    array-read-receive-4
+    array-share-prefix-given
+    slice-aggregate-receive
+    receive-requires
+    same-length
+    returns)

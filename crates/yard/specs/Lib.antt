@@ -1,0 +1,4 @@
+pub mod Rooms
+pub mod Done
+pub mod Rows
+pub mod Step

@@ -1,0 +1,46 @@
+-- What a replayed log answers to a call that gives bits: Read, Streams and Build.
+-- Assumes nothing.
+use mathlib.Core.Bool.{cond}
+use mathlib.Core.List.{List}
+use Prim.Native.Nat.{ℕ, _+_}
+use lib.Dec.{eqb}
+use lib.ListN.{length}
+use Rattle.laws.specs.Lists.{tab}
+use Rattle.segmentation.specs.Segmentation.{sizeOf}
+use Rattle.codeword.specs.Codeword.{codeword}
+use Rattle.codeword.specs.Build.{buildNumber}
+use Rattle.slots.specs.declared.State.{State}
+use Rattle.slots.specs.Reading.{heardBlock, streamByte}
+use Rattle.slots.specs.Calls.{sizeAtHead, released, readOutcome, streamsNumber, streamsOutcome}
+use Rattle.answers.specs.Rows.{answerRow, refusalRow, runRow, runsRow}
+use Rattle.yard.specs.Rooms.{readRoom, streamsRoom, buildRoom}
+
+-- the block where it is released, else the refusal
+unfoldable pub readRow : State → List ℕ → ℕ → ℕ → List ℕ
+readRow state store slot terminal =
+    cond (released state store slot terminal readRoom)
+    (runRow (heardBlock (state .blocks) slot (sizeAtHead state slot) store))
+    (answerRow (readOutcome state store slot terminal readRoom .answer))
+
+-- D of code block r of a slot
+unfoldable pub streamLength : State → ℕ → ℕ → ℕ
+streamLength state slot r = sizeOf (sizeAtHead state slot + 24) r + 4
+
+-- stream s of code block r of a slot
+unfoldable pub streamRun : State → List ℕ → ℕ → ℕ → ℕ → List ℕ
+streamRun state store slot r s =
+    tab (streamLength state slot r) (streamByte (state .blocks) slot (sizeAtHead state slot + 24) store r s)
+
+-- the three streams, or the refusal
+unfoldable pub streamsRow : State → List ℕ → ℕ → ℕ → ℕ → List ℕ
+streamsRow state store slot terminal r =
+    cond (eqb (streamsNumber state (length store) slot terminal r streamsRoom) 0)
+    (runsRow (streamRun state store slot r 0) (streamRun state store slot r 1) (streamRun state store slot r 2))
+    (answerRow (streamsOutcome state (length store) slot terminal r streamsRoom .answer))
+
+-- the codeword, or the refusal
+unfoldable pub buildRow : List ℕ → ℕ → ℕ → ℕ → ℕ → List ℕ
+buildRow block Q N v G =
+    cond (eqb (buildNumber block Q N v G buildRoom) 0)
+    (runRow (codeword block Q N v G))
+    (refusalRow (buildNumber block Q N v G buildRoom))

@@ -1,0 +1,352 @@
+#!/usr/bin/env python3
+"""Draws the pictures of docs/pictures from the tables that `independent figures` prints.
+
+    independent figures | python3 scripts/pictures.py FOLDER
+
+Standard library only. The same tables always give the same bytes.
+"""
+
+import math
+import os
+import sys
+from itertools import groupby
+
+FONT = "DejaVu Sans, Verdana, Arial, sans-serif"
+INK = "#222222"
+FAINT = "#cccccc"
+WIDTH = 800
+
+# Colours that differ in lightness too, after Okabe and Ito.
+KINDS = {"data": "#0072b2", "parity": "#e69f00", "tail": "#444444"}
+SHADES = {"first": 1.0, "second": 0.45, "rest": 0.13}
+VERSIONS = [("#0072b2", ""), ("#d55e00", "9 4"), ("#009e73", "2 3"), ("#aa4488", "10 3 2 3")]
+
+
+def read_tables(text):
+    """The tables by name, each a list of rows, each row a dictionary by column."""
+    tables, headers = {}, {}
+    for line in text.splitlines():
+        name, *fields = line.split("\t")
+        if name not in headers:
+            headers[name], tables[name] = fields, []
+        else:
+            values = [int(field) if field.isdigit() else field for field in fields]
+            tables[name].append(dict(zip(headers[name], values)))
+    return tables
+
+
+def number(value):
+    """A number with commas between thousands."""
+    return f"{value:,}"
+
+
+def tint(colour, share):
+    """A colour mixed with white."""
+    parts = [int(colour[at:at + 2], 16) for at in (1, 3, 5)]
+    return "#" + "".join(f"{round(255 - (255 - part) * share):02x}" for part in parts)
+
+
+def short(value):
+    """A coordinate, at most two decimals."""
+    return f"{value:.2f}".rstrip("0").rstrip(".")
+
+
+class Picture:
+    """An SVG under construction."""
+
+    def __init__(self, height, title, description):
+        self.lines = [
+            f'<svg xmlns="http://www.w3.org/2000/svg" viewBox="0 0 {WIDTH} {height}" width="{WIDTH}" '
+            f'height="{height}" font-family="{FONT}" role="img">',
+            f"<title>{title}</title>",
+            f"<desc>{description}</desc>",
+            f'<rect width="{WIDTH}" height="{height}" fill="#ffffff"/>',
+        ]
+        self.text(WIDTH / 2, 32, title, size=20, anchor="middle", bold=True)
+
+    def add(self, element):
+        self.lines.append(element)
+
+    def text(self, x, y, words, size=13, anchor="start", bold=False, colour=INK, upright=False):
+        turn = f' transform="rotate(-90 {short(x)} {short(y)})"' if upright else ""
+        weight = ' font-weight="bold"' if bold else ""
+        self.add(f'<text x="{short(x)}" y="{short(y)}" font-size="{size}" text-anchor="{anchor}" '
+                 f'fill="{colour}"{weight}{turn}>{words}</text>')
+
+    def line(self, x1, y1, x2, y2, colour=INK, width=1, dash=""):
+        dashes = f' stroke-dasharray="{dash}"' if dash else ""
+        self.add(f'<line x1="{short(x1)}" y1="{short(y1)}" x2="{short(x2)}" y2="{short(y2)}" '
+                 f'stroke="{colour}" stroke-width="{width}"{dashes}/>')
+
+    def rect(self, x, y, width, height, fill, stroke="none"):
+        self.add(f'<rect x="{short(x)}" y="{short(y)}" width="{short(width)}" height="{short(height)}" '
+                 f'fill="{fill}" stroke="{stroke}"/>')
+
+    def badge(self, x, y, version, radius=9):
+        """A version's number in a ring."""
+        self.add(f'<circle cx="{short(x)}" cy="{short(y)}" r="{radius}" fill="#ffffff" stroke="{INK}" '
+                 'stroke-width="1.5"/>')
+        self.text(x, y + 4.5, version, size=12, anchor="middle", bold=True)
+
+    def save(self, folder, name):
+        with open(os.path.join(folder, name), "w", encoding="utf-8", newline="\n") as file:
+            file.write("\n".join(self.lines) + "\n</svg>\n")
+
+
+# Which part of the circle each version sends.
+
+RADII = [(121, 145), (91, 115), (61, 85), (31, 55)]
+
+
+def draw_circles(tables, folder):
+    picture = Picture(
+        740, "Which part of the circle each version sends",
+        "Two circles, for K = 40 and K = 6,144. Four rings in each, one a version, show the places sent by the "
+        "first K bits and by the next K, data and parity in two colours.")
+    picture.text(400, 56, "One code block without filler. A transmission starts at place R·(24·version + 2) and goes "
+                 "clockwise,", anchor="middle")
+    picture.text(400, 74, "passing over dummies. The rings, from outside to inside: versions 0, 1, 2, 3.", anchor="middle")
+    for circle, x in zip(tables["circle"], (200, 590)):
+        draw_circle(picture, tables, circle, x, 304)
+        draw_counts(picture, tables, circle, x, 510)
+    draw_circle_legend(picture, 654)
+    picture.save(folder, "versions-on-the-circle.svg")
+
+
+def of(table, circle, **wanted):
+    """The rows of a table that belong to a circle."""
+    return [row for row in table if row["K"] == circle["K"] and all(row[key] == wanted[key] for key in wanted)]
+
+
+def point(x, y, radius, share):
+    """The point at a share of the turn, clockwise from the top."""
+    angle = 2 * math.pi * share
+    return x + radius * math.sin(angle), y - radius * math.cos(angle)
+
+
+def kinds_of_places(tables, circle):
+    """What each place holds. On a large circle, dummies and tails are too thin to be seen."""
+    kinds = []
+    for part in of(tables["part"], circle):
+        kind = part["holds"]
+        if circle["places"] > 1000 and kind in ("dummy", "tail"):
+            kind = "data" if part["from"] < circle["places"] / 3 else "parity"
+        kinds += [kind] * (part["to"] - part["from"])
+    return kinds
+
+
+def draw_circle(picture, tables, circle, x, y):
+    k, places = circle["K"], circle["places"]
+    picture.text(x, y - 194, f"K = {number(k)}, R = {circle['R']}: {number(places)} places", size=15,
+                 anchor="middle", bold=True)
+    kinds = kinds_of_places(tables, circle)
+    starts = []
+    for version, (inner, outer) in enumerate(RADII):
+        first, second = of(tables["sent"], circle, version=version)
+        starts.append(first["start"])
+        walked = [(place - first["start"]) % places for place in range(places)]
+        shades = ["first" if at < first["places"] else "second" if at < second["places"] else "rest" for at in walked]
+        draw_ring(picture, list(zip(kinds, shades)), x, y, inner, outer)
+    draw_marks(picture, x, y, starts, places)
+    for version, ((inner, outer), start) in enumerate(zip(RADII, starts)):
+        picture.badge(*point(x, y, (inner + outer) / 2, start / places), version)
+
+
+def draw_ring(picture, cells, x, y, inner, outer):
+    """A ring of cells, each a kind and a shade, drawn in runs of like ones; dummies are left white."""
+    at = 0
+    for (kind, shade), run in groupby(cells):
+        length = len(list(run))
+        if kind != "dummy":
+            sector(picture, x, y, inner, outer, at / len(cells), (at + length) / len(cells),
+                   tint(KINDS[kind], SHADES[shade]))
+        at += length
+    for radius in (inner, outer):
+        picture.add(f'<circle cx="{x}" cy="{y}" r="{radius}" fill="none" stroke="{FAINT}" stroke-width="0.7"/>')
+
+
+def sector(picture, x, y, inner, outer, begin, end, fill):
+    large = 1 if end - begin > 0.5 else 0
+    corners = [point(x, y, outer, begin), point(x, y, outer, end), point(x, y, inner, end), point(x, y, inner, begin)]
+    a, b, c, d = [f"{short(cx)} {short(cy)}" for cx, cy in corners]
+    picture.add(f'<path d="M{a}A{outer} {outer} 0 {large} 1 {b}L{c}A{inner} {inner} 0 {large} 0 {d}Z" fill="{fill}"/>')
+
+
+def draw_marks(picture, x, y, starts, places):
+    """The two borders between streams and the starts, outside the rings; an arrow for the way round."""
+    rim = RADII[0][1]
+    for place, anchor, shift in [(0, "end", -3), (places // 3, "start", 6)]:
+        picture.line(*point(x, y, 26, place / places), *point(x, y, rim + 8, place / places), width=1.5, dash="3 2")
+        label_x, label_y = point(x, y, rim + 13, place / places)
+        picture.text(label_x + shift, label_y + 6, number(place), anchor=anchor, bold=True)
+    for place, anchor, shift in zip(starts, ("start", "start", "end", "end"), (2, 0, 4, 0)):
+        picture.line(*point(x, y, rim, place / places), *point(x, y, rim + 8, place / places), width=1.5)
+        label_x, label_y = point(x, y, rim + 13, place / places)
+        picture.text(label_x + shift, label_y + 6, number(place), anchor=anchor)
+    picture.add(f'<path d="M{x} {y - 14}A14 14 0 1 1 {x - 14} {y}" fill="none" stroke="{INK}" stroke-width="1.5"/>')
+    picture.add(f'<path d="M{x - 14} {y - 6}L{x - 18} {y + 2}L{x - 10} {y + 2}Z" fill="{INK}"/>')
+
+
+def draw_counts(picture, tables, circle, x, y):
+    """How many data places each version hears."""
+    k = circle["K"]
+    picture.text(x, y, f"data places heard, of {number(k)}", anchor="middle", bold=True)
+    columns = [(x - 150, "start"), (x + 40, "end"), (x + 150, "end")]
+    heads = ["", f"{number(k)} bits", f"{number(2 * k)} bits"]
+    rows = [heads]
+    for version in range(4):
+        heard = [number(row["heard"]) for row in of(tables["sent"], circle, version=version)]
+        rows.append([f"version {version}", *heard])
+    for at, row in enumerate(rows):
+        for (column, anchor), words in zip(columns, row):
+            picture.text(column, y + 22 + 20 * at, words, anchor=anchor)
+    picture.line(x - 150, y + 28, x + 150, y + 28, colour=FAINT)
+
+
+def draw_circle_legend(picture, y):
+    kinds = [("data", "data (stream 0)"), ("parity", "parity (streams 1, 2)"), ("tail", "tail bits")]
+    shades = [("first", "sent by the first K bits"), ("second", "by the next K bits"), ("rest", "by neither")]
+    for (kind, words), x in zip(kinds, (70, 270, 500)):
+        picture.rect(x, y - 12, 22, 14, KINDS[kind])
+        picture.text(x + 30, y, words)
+    picture.badge(641, y - 5, "0")
+    picture.text(656, y, "start of version 0")
+    for (shade, words), x in zip(shades, (70, 320, 530)):
+        picture.rect(x, y + 14, 22, 14, tint(KINDS["data"], SHADES[shade]))
+        picture.rect(x + 24, y + 14, 22, 14, tint(KINDS["parity"], SHADES[shade]))
+        picture.text(x + 54, y + 26, words)
+    picture.text(70, y + 54, "White gaps at K = 40 are dummies, which are never sent; at K = 6,144 dummies and tail bits "
+                 "are too thin to be", size=12)
+    picture.text(70, y + 70, "seen. Numbers round a circle are places on it; dashed lines part stream 0 from streams 1 "
+                 "and 2 by turns.", size=12)
+
+
+# How many data places are heard against bits received.
+
+
+class Panel:
+    """A frame with axes."""
+
+    def __init__(self, picture, x, y, most_bits, most_heard):
+        self.picture, self.x, self.y = picture, x, y
+        self.width, self.height = 300, 210
+        self.most_bits, self.most_heard = most_bits, most_heard
+
+    def at(self, bits, heard):
+        return (self.x + self.width * bits / self.most_bits, self.y + self.height * (1 - heard / self.most_heard))
+
+    def axes(self, bit_ticks, heard_ticks):
+        picture = self.picture
+        for heard in heard_ticks:
+            x, y = self.at(0, heard)
+            picture.line(x, y, x + self.width, y, colour=FAINT)
+            picture.text(x - 7, y + 4.5, number(heard), size=12, anchor="end")
+        for bits in bit_ticks:
+            x, y = self.at(bits, 0)
+            picture.line(x, y, x, y + 5)
+            picture.text(x, y + 19, number(bits), size=12, anchor="middle")
+        picture.line(self.x, self.y - 8, self.x, self.y + self.height)
+        picture.line(self.x, self.y + self.height, self.x + self.width, self.y + self.height)
+        picture.text(self.x + self.width / 2, self.y + self.height + 38, "bits received", anchor="middle")
+        picture.text(self.x - 52, self.y + self.height / 2, "data places heard", anchor="middle", upright=True)
+
+    def curve(self, corners, colour, dash="", width=2.5):
+        points = " ".join(",".join(short(part) for part in self.at(row["bits"], row["heard"])) for row in corners)
+        dashes = f' stroke-dasharray="{dash}"' if dash else ""
+        self.picture.add(f'<polyline points="{points}" fill="none" stroke="{colour}" stroke-width="{width}" '
+                         f'stroke-linejoin="round"{dashes}/>')
+
+    def dot(self, bits, heard, colour):
+        x, y = self.at(bits, heard)
+        self.picture.add(f'<circle cx="{short(x)}" cy="{short(y)}" r="4" fill="{colour}"/>')
+
+
+def draw_curves(tables, folder):
+    picture = Picture(
+        800, "How many data places are heard, by bits received",
+        "Four panels: for K = 40 and K = 6,144, each version alone, and four transmissions of 24·R bits in the "
+        "order 0, 2, 3, 1.")
+    picture.text(400, 56, "One code block without filler. It can be read as soon as all its K data places are heard.",
+                 anchor="middle")
+    quarters = [number(circle["quarter"]) for circle in tables["circle"]]
+    picture.text(232, 88, "One version alone", size=15, anchor="middle", bold=True)
+    picture.text(622, 88, "Together, in the order 0, 2, 3, 1", size=15, anchor="middle", bold=True)
+    ticks = {40: range(0, 121, 20), 6144: range(0, 16001, 4000)}
+    for circle, y in zip(tables["circle"], (140, 460)):
+        draw_alone(picture, tables, circle, 82, y, ticks[circle["K"]])
+        draw_together(picture, tables, circle, 472, y)
+    draw_curve_legend(picture, quarters, 742)
+    picture.save(folder, "data-places-heard.svg")
+
+
+def heard_ticks(circle):
+    return [circle["K"] * part // 4 for part in range(5)]
+
+
+def draw_alone(picture, tables, circle, x, y, ticks):
+    k = circle["K"]
+    panel = Panel(picture, x, y, circle["bits"] * 1.06, k)
+    panel.axes(ticks, heard_ticks(circle))
+    picture.text(x + 6, y - 30, f"K = {number(k)}", bold=True)
+    for row in of(tables["needed"], circle):
+        version, needed = row["version"], row["bits"]
+        colour, dash = VERSIONS[version]
+        corners = of(tables["alone"], circle, version=version)
+        panel.curve([corner for corner in corners if corner["bits"] <= needed], colour, dash)
+        panel.dot(needed, k, colour)
+        if version > 0:
+            dot_x, dot_y = panel.at(needed, k)
+            picture.text(dot_x, dot_y - 10, number(needed), size=12, anchor="middle")
+    for version in range(4):
+        corners = of(tables["alone"], circle, version=version)
+        picture.badge(*panel.at(crossing(corners, k / 2), k / 2), version)
+
+
+def crossing(corners, heard):
+    """Where a curve reaches a number of data places."""
+    for before, after in zip(corners, corners[1:]):
+        if after["heard"] >= heard:
+            return before["bits"] + heard - before["heard"]
+    return corners[-1]["bits"]
+
+
+def draw_together(picture, tables, circle, x, y):
+    k, quarter = circle["K"], circle["quarter"]
+    corners = of(tables["together"], circle)
+    panel = Panel(picture, x, y, 4 * quarter, k)
+    order = corners[-1]["versions"].split(" ")
+    for at, version in enumerate(order):
+        left, top = panel.at(at * quarter, k)
+        picture.rect(left, top, panel.width / 4, panel.height, tint(VERSIONS[int(version)][0], 0.16))
+        picture.badge(left + panel.width / 8, y + panel.height - 16, version)
+    panel.axes(range(0, 4 * quarter + 1, quarter), heard_ticks(circle))
+    panel.curve(corners, INK, width=3)
+    complete = next(row["bits"] for row in corners if row["heard"] == k)
+    panel.dot(complete, k, INK)
+    dot_x, dot_y = panel.at(complete, k)
+    picture.text(dot_x, dot_y - 10, number(complete), size=12, anchor="middle")
+    picture.text(x + 6, y - 30, f"K = {number(k)}, {number(quarter)} bits each", bold=True)
+
+
+def draw_curve_legend(picture, quarters, y):
+    for version, (colour, dash) in enumerate(VERSIONS):
+        x = 60 + 175 * version
+        picture.line(x, y - 4, x + 50, y - 4, colour=colour, width=2.5, dash=dash)
+        picture.badge(x + 25, y - 4, version)
+        picture.text(x + 60, y, f"version {version}")
+    picture.text(60, y + 26, "Dots: all data places heard, after so many bits (versions 0 and 1 alone: all 3·D bits). "
+                 "Right: each transmission has", size=12)
+    picture.text(60, y + 43, f"24·R bits, a quarter of the circle's places: {quarters[0]} for K = 40, {quarters[1]} for "
+                 "K = 6,144.", size=12)
+
+
+def main():
+    if len(sys.argv) != 2:
+        sys.exit("usage: independent figures | pictures.py FOLDER")
+    tables = read_tables(sys.stdin.read())
+    draw_circles(tables, sys.argv[1])
+    draw_curves(tables, sys.argv[1])
+
+
+if __name__ == "__main__":
+    main()
