@@ -6,9 +6,10 @@ use mathlib.Core.List.{List, [], _∷_}
 use Prim.Native.Nat.{ℕ, zero, suc, _+_, _-_, _*_, _/_, _%_, _≤_, _<_}
 use native.Mathlib.Nat.{mul-le-mul}
 use native.Mathlib.Omega.{arith}
-use lib.Dec.{eqb, ltb}
+use lib.Dec.{eqb, ltb, lit<}
 use lib.Bits.{bitOr, bitAnd, or-lt, or-add-and, and-le-l, and-le-r}
 use borrow.Author.Tests.{eqb-true, eqb-false, ltb-true, ltb-false, lt-ltb, le-ltb, not-false}
+use Rattle.laws.specs.Bits.{AreBits}
 use Rattle.codeword.specs.Shares.{symbols, share}
 use Rattle.codeword.specs.Build.{badModulation, badLayers, badAllocation, shareOf, badBits}
 
@@ -80,3 +81,11 @@ seen-more a b = go (ltb 1 a) (ltb 1 b) refl refl
     go false false e f =
         let h : bitOr a b < 2 = or-lt 1 a b (omega (arith, ltb-false 1 a e)) (omega (arith, ltb-false 1 b f)) in
         le-ltb 1 (bitOr a b) (omega arith)
+
+-- ---- given bits
+
+pub given-bits : (a : List ℕ) → badBits a ≡ false → AreBits a
+unfolding badBits
+given-bits [] h i = lit< tt
+given-bits (x ∷ a) h zero = let both = or-false (ltb 1 x) (badBits a) h in omega (arith, ltb-false 1 x (both .0))
+given-bits (x ∷ a) h (suc i) = given-bits a (or-false (ltb 1 x) (badBits a) h .1) i

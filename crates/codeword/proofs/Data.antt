@@ -22,8 +22,8 @@ use Rattle.rate_matching.specs.Walk.{onCircle}
 use Rattle.rate_matching.specs.Places.{placeNumber, placeOf, InStreams, streamOf, entryOf}
 use Rattle.rate_matching.proofs.Circle.{circle-holds}
 use Rattle.rate_matching.proofs.Places.{place-on-circle, held-place}
+use Rattle.rate_matching.proofs.Alike.{Filled, streams-filled}
 use Rattle.codeword.specs.Codeword.{blockCircle}
-use Rattle.codeword.proofs.Alike.{Filled, streams-filled}
 
 -- ---- lists of bits
 

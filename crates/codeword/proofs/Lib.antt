@@ -4,6 +4,5 @@ pub mod Segmented
 pub mod Numbers
 pub mod Sent
 pub mod Taken
-pub mod Alike
 pub mod Data
 pub mod Stretches

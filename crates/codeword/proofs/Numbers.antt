@@ -52,6 +52,7 @@ accepted a Q N v G room h = (
     size = cleared (buildRules a Q N v G room) refl h tt 0;
     allocation = cleared (buildRules a Q N v G room) refl h tt 1;
     version = ltb-false 3 v (cleared (buildRules a Q N v G room) refl h tt 2);
+    bits = cleared (buildRules a Q N v G room) refl h tt 4;
   },
   ltb-false room G (cleared (buildRules a Q N v G room) refl h tt 3),
 )

@@ -1,14 +1,15 @@
 -- A code block's way through segmentation, turbo encoder and rate matcher gives the bits that the definition sends of it (clause 5.1.5's e_rk).
 -- Assumes nothing.
-use mathlib.Core.Path.{_≡_, refl, sym, _∙_, ap, ap₂}
-use mathlib.Core.Bool.{Bool, true, false, cond}
+use mathlib.Core.Path.{_≡_, refl, sym, _∙_, ap}
+use mathlib.Core.Bool.{true, cond}
 use mathlib.Core.List.{List, _++_}
-use Prim.Native.Nat.{ℕ, _+_, _-_, _≤_, _<_}
+use Prim.Native.Nat.{ℕ, _+_, _-_, _≤_}
 use native.Mathlib.Omega.{arith}
 use lib.Dec.{eqb, ltb}
-use lib.ListN.{length}
-use borrow.Author.Tests.{lt-ltb, eq-eqb, le-leb}
+use lib.ListN.{length, replicate, length-replicate}
+use borrow.Author.Tests.{lt-ltb, eq-eqb}
 use Rattle.laws.specs.Bits.{bitsOf}
+use Rattle.laws.proofs.Bits.{bitsOf-bits}
 use Rattle.interleaver.specs.Table.{sizeAt}
 use Rattle.interleaver.proofs.Rows.{row-keeps}
 use Rattle.segmentation.specs.declared.Segments.{Segments}
@@ -20,15 +21,24 @@ use Rattle.segmentation.proofs.Segmentation.{in-range, size-row, row-below, siz
 use Rattle.segmentation.proofs.CodeBlocks.{filler-within, length-codeBlock}
 use Rattle.segmentation.proofs.Payload.{with-bits}
 use Rattle.turbo.specs.Streams.{stream0, stream1, stream2}
-use Rattle.turbo.specs.Encode.{Encodable, fit}
+use Rattle.turbo.specs.Encode.{fit}
 use Rattle.turbo.proofs.Encodable.{true-encodable}
-use Rattle.turbo.proofs.Streams.{length-stream0, length-stream1, length-stream2}
-use Rattle.rate_matching.specs.SubBlocks.{rows}
-use Rattle.rate_matching.specs.Circle.{circle, startOf}
-use Rattle.rate_matching.specs.Walk.{selected}
-use Rattle.rate_matching.specs.Matcher.{matchable, matchedInto}
+use Rattle.laws.proofs.AreBits.{append-bits}
+use Rattle.rate_matching.specs.Matcher.{matchedInto}
+use Rattle.rate_matching.proofs.Alike.{Filled}
+use Rattle.rate_matching.proofs.MatcherBlock.{Matchable, matched-selected}
 use Rattle.codeword.specs.Codeword.{blockCircle, blockRows, sentBits}
-use Rattle.codeword.specs.Sending.{Sending, Roomy}
+use Rattle.codeword.specs.Sending.{Sending, Spacious, Roomy}
+use Rattle.codeword.proofs.Accepted.{given-bits}
+use Rattle.codeword.proofs.Data.{block-filled}
+
+-- fresh rooms for a K of at most N
+pub fresh-rooms : {K : ℕ} (N : ℕ) → K ≤ N
+    → Spacious K (length (replicate {A = ℕ} N 0)) (length (replicate {A = ℕ} (N + 4) 0)) (length (replicate {A = ℕ} (N + 4) 0)) (length (replicate {A = ℕ} (N + 4) 0))
+fresh-rooms {K} N h = record { bits = rw (length-replicate {A = ℕ} N 0) h; first = stream; second = stream; third = stream }
+  where
+    stream : K + 4 ≤ length (replicate {A = ℕ} (N + 4) 0)
+    stream = rw (length-replicate {A = ℕ} (N + 4) 0) (omega arith)
 
 module _ {a : List ℕ} {s : Segments} {r v : ℕ} (h : Sending a s r v) where
   high : length a + 24 ≤ 30600
@@ -78,30 +88,34 @@ module _ {a : List ℕ} {s : Segments} {r v : ℕ} (h : Sending a s r v) where
           long2 = l2 ∙ ap (λ (k : ℕ). k + 4) (sym c-long);
         })
 
-    D-is : length (stream0 (rowOf (length a + 24) r) (fillerOf (length a + 24) r) c) ≡ sizeOf (length a + 24) r + 4
-    D-is = length-stream0 (rowOf (length a + 24) r) (fillerOf (length a + 24) r) c fills ∙ ap (λ (k : ℕ). k + 4) c-long
-
-    matches : matchable (length (stream0 (rowOf (length a + 24) r) (fillerOf (length a + 24) r) c))
-        (length (stream1 (rowOf (length a + 24) r) (fillerOf (length a + 24) r) c)) (length (stream2 (rowOf (length a + 24) r) c)) v ≡ true
-    unfolding matchable
+    -- its streams are those of a code block
+    matches : Matchable (sizeOf (length a + 24) r + 4) (sizeOf (length a + 24) r + 4) (sizeOf (length a + 24) r + 4) (fillerOf (length a + 24) r) v
     matches =
-        let first = length-stream1 (rowOf (length a + 24) r) (fillerOf (length a + 24) r) c fills ∙ ap (λ (k : ℕ). k + 4) c-long in
-        let second = length-stream2 (rowOf (length a + 24) r) c ∙ ap (λ (k : ℕ). k + 4) (sym (size-row (length a + 24) high r)) in
-        let least : 40 ≤ sizeOf (length a + 24) r = rw (size-row (length a + 24) high r) (row-keeps _ (row-below (length a + 24) high r) .least) in
-        simp (
-          D-is,
-          first,
-          second,
-          eq-eqb (sizeOf (length a + 24) r + 4) (sizeOf (length a + 24) r + 4) refl,
-          le-leb 44 (sizeOf (length a + 24) r + 4) (omega arith),
-          le-leb (sizeOf (length a + 24) r + 4) 6148 (omega (arith, size-most (length a + 24) high r)),
-          le-leb v 3 (h .version),
-        )
+        let row = row-keeps _ (row-below (length a + 24) high r) in
+        let size = size-row (length a + 24) high r in
+        record {
+          fits = record {
+            first = refl;
+            second = refl;
+            some = omega (arith, row .bytes, size);
+            most = omega (arith, size-most (length a + 24) high r);
+            filler = omega (arith, c-long, fills);
+          };
+          least = omega (arith, row .least, size);
+          version = h .version;
+        }
 
     -- the rate matcher sends the bits that the definition names
     pub sent-is : {row F : ℕ} → row ≡ rowOf (length a + 24) r → F ≡ fillerOf (length a + 24) r → {d0 d1 d2 : List ℕ}
         → d0 ≡ stream0 row F c → d1 ≡ stream1 row F c → d2 ≡ stream2 row c → (out₀ : List ℕ) {out : List ℕ}
-        → out ≡ matchedInto d0 d1 d2 v out₀ → out ≡ sentBits (a ++ bitsOf 24 x) v r (length out₀)
-    unfolding matchedInto sentBits blockCircle blockRows
+        → out ≡ matchedInto d0 d1 d2 F v out₀ → out ≡ sentBits (a ++ bitsOf 24 x) v r (length out₀)
+    unfolding sentBits blockCircle blockRows
     sent-is {row} {F} row-is F-is {d0} {d1} {d2} e0 e1 e2 out₀ {out} told =
-        told ∙ rw (e0, e1, e2, row-is, F-is, matches, D-is) (rw (with-bits a x, ← c-is) refl)
+        told ∙ rw (e0, e1, e2, row-is, F-is, with-bits a x, c-is) (matched-selected filled matches out₀)
+      where
+        b : List ℕ
+        b = a ++ bitsOf 24 x
+
+        filled : Filled (sizeOf (length a + 24) r + 4) (fillerOf (length a + 24) r)
+            (stream0 (rowOf (length a + 24) r) (fillerOf (length a + 24) r) (codeBlock b r)) (stream1 (rowOf (length a + 24) r) (fillerOf (length a + 24) r) (codeBlock b r)) (stream2 (rowOf (length a + 24) r) (codeBlock b r))
+        filled = block-filled (length a + 24) (omega arith) high b (with-bits a x) r (h .below) (append-bits a (bitsOf 24 x) (given-bits a (h .bits)) (bitsOf-bits 24 x))

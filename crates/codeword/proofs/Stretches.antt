@@ -92,6 +92,7 @@ module _ {a : List ℕ} {Q N v : ℕ} {out₀ : List ℕ} {s : Segments} {C rema
       segments = h .segments;
       below = omega (arith, h .count);
       version = h .accepted .version;
+      bits = h .accepted .bits;
     }
 
     -- the stretch of code block r lies within the output

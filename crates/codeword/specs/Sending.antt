@@ -8,13 +8,14 @@ use lib.ListN.{length}
 use Rattle.segmentation.specs.declared.Segments.{Segments}
 use Rattle.segmentation.specs.Segmentation.{blocks}
 use Rattle.segmentation.specs.Sizes.{badSize, segmentsOf}
-use Rattle.codeword.specs.Build.{badAllocation}
+use Rattle.codeword.specs.Build.{badAllocation, badBits}
 
 -- an accepted Build of G bits
 pub record Accepted (a : List ℕ) (Q N v G : ℕ) : Type 0 where
   pub size : badSize (length a) ≡ false
   pub allocation : badAllocation (blocks (length a + 24)) Q N G ≡ false
   pub version : v ≤ 3
+  pub bits : badBits a ≡ false
 
 -- code block r of a block a, whose segmentation is s, in redundancy version v
 pub record Sending (a : List ℕ) (s : Segments) (r v : ℕ) : Type 0 where
@@ -22,6 +23,14 @@ pub record Sending (a : List ℕ) (s : Segments) (r v : ℕ) : Type 0 where
   pub segments : s ≡ segmentsOf (length a + 24)
   pub below : r < blocks (length a + 24)
   pub version : v ≤ 3
+  pub bits : badBits a ≡ false
+
+-- rooms of at least the lengths that a code block of K bits and its three streams need
+pub record Spacious (K c d0 d1 d2 : ℕ) : Type 0 where
+  pub bits : K ≤ c
+  pub first : K + 4 ≤ d0
+  pub second : K + 4 ≤ d1
+  pub third : K + 4 ≤ d2
 
 -- rooms for a code block of K bits and for its three streams
 pub record Roomy (K c d0 d1 d2 : ℕ) : Type 0 where

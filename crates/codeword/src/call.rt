@@ -8,7 +8,7 @@ ghost use Rattle.laws.specs.Bits.{bitsOf};
 ghost use Rattle.segmentation.specs.Segmentation.{sizeOf};
 ghost use Rattle.codeword.specs.Codeword.{sentBits, codeword};
 ghost use Rattle.codeword.specs.Build.{buildNumber, buildOutput};
-ghost use Rattle.codeword.specs.Sending.{Sending, Roomy, Accepted};
+ghost use Rattle.codeword.specs.Sending.{Sending, Spacious, Roomy, Accepted};
 
 // Writes the codeword of `block` over the first `g` bytes of `out`. Answers 0, or the number of the refusal, which writes nothing.
 pub fn build(block: &[u8], q: usize, n: usize, version: usize, g: usize, out: &mut [u8]) -> u8
@@ -65,7 +65,7 @@ fn write_codeword(block: &[u8], q: usize, n: usize, version: usize, out: &mut [u
     }
 }
 
-// Code block r, turbo coded and rate matched, over the whole of `stretch`.
+// Code block r, turbo coded and rate matched, over the whole of `stretch`. All of a room is cleared when it is made, so its length goes by K.
 fn send_block(
     block: &[u8],
     remainder: u32,
@@ -78,11 +78,126 @@ fn send_block(
     ensures { λ _. ⌜ now (stretch .exit) ≡ sentBits (now (block .entry) ++ bitsOf 24 remainder) version r (length (now (stretch .entry))) ⌝ }
 {
     let k = segmentation::block::size_of(s, r);
-    let d = k + 4;
+    if k <= 128 {
+        send_short(block, remainder, s, r, version, stretch);
+    } else if k <= 1024 {
+        send_middle(block, remainder, s, r, version, stretch);
+    } else {
+        send_long(block, remainder, s, r, version, stretch);
+    }
+}
+
+// The same with rooms for a K of at most 128.
+fn send_short(
+    block: &[u8],
+    remainder: u32,
+    s: Segments,
+    r: usize,
+    version: usize,
+    stretch: &mut [u8],
+)
+    requires { ⌜ Sending (now block) s r version ⌝ }
+    requires { ⌜ sizeOf (length (now block) + 24) r ≤ 128 ⌝ }
+    ensures { λ _. ⌜ now (stretch .exit) ≡ sentBits (now (block .entry) ++ bitsOf 24 remainder) version r (length (now (stretch .entry))) ⌝ }
+{
+    let mut c = [0u8; 128];
+    let mut d0 = [0u8; 132];
+    let mut d1 = [0u8; 132];
+    let mut d2 = [0u8; 132];
+    send_within(
+        block,
+        remainder,
+        s,
+        r,
+        version,
+        &mut c,
+        &mut d0,
+        &mut d1,
+        &mut d2,
+        stretch,
+    );
+}
+
+// The same with rooms for a K of at most 1,024.
+fn send_middle(
+    block: &[u8],
+    remainder: u32,
+    s: Segments,
+    r: usize,
+    version: usize,
+    stretch: &mut [u8],
+)
+    requires { ⌜ Sending (now block) s r version ⌝ }
+    requires { ⌜ sizeOf (length (now block) + 24) r ≤ 1024 ⌝ }
+    ensures { λ _. ⌜ now (stretch .exit) ≡ sentBits (now (block .entry) ++ bitsOf 24 remainder) version r (length (now (stretch .entry))) ⌝ }
+{
+    let mut c = [0u8; 1024];
+    let mut d0 = [0u8; 1028];
+    let mut d1 = [0u8; 1028];
+    let mut d2 = [0u8; 1028];
+    send_within(
+        block,
+        remainder,
+        s,
+        r,
+        version,
+        &mut c,
+        &mut d0,
+        &mut d1,
+        &mut d2,
+        stretch,
+    );
+}
+
+// The same with rooms for every K.
+fn send_long(
+    block: &[u8],
+    remainder: u32,
+    s: Segments,
+    r: usize,
+    version: usize,
+    stretch: &mut [u8],
+)
+    requires { ⌜ Sending (now block) s r version ⌝ }
+    ensures { λ _. ⌜ now (stretch .exit) ≡ sentBits (now (block .entry) ++ bitsOf 24 remainder) version r (length (now (stretch .entry))) ⌝ }
+{
     let mut c = [0u8; 6144];
     let mut d0 = [0u8; 6148];
     let mut d1 = [0u8; 6148];
     let mut d2 = [0u8; 6148];
+    send_within(
+        block,
+        remainder,
+        s,
+        r,
+        version,
+        &mut c,
+        &mut d0,
+        &mut d1,
+        &mut d2,
+        stretch,
+    );
+}
+
+// The same in the fronts of lent rooms.
+fn send_within(
+    block: &[u8],
+    remainder: u32,
+    s: Segments,
+    r: usize,
+    version: usize,
+    c: &mut [u8],
+    d0: &mut [u8],
+    d1: &mut [u8],
+    d2: &mut [u8],
+    stretch: &mut [u8],
+)
+    requires { ⌜ Sending (now block) s r version ⌝ }
+    requires { ⌜ Spacious (sizeOf (length (now block) + 24) r) (length (now c)) (length (now d0)) (length (now d1)) (length (now d2)) ⌝ }
+    ensures { λ _. ⌜ now (stretch .exit) ≡ sentBits (now (block .entry) ++ bitsOf 24 remainder) version r (length (now (stretch .entry))) ⌝ }
+{
+    let k = segmentation::block::size_of(s, r);
+    let d = k + 4;
     send_in(
         block,
         remainder,
@@ -97,7 +212,7 @@ fn send_block(
     );
 }
 
-// The same in lent rooms: one for the code block's K bits, and three for its streams of K + 4 places.
+// The same in lent rooms of the right lengths: one for the code block's K bits, and three for its streams of K + 4 places.
 fn send_in(
     block: &[u8],
     remainder: u32,
@@ -118,5 +233,5 @@ fn send_in(
     let row = segmentation::block::row_of(s, r);
     let filler = segmentation::block::filler_of(s, r);
     turbo::encode(row, filler, c, d0, d1, d2);
-    rate_matching::rate_match(d0, d1, d2, version, stretch);
+    rate_matching::rate_match(d0, d1, d2, filler, version, stretch);
 }

@@ -6,24 +6,21 @@ use mathlib.Core.List.{List, [], _∷_, _++_, map}
 use Prim.Native.Nat.{ℕ, suc, _+_, _-_, _≤_, _<_}
 use native.Mathlib.Omega.{arith}
 use lib.Dec.{eqb}
-use lib.ListN.{length, drop, length-replicate}
+use lib.ListN.{length, drop}
 use borrow.Author.Tests.{eqb-true}
 use Rattle.segmentation.specs.Segmentation.{blocks, sizeOf, fillerOf}
 use Rattle.segmentation.specs.CodeBlocks.{withCheck}
 use Rattle.segmentation.proofs.CodeBlocks.{filler-within}
-use Rattle.turbo.specs.Streams.{withoutFiller}
 use Rattle.laws.specs.Bits.{AreBits}
-use Rattle.laws.proofs.AreBits.{zero-bits}
-use Rattle.turbo.proofs.Streams.{length-withoutFiller, filler-null, past-filler}
 use Rattle.rate_matching.specs.Circle.{startOf}
 use Rattle.rate_matching.specs.Walk.{onCircle, selected}
+use Rattle.rate_matching.proofs.Alike.{shape-filled, same-sent}
 use Rattle.codeword.specs.Shares.{share, sharesBefore}
 use Rattle.codeword.specs.Codeword.{blockCircle, blockRows, sentBits, blockBits, bitsFrom}
-use Rattle.codeword.proofs.Alike.{BitsFrom, Filled, bits-from, same-sent}
 use Rattle.codeword.proofs.Data.{withCheck-bits, block-filled}
 use Rattle.codeword.proofs.Taken.{length-withCheck, stretch-is}
 use Rattle.slots.specs.Room.{unheard, meet}
-use Rattle.rate_matching.specs.Shape.{blank, shape}
+use Rattle.rate_matching.specs.Shape.{shape}
 use Rattle.slots.specs.Reception.{blockPlaces}
 use Rattle.history.specs.Calls.{Reception}
 use Rattle.history.specs.Accepted.{lastAmong, lastBit}
@@ -31,27 +28,6 @@ use Rattle.history.specs.Sent.{True, AllTrue, among, sent}
 use Rattle.history.proofs.ReleaseMeet.{meet-first, meet-again}
 
 -- ---- the places of a transmission, from the sizes alone
-
-blank-bits : (D : ℕ) → AreBits (blank D)
-unfolding blank
-blank-bits D = zero-bits D
-
-length-blank : (D : ℕ) → length (blank D) ≡ D
-unfolding blank
-length-blank D = length-replicate {A = ℕ} D 0
-
-shape-filled : (D F : ℕ) → F ≤ D → Filled D F (withoutFiller F (blank D)) (withoutFiller F (blank D)) (blank D)
-shape-filled D F h = record {
-  long0 = length-withoutFiller F (blank D) (rw length-blank h) ∙ length-blank D;
-  long1 = length-withoutFiller F (blank D) (rw length-blank h) ∙ length-blank D;
-  long2 = length-blank D;
-  bits0 = filled;
-  bits1 = filled;
-  bits2 = bits-from 0 (blank D) (λ i l. absurd (omega arith)) (λ i l. blank-bits D i);
-}
-  where
-    filled : BitsFrom F (withoutFiller F (blank D))
-    filled = bits-from F (withoutFiller F (blank D)) (λ i l. filler-null F (blank D) i l) (λ i l. rw (past-filler F (blank D) i l) (blank-bits D i))
 
 module _ (b : List ℕ) (B : ℕ) (low : 24 ≤ B) (high : B ≤ 30600) (long : length b ≡ B) (bits : AreBits b) where
   -- the bits of code block r are those at the places that a reception of it fills

@@ -1,14 +1,16 @@
--- What interleaving writes where all fits, entry by entry, and that the walk by counters writes the same.
+-- What interleaving writes where all fits, entry by entry, and that the walk by counters, and that by fours, writes the same.
 -- Assumes nothing.
-use mathlib.Core.Path.{_≡_, _∙_}
+use mathlib.Core.Path.{_≡_, _∙_, sym, ap}
 use mathlib.Core.List.{List}
 use Prim.Native.Nat.{ℕ, _<_}
+use native.Mathlib.Omega.{arith}
 use lib.ListN.{length, getD}
 use borrow.Author.Tests.{lt-ltb, eq-eqb}
 use Rattle.laws.proofs.Tab.{length-tab, getD-tab}
 use Rattle.interleaver.specs.Table.{rowCount, sizeAt, f1At, f2At}
 use Rattle.interleaver.specs.Place.{secondPlace, secondBit, interleaved}
 use Rattle.interleaver.specs.Into.{fitsRow, interleavedInto, bitBy, bitsBy, Walkable}
+use Rattle.interleaver.specs.Quarters.{Bits, Quartered, Countable}
 use Rattle.interleaver.proofs.Rows.{row-keeps}
 
 pub length-interleaved : (row : ℕ) (c : List ℕ) → length (interleaved row c) ≡ sizeAt row
@@ -43,7 +45,27 @@ module _ {row K f1 f2 : ℕ} {c out : List ℕ} (r : OfRow row K f1 f2 c out) wh
     room = r .room;
   }
 
+  pub quartered : Bits c → Quartered c out
+  quartered b = record {
+    bits = b;
+    eights = rw (r .long, r .size) (row-keeps row (r .below) .bytes);
+    some = rw (r .long, r .size) (omega (arith, row-keeps row (r .below) .least));
+    most = rw (r .long, r .size) (row-keeps row (r .below) .most);
+    room = r .room ∙ sym (r .long);
+  }
+
+  pub countable : Countable (length c) f1 f2
+  countable = record {
+    f1-below = rw (r .long) (walkable .f1-below);
+    f2-below = rw (r .long) (walkable .f2-below);
+    f2-even = rw (r .second) (row-keeps row (r .below) .f2-even);
+    most = rw (r .long) (walkable .most);
+  }
+
   -- what the walk writes is what interleaving writes
   pub writes : bitsBy K f1 f2 c ≡ interleavedInto row c out
   unfolding bitsBy bitBy interleaved secondBit secondPlace
   writes = rw (into-fits row c out (r .below) (r .long ∙ r .size) (r .room ∙ r .size), r .size, r .first, r .second)
+
+  pub writes-bits : bitsBy (length c) f1 f2 c ≡ interleavedInto row c out
+  writes-bits = ap (λ (K : ℕ). bitsBy K f1 f2 c) (r .long) ∙ writes

@@ -2,6 +2,14 @@ pub mod Divides
 pub mod Pigeonhole
 pub mod Quadratic
 pub mod Rows
+pub mod Sizes
 pub mod Counters
 pub mod Walk
 pub mod Into
+pub mod Filling
+pub mod Alike
+pub mod Strides
+pub mod Finding
+pub mod Joining
+pub mod Spreading
+pub mod Quarters

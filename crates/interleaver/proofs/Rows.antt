@@ -49,6 +49,7 @@ pub record Row (row : ℕ) : Type 0 where
   pub f2-small : f2At row < 2 ^ 10
   pub coprime : gcd 12 (f1At row) (sizeAt row) ≡ 1
   pub power : f2At row ^ 7 % sizeAt row ≡ 0
+  pub f2-even : f2At row % 2 ≡ 0
 
 -- the same as tests, in the order of the fields
 rowTests : (before K f1 f2 : ℕ) → List Bool
@@ -64,6 +65,7 @@ rowTests before K f1 f2 =
     ∷ ltb f2 (2 ^ 10)
     ∷ eqb (gcd 12 f1 K) 1
     ∷ eqb (f2 ^ 7 % K) 0
+    ∷ eqb (f2 % 2) 0
     ∷ []
 
 passes : ℕ → Bool
@@ -88,6 +90,7 @@ row-keeps row h = record {
   f2-small = ltb→lt _ _ (at 8);
   coprime = eqb→eq _ _ (at 9);
   power = eqb→eq _ _ (at 10);
+  f2-even = eqb→eq _ _ (at 11);
 }
   where
     at : (k : ℕ) → T (getD (rowTests (sizeBefore row) (sizeAt row) (f1At row) (f2At row)) k true)

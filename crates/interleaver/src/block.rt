@@ -1,4 +1,5 @@
 // The bits of a code block in the order in which the second encoder takes them.
+use crate::fours;
 use crate::table;
 ghost use mathlib.Core.Path.{_≡_};
 ghost use Prim.Native.Nat.{_+_, _%_, _<_};
@@ -19,10 +20,16 @@ pub fn interleave(row: usize, c: &[u8], out: &mut [u8])
     if out.len() != k {
         return;
     }
-    walk(k, table::f1_at(row), table::f2_at(row), c, out);
+    let f1 = table::f1_at(row);
+    let f2 = table::f2_at(row);
+    if fours::all_bits(c) {
+        fours::interleave_bits(f1, f2, c, out);
+    } else {
+        walk(k, f1, f2, c, out);
+    }
 }
 
-// The places by counters: p is Π(i), and g is the way from there to Π(i + 1), which grows by 2·f2.
+// Any bytes, one by one. The places by counters: p is Π(i), and g is the way from there to Π(i + 1), which grows by 2·f2.
 fn walk(k: usize, f1: usize, f2: usize, c: &[u8], out: &mut [u8])
     requires { ⌜ Walkable k f1 f2 (now c) (now out) ⌝ }
     ensures { λ r. ⌜ now (out .exit) ≡ bitsBy k f1 f2 (now (c .entry)) ⌝ }
@@ -40,7 +47,7 @@ fn walk(k: usize, f1: usize, f2: usize, c: &[u8], out: &mut [u8])
 }
 
 // x mod k, for x below 2·k: one comparison in the place of a division.
-fn reduced(x: usize, k: usize) -> usize
+pub(crate) fn reduced(x: usize, k: usize) -> usize
     requires { ⌜ x < k + k ⌝ }
     ensures { λ r. ⌜ r ≡ x % k ⌝ }
 {

@@ -63,13 +63,13 @@ module _ (D : ℕ) (d : List ℕ) (l : length d ≡ D) where
   dummies-long : length (replicate {A = ℕ} (dummies (length d)) NULL) ≡ dummies D
   dummies-long = length-replicate {A = ℕ} (dummies (length d)) NULL ∙ ap dummies l
 
-  padded-dummy : (y : ℕ) → y < dummies D → getD (padded d) y 0 ≡ NULL
+  pub padded-dummy : (y : ℕ) → y < dummies D → getD (padded d) y 0 ≡ NULL
   unfolding padded
   padded-dummy y h =
       List·getD-append (replicate {A = ℕ} (dummies (length d)) NULL) d 0 y (rw dummies-long h)
       ∙ getD-replicate {A = ℕ} (dummies (length d)) y NULL 0 (rw l h)
 
-  padded-bit : (i : ℕ) → getD (padded d) (dummies D + i) 0 ≡ getD d i 0
+  pub padded-bit : (i : ℕ) → getD (padded d) (dummies D + i) 0 ≡ getD d i 0
   unfolding padded
   padded-bit i =
       ap (λ (n : ℕ). getD (padded d) (n + i) 0) (sym dummies-long)
@@ -98,7 +98,7 @@ module _ (D : ℕ) (d0 d1 d2 : List ℕ) (l0 : length d0 ≡ D) (l1 : length d1 
       ap (λ (n : ℕ). getD (circle d0 d1 d2) (n + q) 0) (sym (length-out D d0 l0 false))
       ∙ getD-append-add (plain d0) (byTurns (plain d1) (shifted d2)) q 0
 
-  circle-at : (s x : ℕ) → s < 3 → x < 32 * rows D
+  pub circle-at : (s x : ℕ) → s < 3 → x < 32 * rows D
       → onCircle (circle d0 d1 d2) (at (rows D) s x) ≡ getD (padded (streamOf d0 d1 d2 s)) (readBy (eqb s 2) (rows D) x) 0
   unfolding circle plain shifted onCircle streamOf
   circle-at zero x u h =

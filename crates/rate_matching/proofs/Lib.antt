@@ -6,7 +6,9 @@ pub mod Walk
 pub mod MatcherRooms
 pub mod MatcherPadded
 pub mod MatcherColumns
-pub mod MatcherRing
 pub mod MatcherTurns
-pub mod MatcherBlock
 pub mod ShapeTurn
+pub mod Alike
+pub mod Units
+pub mod MatcherBlock
+pub mod MatcherRing

@@ -15,7 +15,8 @@ use Rattle.laws.proofs.Writing.{Writing, start, same, push, pushPart, finish-al
 use Rattle.rate_matching.specs.Columns.{column}
 use Rattle.rate_matching.specs.SubBlocks.{readPlain}
 use Rattle.rate_matching.specs.Circle.{byTurns}
-use Rattle.rate_matching.specs.Matcher.{everyRow, readFrom, columnsFrom}
+use Rattle.rate_matching.specs.Units.{everyRow}
+use Rattle.rate_matching.specs.Matcher.{readFrom, columnsFrom}
 
 -- ---- a column: place `at` is row q
 

@@ -1,148 +1,338 @@
--- Laws of the matcher's ring: the bits of one turn round the circle, gathered in two parts until there are as many as are sent.
+-- Laws of the matcher's ring: the bits of columns and of units put into it one after another, until there are as many as are sent.
 -- Assumes nothing.
-use mathlib.Core.Path.{_≡_, refl, sym, _∙_, ap}
+use mathlib.Core.Path.{_≡_, refl, sym, _∙_, ap, subst}
+use mathlib.Core.Bool.{Bool, true, false, cond, _&&_, and-eq-true-iff}
 use mathlib.Core.Logic.{⊎-elim}
-use mathlib.Core.Bool.{Bool, true, false}
-use mathlib.Core.List.{List, [], _∷_, _++_, append-nil, append-assoc}
-use Prim.Native.Nat.{ℕ, _+_, _-_, _≤_, _<_, min}
-use native.Mathlib.Nat.{add-zero, eq-zero-or-pos, eq-or-lt-of-le, mod-eq-of-lt}
+use mathlib.Core.List.{List, _∷_, _++_, append-nil, append-assoc}
+use Prim.Native.Nat.{ℕ, suc, _+_, _-_, _*_, _/_, _%_, _≤_, _<_}
+use native.Mathlib.Nat.{add-sub-cancel-left, eq-zero-or-pos, mod-eq-of-lt}
 use native.Mathlib.Numerals.{add-one}
 use native.Mathlib.Omega.{arith}
-use mir.Val.{boolByte}
+use mir.Val.{Fits}
+use mir.Syntax.{w64}
+use lib.ListN.{length, getD, take, drop, set, length-append, length-set, length-take}
+use lib.Seq.{take-all, take-at, take-append-le, length-take-le, getD-take}
 use lib.Dec.{ltb}
-use lib.ListN.{length, getD, take, drop, set, length-set, length-take, length-drop, take-append-drop, drop-of-length-le}
-use lib.Seq.{take-all, take-at, take-append-le, append-snoc, take-suc-set, take-set-le, length-take-le, getD-take}
-use borrow.Author.Tests.{eq-eqb, ne-eqb}
-use borrow.Rule.Slice.PartMut.{midOf, post-is}
-use Rattle.laws.specs.Lists.{tab, keep}
-use Rattle.laws.proofs.Keep.{keep-yes, keep-no, keep-append}
-use Rattle.laws.proofs.Parts.{length-mid}
-use Rattle.laws.proofs.Tab.{tab-ext}
-use Rattle.laws.proofs.Writing.{drop-next}
-use Rattle.turbo.specs.Streams.{NULL}
-use Rattle.rate_matching.specs.Walk.{isBit, onCircle, turnAfterTurn}
-use Rattle.rate_matching.specs.Matcher.{Gathered, GatheredTo, turnBits, ringOf}
+use borrow.Author.Tests.{eq-eqb, ne-eqb, lt-ltb, le-ltb, ltb-true, ltb-false}
+use borrow.Rule.Slice.PartMut.{midOf, putMid, same-len-mid}
+use Rattle.laws.specs.Lists.{tab, tabFrom}
+use Rattle.laws.proofs.Parts.{length-mid, put-is, length-put}
+use Rattle.laws.proofs.Tab.{length-tab, tab-ext, tab-rest, rest-more}
+use Rattle.laws.proofs.Writing.{Writing, start, same, push}
+use Rattle.rate_matching.specs.Walk.{turnAfterTurn}
+use Rattle.rate_matching.specs.Columns.{columnTable, column}
+use Rattle.rate_matching.specs.SubBlocks.{rows, dummies}
+use Rattle.rate_matching.specs.Units.{everyRow, pairRow, firstRow, columnBits, pairBits, unitBits, unitsFrom, unitStart, Laid, Fitting, Put, PutTo}
+use Rattle.rate_matching.proofs.Columns.{column-rule}
+use Rattle.rate_matching.proofs.Places.{dummies-lt, dummies-add}
+use Rattle.rate_matching.proofs.Units.{some-dummies, low-next, high-next, starts-rise}
 
--- i entries of a part are passed, and the bits among them stand in the ring from place n to place end
-pub record Gathering (part ring₀ : List ℕ) (n : ℕ) (ring : List ℕ) (end i : ℕ) : Type 0 where
+-- ---- two columns by turns: k entries are written, k even
+
+pair-first : (d1 d2 : List ℕ) (from k : ℕ) → k % 2 ≡ 0 → pairRow d1 d2 from k ≡ getD d1 (from + 16 * k) 0
+unfolding pairRow everyRow
+pair-first d1 d2 from k e =
+    let i : from + 32 * (k / 2) ≡ from + 16 * k = omega arith in
+    simp (eq-eqb (k % 2) 0 e) (ap (λ (n : ℕ). getD d1 n 0) i)
+
+pair-second : (d1 d2 : List ℕ) (from k : ℕ) → k % 2 ≡ 0 → pairRow d1 d2 from (k + 1) ≡ getD d2 (from + 16 * k + 1) 0
+unfolding pairRow everyRow
+pair-second d1 d2 from k e =
+    let i : from + 1 + 32 * ((k + 1) / 2) ≡ from + 16 * k + 1 = omega arith in
+    simp (ne-eqb ((k + 1) % 2) 0 (λ z. omega arith)) (ap (λ (n : ℕ). getD d2 n 0) i)
+
+pub record Pairing (d1 d2 : List ℕ) (from : ℕ) (part₀ part : List ℕ) (at k : ℕ) : Type 0 where
+  pub even : k % 2 ≡ 0
+  pub place : at ≡ from + 16 * k
+  pub within : k ≤ length part₀
+  pub wrote : Writing part₀ part k (tabFrom k (length part₀ - k) (pairRow d1 d2 from)) (tab (length part₀) (pairRow d1 d2 from))
+
+pub pairing-start : {d1 d2 : List ℕ} {from : ℕ} {part : List ℕ} → Pairing d1 d2 from part part from 0
+pairing-start {d1} {d2} {from} {part} = record { even = refl; place = omega arith; within = omega arith; wrote = same (sym (tab-rest (length part) (pairRow d1 d2 from))) start }
+
+module _ {d1 d2 : List ℕ} {from : ℕ} {part₀ part : List ℕ} {at k : ℕ} (p : Pairing d1 d2 from part₀ part at k) where
+  -- `part[k] = d1[at]`
+  pub pair-one : k < length part → Writing part₀ (set part k (getD d1 at 0)) (k + 1) (tabFrom (k + 1) (length part₀ - (k + 1)) (pairRow d1 d2 from)) (tab (length part₀) (pairRow d1 d2 from))
+  pair-one h = push h (same (rest-more k (length part₀) (pairRow d1 d2 from) (omega (arith, p .wrote .long)) ∙ ap (λ (x : ℕ). x ∷ tabFrom (k + 1) (length part₀ - (k + 1)) (pairRow d1 d2 from)) entry) (p .wrote))
+    where
+      entry : pairRow d1 d2 from k ≡ getD d1 at 0
+      entry = pair-first d1 d2 from k (p .even) ∙ ap (λ (n : ℕ). getD d1 n 0) (sym (p .place))
+
+  -- `part[k + 1] = d2[at + 1]; at += 32; k += 2` after it
+  pub pair-next : k + 1 < length part → Pairing d1 d2 from part₀ (set (set part k (getD d1 at 0)) (k + 1) (getD d2 (at + 1) 0)) (at + 32) (k + 2)
+  pair-next h = record {
+    even = omega (arith, p .even);
+    place = omega (arith, p .place);
+    within = omega (arith, p .wrote .long);
+    wrote = rw two (push (rw length-set h) (same (rest-more (k + 1) (length part₀) (pairRow d1 d2 from) (omega (arith, p .wrote .long)) ∙ ap (λ (x : ℕ). x ∷ tabFrom (k + 1 + 1) (length part₀ - (k + 1 + 1)) (pairRow d1 d2 from)) entry) (pair-one (omega arith))));
+  }
+    where
+      two : k + 2 ≡ k + 1 + 1
+      two = omega arith
+
+      entry : pairRow d1 d2 from (k + 1) ≡ getD d2 (at + 1) 0
+      entry = pair-second d1 d2 from k (p .even) ∙ ap (λ (n : ℕ). getD d2 (n + 1) 0) (sym (p .place))
+
+-- ---- a part of the ring
+
+-- the part from a to b was lent and came back as the callee says
+pub put-part : (a b : ℕ) (ring : List ℕ) (m : ℕ) (f : ℕ → ℕ) {part : List ℕ} → b ≡ a + m → b ≤ length ring
+    → part ≡ tab (length (midOf a (b - a) ring)) f → Put (tab m f) ring a (putMid a (b - a) ring part) b
+put-part a b ring m f {part} e h s = record {
+  ends = e ∙ ap (λ (n : ℕ). a + n) (sym (length-tab m f));
+  told = ap (take b) (put-is a b ring part (omega arith) ∙ sym (append-assoc (take a ring) part (drop b ring)))
+      ∙ take-at (take a ring ++ part) (drop b ring) b counted
+      ∙ ap (λ (l : List ℕ). take a ring ++ l) said;
+}
+  where
+    size : length (midOf a (b - a) ring) ≡ m
+    size = omega (arith, length-mid a b ring h)
+
+    said : part ≡ tab m f
+    said = s ∙ ap (λ (n : ℕ). tab n f) size
+
+    counted : length (take a ring ++ part) ≡ b
+    counted = omega (arith, length-append (take a ring) part, length-take-le a ring (omega arith), ap length said, length-tab m f)
+
+-- one part after another
+pub put-join : {xs ys ring₀ ring₁ ring₂ : List ℕ} {n m r : ℕ} → Put xs ring₀ n ring₁ m → Put ys ring₁ m ring₂ r → Put (xs ++ ys) ring₀ n ring₂ r
+put-join {xs} {ys} {ring₀} {n = n} p q = record {
+  ends = omega (arith, p .ends, q .ends, length-append xs ys);
+  told = q .told ∙ ap (λ (l : List ℕ). l ++ ys) (p .told) ∙ append-assoc (take n ring₀) xs ys;
+}
+
+-- ---- the rows of a column
+
+-- e is the first row of stream 2, f that of a stream with filler
+pub record Rowed (D F p R dm e f : ℕ) : Type 0 where
+  pub some : 0 < dm
+  pub sum : dm + D ≡ 32 * R
+  pub few : R ≤ 193
+  pub alone : e ≤ f
+  pub high : f ≤ R
+  pub last : p / 31 + f ≤ R
+  pub early : dm ≤ p + 1 + 32 * e
+  pub behind : dm ≤ p + 32 * f
+  pub near : p + 32 * f ≤ dm + F + 31
+  pub filler : F < D
+  pub column : p < 32
+
+pub rowed : {D F p e f : ℕ} → Laid D F p → e ≡ firstRow (dummies D - 1) p → f ≡ firstRow (dummies D + F) p → Rowed D F p (rows D) (dummies D) e f
+unfolding firstRow
+rowed {D} {F} {p} {e} {f} l a b = record {
+  some = some-dummies D (l .some);
+  sum = dummies-add D;
+  few = rows-few;
+  alone = omega arith;
+  high = omega (arith, dummies-add D, l .filler, l .column);
+  last = omega (arith, dummies-add D, l .filler, l .column);
+  early = omega (arith, l .column);
+  behind = omega (arith, l .column);
+  near = omega (arith, l .column);
+  filler = l .filler;
+  column = l .column;
+}
+  where
+    rows-few : rows D ≤ 193
+    rows-few = omega (arith, dummies-add D, dummies-lt D, l .most)
+
+-- what is asked of the streams and of the ring
+module _ {D F p R dm e f : ℕ} (r : Rowed D F p R dm e f) (n : ℕ) (ring : List ℕ) where
+  pub column-asks : n + R ≤ length ring → p + 32 * f - dm + 32 * length (midOf n (n + (R - f) - n) ring) ≤ D + 31
+  column-asks h = let m = length-mid n (n + (R - f)) ring (omega (arith, r .high)) in omega (arith, m, r .sum, r .high, r .behind, r .column)
+
+  pub alone-ends : n + 2 * R ≤ length ring → n + (f - e) ≤ length ring
+  alone-ends h = omega (arith, r .high)
+
+  pub alone-asks : n + 2 * R ≤ length ring → p + 1 + 32 * e - dm + 32 * length (midOf n (n + (f - e) - n) ring) ≤ D + 31
+  alone-asks h = let m = length-mid n (n + (f - e)) ring (alone-ends h) in omega (arith, m, r .alone, r .early, r .near, r .filler)
+
+  module _ (h : n + 2 * R ≤ length ring) where
+    within : n + (f - e) + (2 * (R - f) - p / 31) ≤ length ring
+    within = omega (arith, r .high, r .alone)
+
+    pub pairs-fit : Fits w64 (length ring) → Fits w64 (n + (f - e) + (2 * (R - f) - p / 31))
+    pairs-fit b = let w = within in omega arith
+
+    -- the first part came back
+    module _ (part : List ℕ) (k : length part ≡ length (midOf n (n + (f - e) - n) ring)) where
+      pub pairs-end : n + (f - e) + (2 * (R - f) - p / 31) ≤ length (putMid n (n + (f - e) - n) ring part)
+      pairs-end = rw (same-len-mid n (n + (f - e) - n) ring part k) within
+
+      lent : length (midOf (n + (f - e)) (n + (f - e) + (2 * (R - f) - p / 31) - (n + (f - e))) (putMid n (n + (f - e) - n) ring part)) ≡ 2 * (R - f) - p / 31
+      lent = length-mid (n + (f - e)) (n + (f - e) + (2 * (R - f) - p / 31)) (putMid n (n + (f - e) - n) ring part) pairs-end ∙ add-sub-cancel-left (n + (f - e)) (2 * (R - f) - p / 31)
+
+      pub pairs-ask : {D2 : ℕ} → D2 ≡ D
+          → (p + 32 * f - dm + 32 * ((length (midOf (n + (f - e)) (n + (f - e) + (2 * (R - f) - p / 31) - (n + (f - e))) (putMid n (n + (f - e) - n) ring part)) + 1) / 2) ≤ D + 31)
+          × (p + 32 * f - dm + 32 * (length (midOf (n + (f - e)) (n + (f - e) + (2 * (R - f) - p / 31) - (n + (f - e))) (putMid n (n + (f - e) - n) ring part)) / 2) ≤ D2 + 30)
+      pairs-ask a = rw lent (omega (arith, r .sum, r .high, r .behind, r .column, r .last), omega (arith, a, r .sum, r .high, r .behind, r .column, r .last))
+
+module _ {D F p n e f : ℕ} (ring : List ℕ) (l : Laid D F p) (a : e ≡ firstRow (dummies D - 1) p) (b : f ≡ firstRow (dummies D + F) p) where
+  pub put-column : (d part : List ℕ) → n + rows D ≤ length ring
+      → part ≡ tab (length (midOf n (n + (rows D - f) - n) ring)) (everyRow d (p + 32 * f - dummies D))
+      → Put (columnBits D d F p) ring n (putMid n (n + (rows D - f) - n) ring part) (n + (rows D - f))
+  unfolding columnBits
+  put-column d part h s =
+      subst (λ (g : ℕ). Put (tab (rows D - g) (everyRow d (p + 32 * g - dummies D))) ring n (putMid n (n + (rows D - f) - n) ring part) (n + (rows D - f))) b
+      (put-part n (n + (rows D - f)) ring (rows D - f) (everyRow d (p + 32 * f - dummies D)) refl (omega arith) s)
+
+  -- stream 2 alone, then both by turns
+  pub put-pairs : (d1 d2 part pairs : List ℕ) → n + 2 * rows D ≤ length ring
+      → part ≡ tab (length (midOf n (n + (f - e) - n) ring)) (everyRow d2 (p + 1 + 32 * e - dummies D))
+      → pairs ≡ tab (length (midOf (n + (f - e)) (n + (f - e) + (2 * (rows D - f) - p / 31) - (n + (f - e))) (putMid n (n + (f - e) - n) ring part))) (pairRow d1 d2 (p + 32 * f - dummies D))
+      → Put (pairBits D d1 d2 F p) ring n (putMid (n + (f - e)) (n + (f - e) + (2 * (rows D - f) - p / 31) - (n + (f - e))) (putMid n (n + (f - e) - n) ring part) pairs) (n + (f - e) + (2 * (rows D - f) - p / 31))
+  unfolding pairBits
+  put-pairs d1 d2 part pairs h s t =
+      subst (λ (g : ℕ). Put (tab (g - firstRow (dummies D - 1) p) (everyRow d2 (p + 1 + 32 * firstRow (dummies D - 1) p - dummies D)) ++ tab (2 * (rows D - g) - p / 31) (pairRow d1 d2 (p + 32 * g - dummies D))) ring n all end) b
+      (subst (λ (g : ℕ). Put (tab (f - g) (everyRow d2 (p + 1 + 32 * g - dummies D)) ++ tab (2 * (rows D - f) - p / 31) (pairRow d1 d2 (p + 32 * f - dummies D))) ring n all end) a
+      (put-join (put-part n mid ring (f - e) (everyRow d2 (p + 1 + 32 * e - dummies D)) refl (omega (arith, r)) s)
+      (put-part mid end (putMid n (mid - n) ring part) (2 * (rows D - f) - p / 31) (pairRow d1 d2 (p + 32 * f - dummies D)) refl long t)))
+    where
+      r : Rowed D F p (rows D) (dummies D) e f
+      r = rowed l a b
+
+      mid : ℕ
+      mid = n + (f - e)
+
+      end : ℕ
+      end = mid + (2 * (rows D - f) - p / 31)
+
+      all : List ℕ
+      all = putMid mid (end - mid) (putMid n (mid - n) ring part) pairs
+
+      counted : length part ≡ mid - n
+      counted = ap length s ∙ length-tab (length (midOf n (mid - n) ring)) (everyRow d2 (p + 1 + 32 * e - dummies D)) ∙ length-mid n mid ring (omega (arith, r))
+
+      long : end ≤ length (putMid n (mid - n) ring part)
+      long = omega (arith, r, length-put n mid ring part (omega (arith, r)) counted)
+
+-- ---- a unit
+
+module _ {D D1 D2 F : ℕ} (g : Fitting D D1 D2 F) (u : ℕ) {p : ℕ} (c : p ≡ column (u % 32)) where
+  pub laid : Laid D F p
+  laid = record { some = g .some; most = g .most; filler = g .filler; column = rw c (column-rule (u % 32) (omega arith) .0) }
+
+  pub column-needs : (n : ℕ) {m : ℕ} → u < 32 → n + (unitStart (rows D) (u + 1) - unitStart (rows D) u) ≤ m → Laid D F p × (n + rows D ≤ m)
+  column-needs n h l = (laid, omega (arith, low-next (rows D) u h))
+
+  pub pair-needs : (n : ℕ) {m : ℕ} → 32 ≤ u → n + (unitStart (rows D) (u + 1) - unitStart (rows D) u) ≤ m → Laid D1 F p × (D2 ≡ D1) × (n + 2 * rows D1 ≤ m)
+  pair-needs n h l = rw (g .first) (laid, g .second, omega (arith, high-next (rows D) u h))
+
+  module _ (d0 d1 d2 : List ℕ) {ring : List ℕ} {n : ℕ} {ring′ : List ℕ} {r : ℕ} where
+    pub unit-column : u < 32 → Put (columnBits D d0 F p) ring n ring′ r → Put (unitBits D d0 d1 d2 F u) ring n ring′ r
+    unfolding unitBits
+    unit-column h q = simp (lt-ltb u 32 h) (subst (λ (k : ℕ). Put (columnBits D d0 F k) ring n ring′ r) c q)
+
+    pub unit-pairs : 32 ≤ u → Put (pairBits D1 d1 d2 F p) ring n ring′ r → Put (unitBits D d0 d1 d2 F u) ring n ring′ r
+    unfolding unitBits
+    unit-pairs h q = simp (le-ltb u 32 h) (subst (λ (k : ℕ). Put (pairBits D d1 d2 F k) ring n ring′ r) c (subst (λ (k : ℕ). Put (pairBits k d1 d2 F p) ring n ring′ r) (g .first) q))
+
+-- ---- P(c) read from a copy of the table
+
+pub table-at : {p : List ℕ} (c : ℕ) → p ≡ columnTable → getD p c 0 ≡ column c
+unfolding column
+table-at c e = ap (λ (l : List ℕ). getD l c 0) e
+
+pub table-below : {p : List ℕ} (u : ℕ) → p ≡ columnTable → getD p (u % 32) 0 < 32
+table-below u e = rw (table-at (u % 32) e) (column-rule (u % 32) (omega arith) .0)
+
+-- ---- how long a unit is
+
+pub unit-few : (D F u : ℕ) (d0 d1 d2 : List ℕ) → Laid D F (column (u % 32)) → length (unitBits D d0 d1 d2 F u) ≤ unitStart (rows D) (u + 1) - unitStart (rows D) u
+unfolding unitBits columnBits pairBits
+unit-few D F u d0 d1 d2 l = go (ltb u 32) refl
+  where
+    p : ℕ
+    p = column (u % 32)
+
+    e : ℕ
+    e = firstRow (dummies D - 1) p
+
+    f : ℕ
+    f = firstRow (dummies D + F) p
+
+    go : (t : Bool) → ltb u 32 ≡ t → length (cond t (columnBits D d0 F p) (pairBits D d1 d2 F p)) ≤ unitStart (rows D) (u + 1) - unitStart (rows D) u
+    go true t = omega (arith, low-next (rows D) u (ltb-true u 32 t), length-tab (rows D - f) (everyRow d0 (p + 32 * f - dummies D)))
+    go false t =
+        let r : Rowed D F p (rows D) (dummies D) e f = rowed l refl refl in
+        let m : ℕ = 2 * (rows D - f) - p / 31 in
+        omega (arith, r .alone, r .high, high-next (rows D) u (ltb-false u 32 t), length-append (tab (f - e) (everyRow d2 (p + 1 + 32 * e - dummies D))) (tab m (pairRow d1 d2 (p + 32 * f - dummies D))), length-tab (f - e) (everyRow d2 (p + 1 + 32 * e - dummies D)), length-tab m (pairRow d1 d2 (p + 32 * f - dummies D)))
+
+-- ---- unit after unit
+
+-- the units from `from` to u are put, up to place end
+pub record Filling (D : ℕ) (d0 d1 d2 : List ℕ) (F from to : ℕ) (ring₀ : List ℕ) (n : ℕ) (ring : List ℕ) (end u : ℕ) : Type 0 where
   pub long : length ring ≡ length ring₀
-  pub passed : i ≤ length part
-  pub within : end ≤ n + i
-  pub told : take end ring ++ keep isBit (drop i part) ≡ take n ring₀ ++ keep isBit part
+  pub passed : (from ≤ u) × (u ≤ to)
+  pub within : end + unitStart (rows D) from ≤ n + unitStart (rows D) u
+  pub told : take end ring ++ unitsFrom D d0 d1 d2 F u (to - u) ≡ take n ring₀ ++ unitsFrom D d0 d1 d2 F from (to - from)
 
-pub byte-le : (b : Bool) → boolByte b ≤ 1
-byte-le true = omega arith
-byte-le false = omega arith
+module _ {D : ℕ} {d0 d1 d2 : List ℕ} {F from to : ℕ} {ring₀ : List ℕ} {n : ℕ} where
+  pub filling-start : from ≤ to → Filling D d0 d1 d2 F from to ring₀ n ring₀ n from
+  filling-start h = record { long = refl; passed = (omega arith, h); within = omega arith; told = refl }
 
-module _ {part ring₀ ring : List ℕ} {n end i : ℕ} where
-  -- `ring[end] = x; end += (x < 2) as usize; i += 1`
-  pub next : i < length part → end < length ring → Gathering part ring₀ n ring end i
-      → Gathering part ring₀ n (set ring end (getD part i 0)) (end + boolByte (ltb (getD part i 0) NULL)) (i + 1)
-  unfolding isBit
-  next h l g = record {
-    long = length-set ring end x ∙ g .long;
-    passed = omega arith;
-    within = omega (arith, g .within, byte-le (ltb x NULL));
-    told = told (ltb x NULL) refl ∙ ap (λ (r : List ℕ). take end ring ++ keep isBit r) (sym (drop-next part i h)) ∙ g .told;
-  }
-    where
-      x : ℕ
-      x = getD part i 0
+  module _ {ring : List ℕ} {end u : ℕ} (f : Filling D d0 d1 d2 F from to ring₀ n ring end u) where
+    -- there is room for the next unit
+    pub filling-room : u < to → n + (unitStart (rows D) to - unitStart (rows D) from) ≤ length ring₀
+        → end + (unitStart (rows D) (u + 1) - unitStart (rows D) u) ≤ length ring
+    filling-room h l = omega (arith, f .within, f .long, starts-rise (rows D) u (u + 1) (omega arith), starts-rise (rows D) (u + 1) to (omega arith), starts-rise (rows D) from u (f .passed .0))
 
-      told : (b : Bool) → ltb x NULL ≡ b
-          → take (end + boolByte b) (set ring end x) ++ keep isBit (drop (i + 1) part) ≡ take end ring ++ keep isBit (x ∷ drop (i + 1) part)
-      told true e = rw (keep-yes isBit x (drop (i + 1) part) e, add-one end, take-suc-set ring end x l) (append-snoc (take end ring) x (keep isBit (drop (i + 1) part)))
-      told false e = rw (keep-no isBit x (drop (i + 1) part) e, add-zero end, take-set-le end ring end x (omega arith))
+    pub filling-next : {ring′ : List ℕ} {r : ℕ} → u < to → length (unitBits D d0 d1 d2 F u) ≤ unitStart (rows D) (u + 1) - unitStart (rows D) u
+        → length ring′ ≡ length ring → Put (unitBits D d0 d1 d2 F u) ring end ring′ r → Filling D d0 d1 d2 F from to ring₀ n ring′ r (u + 1)
+    unfolding unitsFrom
+    filling-next {ring′} {r} h few l p = record {
+      long = l ∙ f .long;
+      passed = (omega (arith, f .passed .0), omega arith);
+      within = omega (arith, f .within, p .ends, starts-rise (rows D) u (u + 1) (omega arith));
+      told = ap (λ (x : List ℕ). x ++ unitsFrom D d0 d1 d2 F (u + 1) (to - (u + 1))) (p .told)
+          ∙ append-assoc (take end ring) (unitBits D d0 d1 d2 F u) (unitsFrom D d0 d1 d2 F (u + 1) (to - (u + 1)))
+          ∙ ap (λ (x : List ℕ). take end ring ++ x) (sym next)
+          ∙ f .told;
+    }
+      where
+        next : unitsFrom D d0 d1 d2 F u (to - u) ≡ unitBits D d0 d1 d2 F u ++ unitsFrom D d0 d1 d2 F (u + 1) (to - (u + 1))
+        next =
+            let one : to - u ≡ suc (to - (u + 1)) = omega arith in
+            ap (unitsFrom D d0 d1 d2 F u) one ∙ ap (λ (k : ℕ). unitBits D d0 d1 d2 F u ++ unitsFrom D d0 d1 d2 F k (to - (u + 1))) (sym (add-one u))
 
-  pub finish : length part ≤ i → Gathering part ring₀ n ring end i → Gathered part ring₀ n ring end
-  unfolding keep
-  finish h g = record {
-    within = omega (arith, g .within, g .passed);
-    told = sym (append-nil (take end ring)) ∙ ap (λ (l : List ℕ). take end ring ++ keep isBit l) (sym (drop-of-length-le part h)) ∙ g .told;
-  }
+    ends : n + (unitStart (rows D) to - unitStart (rows D) from) ≤ length ring₀ → end ≤ length ring
+    ends l = omega (arith, f .within, f .long, starts-rise (rows D) u to (f .passed .1))
 
--- ---- the ring
+    reached : end ≤ n + (unitStart (rows D) to - unitStart (rows D) from)
+    reached = omega (arith, f .within, starts-rise (rows D) u to (f .passed .1), starts-rise (rows D) from u (f .passed .0))
 
--- no bit at all
-pub ringOf-none : (w : List ℕ) (at : ℕ) → length (turnBits w at) ≡ 0 → ringOf w at ≡ onCircle w 0 ∷ []
-unfolding ringOf
-ringOf-none w at e = simp (eq-eqb (length (turnBits w at)) 0 e)
+    -- all units are put, or enough of them
+    filling-all : (most : ℕ) → to ≤ u
+        → PutTo most (unitsFrom D d0 d1 d2 F from (to - from)) (unitStart (rows D) to - unitStart (rows D) from) ring₀ n ring end
+    unfolding unitsFrom
+    filling-all most h = record {
+      within = reached;
+      told = ap (take most) (sym (append-nil (take end ring)) ∙ ap (λ (k : ℕ). take end ring ++ unitsFrom D d0 d1 d2 F u k) none ∙ f .told);
+    }
+      where
+        none : 0 ≡ to - u
+        none = omega arith
 
-pub ringOf-some : (w : List ℕ) (at : ℕ) → 0 < length (turnBits w at) → ringOf w at ≡ turnBits w at
-unfolding ringOf
-ringOf-some w at h = simp (ne-eqb (length (turnBits w at)) 0 (λ z. omega arith))
+    filling-enough : (most : ℕ) → most ≤ end → n + (unitStart (rows D) to - unitStart (rows D) from) ≤ length ring₀
+        → PutTo most (unitsFrom D d0 d1 d2 F from (to - from)) (unitStart (rows D) to - unitStart (rows D) from) ring₀ n ring end
+    filling-enough most h l = record {
+      within = reached;
+      told = sym (take-append-le most (take end ring) (unitsFrom D d0 d1 d2 F u (to - u)) (omega (arith, length-take-le end ring (ends l)))) ∙ ap (take most) (f .told);
+    }
 
--- ---- in stretches
+    -- by the loop's test
+    pub filling-goes : (most : ℕ) → (ltb u to && ltb end most) ≡ true → u < to
+    filling-goes most t = ltb-true u to (and-eq-true-iff (ltb u to) (ltb end most) .0 t .0)
 
--- the same with no more than `most` in the ring, of which the next stretch gathers at most `step`
-pub record Filling (part ring₀ : List ℕ) (n most : ℕ) (ring : List ℕ) (end i step : ℕ) : Type 0 where
-  pub got : Gathering part ring₀ n ring end i
-  pub few : end ≤ most
-  pub next : step ≡ min (most - end) (length part - i)
-
-pub filling-start : {part ring₀ : List ℕ} {n most step : ℕ} → n ≤ most → step ≡ min (most - n) (length part) → Filling part ring₀ n most ring₀ n 0 step
-filling-start h e = record { got = record { long = refl; passed = omega arith; within = omega arith; told = refl }; few = h; next = omega arith }
-
-module _ {part ring₀ ring : List ℕ} {n most end i step : ℕ} (f : Filling part ring₀ n most ring end i step) where
-  pub stretch-ends : i + step ≤ length part
-  stretch-ends = omega (arith, f .got .passed, f .next)
-
-  stretch-count : length (midOf i (i + step - i) part) ≡ step
-  stretch-count = omega (arith, length-mid i (i + step) part stretch-ends)
-
-  pub stretch-room : n + length part ≤ length ring₀ → end + length (midOf i (i + step - i) part) ≤ length ring
-  stretch-room h = omega (arith, stretch-count, stretch-ends, f .got .within, f .got .long)
-
-  pub stretch-less : 0 < step → length part - (i + step) < length part - i
-  stretch-less h = omega (arith, stretch-ends)
-
-  pub stretch-few : {ring′ : List ℕ} {end′ : ℕ} → Gathered (midOf i (i + step - i) part) ring end ring′ end′ → end′ ≤ most
-  stretch-few g = omega (arith, g .within, stretch-count, f .few, f .next)
-
-  pub filling-next : {ring′ : List ℕ} {end′ step′ : ℕ} → Gathered (midOf i (i + step - i) part) ring end ring′ end′ → length ring′ ≡ length ring
-      → step′ ≡ min (most - end′) (length part - (i + step)) → Filling part ring₀ n most ring′ end′ (i + step) step′
-  filling-next {ring′} {end′} g l e = record {
-    got = record {
-      long = l ∙ f .got .long;
-      passed = stretch-ends;
-      within = omega (arith, g .within, stretch-count, f .got .within);
-      told = told;
-    };
-    few = stretch-few g;
-    next = e;
-  }
-    where
-      rest : List ℕ
-      rest = drop (i + step) part
-
-      parts : midOf i (i + step - i) part ++ rest ≡ drop i part
-      parts = ap (λ (r : List ℕ). midOf i (i + step - i) part ++ r) (sym (post-is i (i + step) part (omega arith))) ∙ take-append-drop (i + step - i) (drop i part)
-
-      told : take end′ ring′ ++ keep isBit rest ≡ take n ring₀ ++ keep isBit part
-      told =
-          ap (λ (r : List ℕ). r ++ keep isBit rest) (g .told)
-          ∙ append-assoc (take end ring) (keep isBit (midOf i (i + step - i) part)) (keep isBit rest)
-          ∙ ap (λ (r : List ℕ). take end ring ++ r) (sym (keep-append isBit (midOf i (i + step - i) part) rest) ∙ ap (keep isBit) parts)
-          ∙ f .got .told
-
-  pub filling-last : n + length part ≤ length ring₀ → step ≤ 0 → GatheredTo most part ring₀ n ring end
-  filling-last h z = record {
-    within = omega (arith, f .got .within, f .got .passed);
-    few = f .few;
-    told = ⊎-elim full all (eq-or-lt-of-le (f .few));
-  }
-    where
-      count : length (take end ring) ≡ end
-      count = length-take-le end ring (omega (arith, f .got .within, f .got .passed, f .got .long))
-
-      full : end ≡ most → take end ring ≡ take most (take n ring₀ ++ keep isBit part)
-      full e = sym (take-at (take end ring) (keep isBit (drop i part)) most (count ∙ e)) ∙ ap (take most) (f .got .told)
-
-      all : end < most → take end ring ≡ take most (take n ring₀ ++ keep isBit part)
-      all l =
-          let passed : length part ≤ i = omega (arith, f .next) in
-          let told = finish passed (f .got) .told in
-          told ∙ sym (take-all most (take n ring₀ ++ keep isBit part) (omega (arith, ap length told, count)))
+    pub filling-ends : (most : ℕ) → (ltb u to && ltb end most) ≡ false → n + (unitStart (rows D) to - unitStart (rows D) from) ≤ length ring₀
+        → PutTo most (unitsFrom D d0 d1 d2 F from (to - from)) (unitStart (rows D) to - unitStart (rows D) from) ring₀ n ring end
+    filling-ends most t l = go (ltb u to) refl (ltb end most) refl t
+      where
+        go : (a : Bool) → ltb u to ≡ a → (b : Bool) → ltb end most ≡ b → (a && b) ≡ false
+            → PutTo most (unitsFrom D d0 d1 d2 F from (to - from)) (unitStart (rows D) to - unitStart (rows D) from) ring₀ n ring end
+        go false e b g t = filling-all most (ltb-false u to e)
+        go true e false g t = filling-enough most (ltb-false end most g) l
+        go true e true g t = let z : _≡_ {A = ℕ} 0 1 = cc in absurd (omega arith)
 
 -- ---- as many as are sent
 
@@ -170,44 +360,20 @@ cut-ring m l = ⊎-elim (λ z. long (omega arith)) (λ p. short (omega arith)) (
         let d : k < length l = omega arith in
         ap (λ (j : ℕ). getD (take m l) j 0) (mod-eq-of-lt c) ∙ getD-take m l k 0 b ∙ ap (λ (j : ℕ). getD l j 0) (sym (mod-eq-of-lt d)))
 
--- ---- the two parts of a turn
-
--- a ring of one place
-pub ring-one : (ring : List ℕ) (x : ℕ) → 0 < length ring → take 1 (set ring 0 x) ≡ x ∷ []
-ring-one ring x h = take-suc-set ring 0 x h
-
--- the part from `at` on is gathered and leaves room for the part before it
-pub room-left : (w : List ℕ) (at : ℕ) {ring₀ ring₁ : List ℕ} {most n : ℕ} → at ≤ length w → GatheredTo most (midOf at (length w - at) w) ring₀ 0 ring₁ n
-    → length ring₁ ≡ length ring₀ → length w ≤ length ring₀ → n + length (take at w) ≤ length ring₁
-room-left w at within g e l = omega (arith, g .within, length-mid at (length w) w (omega arith), length-take-le at w within)
-
--- and that part is gathered
-module _ (w : List ℕ) (at : ℕ) {ring₀ ring₁ ring₂ : List ℕ} {most n end : ℕ} (within : at ≤ length w)
-    (g : GatheredTo most (midOf at (length w - at) w) ring₀ 0 ring₁ n) (h : GatheredTo most (take at w) ring₁ n ring₂ end) where
-  both-told : take end ring₂ ≡ take most (turnBits w at)
-  unfolding turnBits
+-- the units from the start on are put, then those before it
+module _ {most size₁ size₂ : ℕ} {xs ys ring₀ ring₁ ring₂ : List ℕ} {n r : ℕ} (p : PutTo most xs size₁ ring₀ 0 ring₁ n) (q : PutTo most ys size₂ ring₁ n ring₂ r) where
+  both-told : take most (take r ring₂) ≡ take most (xs ++ ys)
   both-told =
-      h .told
-      ∙ ap (λ (l : List ℕ). take most (l ++ keep isBit (take at w)))
-      (g .told ∙ ap (λ (l : List ℕ). take most (keep isBit l)) (take-all (length w - at) (drop at w) (omega (arith, length-drop at w))))
-      ∙ cut-join most (keep isBit (drop at w)) (keep isBit (take at w))
-      ∙ ap (take most) (sym (keep-append isBit (drop at w) (take at w)))
+      q .told
+      ∙ sym (cut-join most (take n ring₁) ys)
+      ∙ ap (λ (l : List ℕ). take most (l ++ ys)) (p .told)
+      ∙ cut-join most xs ys
 
-  pub both-within : end ≤ length w
-  both-within = omega (arith, g .within, h .within, length-mid at (length w) w (omega arith), length-take-le at w within)
+  pub ring-turn : tab most (turnAfterTurn (take r ring₂)) ≡ tab most (turnAfterTurn (xs ++ ys))
+  ring-turn = sym (cut-ring most (take r ring₂)) ∙ ap (λ (l : List ℕ). tab most (turnAfterTurn l)) both-told ∙ cut-ring most (xs ++ ys)
 
-  pub ring-none : end ≡ 0 → tab most (turnAfterTurn (onCircle w 0 ∷ [])) ≡ tab most (turnAfterTurn (ringOf w at))
-  ring-none z = ⊎-elim nothing some (eq-zero-or-pos most)
+  pub ring-some : 0 < most → 0 < length (xs ++ ys) → 0 < r
+  ring-some h l = ⊎-elim (λ z. absurd (none z)) (λ p. p) (eq-zero-or-pos r)
     where
-      nothing : most ≡ 0 → tab most (turnAfterTurn (onCircle w 0 ∷ [])) ≡ tab most (turnAfterTurn (ringOf w at))
-      nothing e = tab-ext most (turnAfterTurn (onCircle w 0 ∷ [])) (turnAfterTurn (ringOf w at)) (λ k b. absurd (omega arith))
-
-      some : 0 < most → tab most (turnAfterTurn (onCircle w 0 ∷ [])) ≡ tab most (turnAfterTurn (ringOf w at))
-      some p =
-          let short : length (take most (turnBits w at)) ≡ 0 = ap length (sym both-told ∙ ap (λ (k : ℕ). take k ring₂) z) in
-          ap (λ (r : List ℕ). tab most (turnAfterTurn r)) (sym (ringOf-none w at (omega (arith, length-take most (turnBits w at)))))
-
-  pub ring-some : 0 < end → end ≤ length ring₂ → tab most (turnAfterTurn (take end ring₂)) ≡ tab most (turnAfterTurn (ringOf w at))
-  ring-some p l =
-      let long : 0 < length (turnBits w at) = omega (arith, ap length both-told, length-take-le end ring₂ l, length-take most (turnBits w at)) in
-      ap (λ (r : List ℕ). tab most (turnAfterTurn r)) both-told ∙ cut-ring most (turnBits w at) ∙ ap (λ (r : List ℕ). tab most (turnAfterTurn r)) (sym (ringOf-some w at long))
+      none : r ≡ 0 → ⊥
+      none z = omega (arith, ap length both-told, length-take most (take r ring₂), length-take r ring₂, length-take most (xs ++ ys))

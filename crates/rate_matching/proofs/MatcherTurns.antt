@@ -1,22 +1,18 @@
--- Laws of the matcher's last stage: a ring copied turn after turn, and that `selected` is the ring of one turn's bits repeated so.
+-- Laws of the matcher's last stage: a ring copied turn after turn, one or many at once.
 -- Assumes nothing.
 use mathlib.Core.Path.{_≡_, refl, sym, _∙_, ap}
-use mathlib.Core.Logic.{⊎-elim}
-use mathlib.Core.List.{List, [], _∷_, _++_, append-nil}
-use Prim.Native.Nat.{ℕ, _+_, _-_, _%_, _≤_, _<_}
-use native.Mathlib.Nat.{add-sub-cancel-left, eq-zero-or-pos, zero-add, zero-mod, mod-one, mod-eq-of-lt, mod-add-mod, add-mod-right}
+use mathlib.Core.List.{List, [], _++_, append-nil}
+use Prim.Native.Nat.{ℕ, _+_, _-_, _*_, _/_, _%_, _≤_, _<_}
+use native.Mathlib.Nat.{add-sub-cancel-left, zero-add, zero-mod, mod-lt, mod-eq-of-lt, mod-add-mod, add-mod-right, mod-mod-of-dvd, dvd-mul-left, div-mul-le-self, div-add-mod'}
 use native.Mathlib.Omega.{arith}
-use lib.ListN.{length, getD, take, length-map, List·getD-eq-default}
+use lib.ListN.{length, getD, take}
 use lib.Seq.{ext-getD, length-take-le, take-length, getD-take}
 use borrow.Rule.Slice.PartMut.{midOf, putMid, same-len-mid}
 use Rattle.laws.specs.Lists.{tab, tabFrom}
-use Rattle.laws.proofs.Tab.{length-tabFrom, getD-tabFrom, tabFrom-split, map-tab, tab-ext, tab-rest}
+use Rattle.laws.proofs.Tab.{length-tabFrom, getD-tabFrom, tabFrom-split, length-tab, getD-tab, tab-ext, tab-rest}
 use Rattle.laws.proofs.Parts.{length-mid, length-put}
 use Rattle.laws.proofs.Writing.{Writing, start, same, pushPart, finish-all}
-use Rattle.rate_matching.specs.Walk.{onCircle, turn, turnAfterTurn, sentPlaces, selected}
-use Rattle.rate_matching.specs.Matcher.{turnBits, ringOf}
-use Rattle.rate_matching.proofs.Walk.{turn-entries, selected-is}
-use Rattle.rate_matching.proofs.MatcherRing.{ringOf-none, ringOf-some}
+use Rattle.rate_matching.specs.Walk.{turnAfterTurn}
 
 module _ (ring : List ℕ) (i : ℕ) (some : 0 < length ring) (whole : i % length ring ≡ 0) where
   -- from a turn's begin on, the ring from its begin on
@@ -99,24 +95,19 @@ module _ {ring out₀ : List ℕ} where
         future : tabFrom i (length out₀ - i) (turnAfterTurn ring) ≡ take left ring ++ []
         future = ap (λ (n : ℕ). tabFrom i n (turnAfterTurn ring)) rest ∙ turn-front ring i some (t .whole) left (omega arith) ∙ sym (append-nil (take left ring))
 
--- ---- what is sent
+-- ---- many turns at once
 
-pub selected-ring : (w : List ℕ) (k0 E : ℕ) → k0 ≤ length w → selected w k0 E ≡ tab E (turnAfterTurn (ringOf w k0))
-unfolding selected sentPlaces turnAfterTurn turnBits
-selected-ring w k0 E h = ⊎-elim none some (eq-zero-or-pos (length (turn w k0)))
-  where
-    long : length (turnBits w k0) ≡ length (turn w k0)
-    long = ap length (sym (turn-entries w k0 h)) ∙ length-map (turn w k0) (onCircle w)
+-- as many turns of L entries as fit into M
+pub turns-fit : (M L : ℕ) → M / L * L ≤ M
+turns-fit M L = div-mul-le-self M L
 
-    -- no place holds a bit: each place sent is 0
-    none : length (turn w k0) ≡ 0 → selected w k0 E ≡ tab E (turnAfterTurn (ringOf w k0))
-    none z =
-        map-tab E (turnAfterTurn (turn w k0)) (onCircle w)
-        ∙ tab-ext E (λ (k : ℕ). onCircle w (turnAfterTurn (turn w k0) k)) (turnAfterTurn (onCircle w 0 ∷ []))
-        (λ k l. ap (onCircle w) (List·getD-eq-default (turn w k0) 0 (omega arith)) ∙ ap (λ (i : ℕ). getD (onCircle w 0 ∷ []) i 0) (sym (mod-one k)))
-        ∙ ap (λ (r : List ℕ). tab E (turnAfterTurn r)) (sym (ringOf-none w k0 (long ∙ z)))
+pub turns-some : (M L : ℕ) → 0 < L → L ≤ M → 0 < M / L * L
+turns-some M L h l = omega (arith, div-add-mod' M L, mod-lt M h)
 
-    some : 0 < length (turn w k0) → selected w k0 E ≡ tab E (turnAfterTurn (ringOf w k0))
-    some p =
-        selected-is w k0 E p
-        ∙ ap (λ (r : List ℕ). tab E (turnAfterTurn r)) (turn-entries w k0 h ∙ sym (ringOf-some w k0 (omega (arith, long))))
+-- a list of whole turns, repeated, is the turn repeated
+pub many-turns : (ring : List ℕ) (m E : ℕ) → 0 < m * length ring → tab E (turnAfterTurn (tab (m * length ring) (turnAfterTurn ring))) ≡ tab E (turnAfterTurn ring)
+unfolding turnAfterTurn
+many-turns ring m E h = tab-ext E (turnAfterTurn (tab (m * length ring) (turnAfterTurn ring))) (turnAfterTurn ring) (λ k b.
+    ap (λ (n : ℕ). getD (tab (m * length ring) (turnAfterTurn ring)) (k % n) 0) (length-tab (m * length ring) (turnAfterTurn ring))
+    ∙ getD-tab (m * length ring) (turnAfterTurn ring) (k % (m * length ring)) 0 (mod-lt k h)
+    ∙ ap (λ (i : ℕ). getD ring i 0) (mod-mod-of-dvd (length ring) k (dvd-mul-left (length ring) m)))

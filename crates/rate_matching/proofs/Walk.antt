@@ -2,18 +2,18 @@
 -- Assumes nothing.
 use mathlib.Core.Path.{_≡_, refl, sym, _∙_, ap, ap₂}
 use mathlib.Core.Bool.{Bool, true, false}
-use mathlib.Core.List.{List, [], _∷_, _++_, map, map-append}
+use mathlib.Core.List.{List, [], _∷_, _++_, map}
 use Prim.Native.Nat.{ℕ, zero, suc, _+_, _-_, _*_, _%_, _≤_, _<_}
 use native.Mathlib.Nat.{add-zero, zero-mul, add-mod-right, mod-lt, mod-eq-of-lt, mod-eq-sub-mod, mod-add-mod, add-mod-mod, mul-le-mul-left}
 use native.Mathlib.Omega.{arith}
 use lib.Dec.{ltb}
-use lib.ListN.{length, getD, take, drop, length-append, length-map, length-drop, List·getD-append}
-use lib.Seq.{length-take-le, getD-append-add, getD-take, getD-drop, take-nil}
+use lib.ListN.{length, getD, take, length-append, length-map, List·getD-append}
+use lib.Seq.{length-take-le, getD-append-add, getD-take, take-nil}
 use borrow.Author.Tests.{ltb-true, ltb-false}
 use Rattle.laws.specs.Lists.{tab, tabFrom, keep}
-use Rattle.laws.proofs.Tab.{length-tab, getD-tab, tab-ext, tab-of, tab-split, map-tab, map-tabFrom, tabFrom-shift}
-use Rattle.laws.proofs.Keep.{keep-append, keep-passes, keep-map}
-use Rattle.rate_matching.specs.Walk.{onCircle, isBit, holdsBit, itself, round, turn, turnAfterTurn, sentPlaces, selected, loop, Among, NoneTwice}
+use Rattle.laws.proofs.Tab.{length-tab, getD-tab, tab-ext, tab-of, tab-split, map-tab, tabFrom-shift}
+use Rattle.laws.proofs.Keep.{keep-append, keep-passes}
+use Rattle.rate_matching.specs.Walk.{onCircle, holdsBit, itself, round, turn, turnAfterTurn, sentPlaces, selected, loop, Among, NoneTwice}
 use Rattle.rate_matching.proofs.Places.{once-round}
 use Rattle.rate_matching.proofs.Kept.{keep-finds, keep-from, keep-none-twice}
 
@@ -90,30 +90,6 @@ module _ (w : List ℕ) (k0 : ℕ) (h : k0 < length w) where
   pub turn-pos : (j : ℕ) → j < length w → holdsBit w j ≡ true → 0 < length (turn w k0)
   turn-pos j l t = let f = turn-finds j l t in omega (arith, f .1)
 
--- ---- the entries of one turn: those of the circle, cut at k0 and put together the other way round, that are bits
-
-from-k0 : (w : List ℕ) (k0 : ℕ) → map (onCircle w) (tabFrom k0 (length w - k0) itself) ≡ drop k0 w
-unfolding tab onCircle itself
-from-k0 w k0 =
-    map-tabFrom k0 (length w - k0) itself (onCircle w)
-    ∙ ap (λ (k : ℕ). tabFrom k (length w - k0) (onCircle w)) (sym (add-zero k0))
-    ∙ tabFrom-shift k0 0 (length w - k0) (onCircle w)
-    ∙ sym (tab-of (drop k0 w) (length w - k0) (λ (k : ℕ). onCircle w (k0 + k)) (length-drop k0 w) (λ i l. getD-drop k0 w i 0))
-
-up-to-k0 : (w : List ℕ) (k0 : ℕ) → k0 ≤ length w → map (onCircle w) (tab k0 itself) ≡ take k0 w
-unfolding onCircle itself
-up-to-k0 w k0 h =
-    map-tab k0 itself (onCircle w) ∙ sym (tab-of (take k0 w) k0 (onCircle w) (length-take-le k0 w h) (λ i l. getD-take k0 w i 0 l))
-
-round-entries : (w : List ℕ) (k0 : ℕ) → k0 ≤ length w → map (onCircle w) (round (length w) k0) ≡ drop k0 w ++ take k0 w
-unfolding round
-round-entries w k0 h =
-    map-append (onCircle w) (tabFrom k0 (length w - k0) itself) (tab k0 itself) ∙ ap₂ _++_ (from-k0 w k0) (up-to-k0 w k0 h)
-
-pub turn-entries : (w : List ℕ) (k0 : ℕ) → k0 ≤ length w → map (onCircle w) (turn w k0) ≡ keep isBit (drop k0 w ++ take k0 w)
-unfolding turn holdsBit
-turn-entries w k0 h = sym (keep-map isBit (onCircle w) (round (length w) k0)) ∙ ap (keep isBit) (round-entries w k0 h)
-
 -- ---- turn after turn
 
 pub length-selected : (w : List ℕ) (k0 E : ℕ) → length (selected w k0 E) ≡ E
@@ -125,13 +101,13 @@ getD-map f [] i h = absurd (omega arith)
 getD-map f (x ∷ l) zero h = refl
 getD-map f (x ∷ l) (suc i) h = getD-map f l i (omega arith)
 
--- what is sent, from the entries of one turn
-pub selected-is : (w : List ℕ) (k0 E : ℕ) → 0 < length (turn w k0) → selected w k0 E ≡ tab E (turnAfterTurn (map (onCircle w) (turn w k0)))
-unfolding selected sentPlaces turnAfterTurn
-selected-is w k0 E h =
-    map-tab E (turnAfterTurn (turn w k0)) (onCircle w)
-    ∙ tab-ext E (λ (k : ℕ). onCircle w (turnAfterTurn (turn w k0) k)) (turnAfterTurn (map (onCircle w) (turn w k0)))
-    (λ k l. rw (length-map (turn w k0) (onCircle w)) (sym (getD-map (onCircle w) (turn w k0) (k % length (turn w k0)) (mod-lt k h))))
+-- what stands at the places sent, from what stands at those of one turn
+pub sent-map : (f : ℕ → ℕ) (places : List ℕ) (E : ℕ) → 0 < length places → map f (tab E (turnAfterTurn places)) ≡ tab E (turnAfterTurn (map f places))
+unfolding turnAfterTurn
+sent-map f places E h =
+    map-tab E (turnAfterTurn places) f
+    ∙ tab-ext E (λ (k : ℕ). f (turnAfterTurn places k)) (turnAfterTurn (map f places))
+    (λ k l. rw (length-map places f) (sym (getD-map f places (k % length places) (mod-lt k h))))
 
 -- l, m times
 turns : ℕ → List ℕ → List ℕ

@@ -4,4 +4,5 @@ pub mod Circle
 pub mod Walk
 pub mod Places
 pub mod Shape
+pub mod Units
 pub mod Matcher

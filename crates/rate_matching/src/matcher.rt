@@ -1,26 +1,25 @@
-// The block's rate matcher, clauses 5.1.4.1.1 and 5.1.4.1.2: the circle is laid out column by column, its bits are gathered once
-// into a ring, and the ring is copied turn after turn.
+// The block's rate matcher, clauses 5.1.4.1.1 and 5.1.4.1.2: where dummies and filler stand is known, so the bits of a turn go column by
+// column straight from the streams into a ring, no further than they are sent, and the ring is copied turn after turn.
 use crate::CirclePlace;
 use crate::table::columns;
 ghost use mathlib.Core.Path.{_≡_};
 ghost use mathlib.Core.Bool.{true};
-ghost use Prim.Native.Nat.{ℕ, _+_, _*_, _≤_, _<_, min};
-ghost use lib.ListN.{length, take, replicate};
+ghost use Prim.Native.Nat.{ℕ, _+_, _-_, _*_, _/_, _%_, _≤_, _<_};
+ghost use lib.ListN.{length, replicate};
 ghost use Rattle.laws.specs.Lists.{tab};
 ghost use Rattle.turbo.specs.Streams.{NULL};
 ghost use Rattle.rate_matching.specs.SubBlocks.{rows, plain, shifted};
 ghost use Rattle.rate_matching.specs.Circle.{byTurns, circle, startOf};
 ghost use Rattle.rate_matching.specs.Walk.{turnAfterTurn};
-ghost use Rattle.rate_matching.specs.Matcher.{wrapped, everyRow, columnsFrom, interleavedFrom, Gathered, GatheredTo, ringOf, matchable, matchedInto};
+ghost use Rattle.rate_matching.specs.Columns.{column};
+ghost use Rattle.rate_matching.specs.Units.{everyRow, pairRow, firstRow, columnBits, pairBits, unitBits, unitsFrom, unitStart, startUnit, Laid, Fitting, Put, PutTo};
+ghost use Rattle.rate_matching.specs.Matcher.{wrapped, columnsFrom, interleavedFrom, matchable, matchedInto};
 
 // <NULL>: no bit stands here.
 const NULL: u8 = 2;
 
 // The largest D, that of K = 6,144. Its R is 193.
 const LONGEST: usize = 6148;
-
-// The largest sub-block, 32·R places.
-const SUB_BLOCK: usize = 6176;
 
 // The largest circle, 96·R places.
 const CIRCLE: usize = 18528;
@@ -29,6 +28,11 @@ const CIRCLE: usize = 18528;
 const SHORT: usize = 544;
 
 const SHORT_CIRCLE: usize = 1632;
+
+// The most entries of whole turns that are copied at once, and a turn of so few that copying it alone is slower.
+const MANY: usize = 2048;
+
+const FEW: usize = 512;
 
 // Writes <NULL> over all of `d`.
 pub(crate) fn set_absent(d: &mut [u8])
@@ -147,62 +151,120 @@ pub(crate) fn start(rows: usize, version: usize) -> CirclePlace
     CirclePlace(rows * (24 * version + 2))
 }
 
-// Gathers the bits of a part of the circle into the ring from its place n on, and tells where they end.
-// Each entry is written and only a bit counts, so that there is no branch.
-fn gather(part: &[u8], ring: &mut [u8], n: usize) -> usize
-    requires { ⌜ n + length (now part) ≤ length (now ring) ⌝ }
-    ensures { λ r. ⌜ Gathered (now (part .entry)) (now (ring .entry)) n (now (ring .exit)) r ⌝ }
+// A column of d(1) and the same column of d(2), one further, by turns.
+fn read_pairs(d1: &[u8], d2: &[u8], from: usize, part: &mut [u8])
+    requires { ⌜ (from + 32 * ((length (now part) + 1) / 2) ≤ length (now d1) + 31) × (from + 32 * (length (now part) / 2) ≤ length (now d2) + 30) ⌝ }
+    ensures { λ _. ⌜ now (part .exit) ≡ tab (length (now (part .entry))) (pairRow (now (d1 .entry)) (now (d2 .entry)) from) ⌝ }
 {
+    let mut at = from;
+    let mut k = 0;
+    while k + 1 < part.len() {
+        part[k] = d1[at];
+        part[k + 1] = d2[at + 1];
+        at += 32;
+        k += 2;
+    }
+    if k < part.len() {
+        part[k] = d1[at];
+    }
+}
+
+// The first row of column p of y that lies behind `absent` places.
+fn first_row(absent: usize, p: usize) -> usize
+    requires { ⌜ (absent ≤ 6176) × (p < 32) ⌝ }
+    ensures { λ r. ⌜ r ≡ firstRow absent p ⌝ }
+{
+    (absent + (31 - p)) / 32
+}
+
+// Puts the bits of a stream's column p into the ring from its place n on, and tells where they end.
+fn put_column(d: &[u8], filler: usize, p: usize, ring: &mut [u8], n: usize) -> usize
+    requires { ⌜ Laid (length (now d)) filler p × (n + rows (length (now d)) ≤ length (now ring)) ⌝ }
+    ensures { λ r. ⌜ Put (columnBits (length (now (d .entry))) (now (d .entry)) filler p) (now (ring .entry)) n (now (ring .exit)) r ⌝ }
+{
+    let rows = (d.len() + 31) / 32;
+    let dummies = 32 * rows - d.len();
+    let first = first_row(dummies + filler, p);
+    let end = n + (rows - first);
+    read_column(d, p + 32 * first - dummies, &mut ring[n..end]);
+    end
+}
+
+// The same of column p of d(1) and d(2) by turns. In the first rows d(2), which has no filler and is read one further, stands alone;
+// the last place of column 31 wraps to a dummy.
+fn put_pairs(d1: &[u8], d2: &[u8], filler: usize, p: usize, ring: &mut [u8], n: usize) -> usize
+    requires { ⌜ Laid (length (now d1)) filler p × (length (now d2) ≡ length (now d1)) × (n + 2 * rows (length (now d1)) ≤ length (now ring)) ⌝ }
+    ensures { λ r. ⌜ Put (pairBits (length (now (d1 .entry))) (now (d1 .entry)) (now (d2 .entry)) filler p) (now (ring .entry)) n (now (ring .exit)) r ⌝ }
+{
+    let rows = (d1.len() + 31) / 32;
+    let dummies = 32 * rows - d1.len();
+    let early = first_row(dummies - 1, p);
+    let first = first_row(dummies + filler, p);
+    let mid = n + (first - early);
+    read_column(d2, p + 1 + 32 * early - dummies, &mut ring[n..mid]);
+    let end = mid + (2 * (rows - first) - p / 31);
+    read_pairs(d1, d2, p + 32 * first - dummies, &mut ring[mid..end]);
+    end
+}
+
+// The circle falls into 64 units: the 32 columns of d(0), then those of d(1) and d(2) by turns. Unit u is made of column p.
+fn put_unit(
+    d0: &[u8],
+    d1: &[u8],
+    d2: &[u8],
+    filler: usize,
+    u: usize,
+    p: usize,
+    ring: &mut [u8],
+    n: usize,
+) -> usize
+    requires { ⌜ Fitting (length (now d0)) (length (now d1)) (length (now d2)) filler × (u < 64) × (p ≡ column (u % 32))
+        × (n + (unitStart (rows (length (now d0))) (u + 1) - unitStart (rows (length (now d0))) u) ≤ length (now ring)) ⌝ }
+    ensures { λ r. ⌜ Put (unitBits (length (now (d0 .entry))) (now (d0 .entry)) (now (d1 .entry)) (now (d2 .entry)) filler u) (now (ring .entry)) n (now (ring .exit)) r ⌝ }
+{
+    if u < 32 {
+        return put_column(d0, filler, p, ring, n);
+    }
+    put_pairs(d1, d2, filler, p, ring, n)
+}
+
+// Puts the bits of the units from `from` to `to` into the ring from its place n on until it holds `most`, and tells where they end.
+fn put_units(
+    d0: &[u8],
+    d1: &[u8],
+    d2: &[u8],
+    filler: usize,
+    from: usize,
+    to: usize,
+    ring: &mut [u8],
+    n: usize,
+    most: usize,
+) -> usize
+    requires { ⌜ Fitting (length (now d0)) (length (now d1)) (length (now d2)) filler × (from ≤ to) × (to ≤ 64)
+        × (n + (unitStart (rows (length (now d0))) to - unitStart (rows (length (now d0))) from) ≤ length (now ring)) ⌝ }
+    ensures { λ r. ⌜ PutTo most (unitsFrom (length (now (d0 .entry))) (now (d0 .entry)) (now (d1 .entry)) (now (d2 .entry)) filler from (to - from))
+        (unitStart (rows (length (now (d0 .entry)))) to - unitStart (rows (length (now (d0 .entry)))) from)
+        (now (ring .entry)) n (now (ring .exit)) r ⌝ }
+{
+    let p = columns();
     let mut end = n;
-    let mut i = 0;
-    while i < part.len() {
-        let x = part[i];
-        ring[end] = x;
-        end += (x < NULL) as usize;
-        i += 1;
+    let mut u = from;
+    while (u < to) & (end < most) {
+        end = put_unit(d0, d1, d2, filler, u, p[u % 32] as usize, ring, end);
+        u += 1;
     }
     end
 }
 
-// The lesser of two numbers.
-fn least(a: usize, b: usize) -> usize
-    ensures { λ r. ⌜ r ≡ min a b ⌝ }
+// The unit that begins at a version's start.
+fn start_unit(version: usize) -> usize
+    requires { ⌜ version ≤ 3 ⌝ }
+    ensures { λ r. ⌜ r ≡ startUnit version ⌝ }
 {
-    if a < b { a } else { b }
-}
-
-// Gathers the bits of a part of the circle into the ring from its place n on until the ring holds `most`, and tells where they end.
-// It goes by stretches that are no longer than the bits still wanted, so that no place needs a test.
-fn gather_to(part: &[u8], ring: &mut [u8], n: usize, most: usize) -> usize
-    requires { ⌜ (n ≤ most) × (n + length (now part) ≤ length (now ring)) ⌝ }
-    ensures { λ r. ⌜ GatheredTo most (now (part .entry)) (now (ring .entry)) n (now (ring .exit)) r ⌝ }
-{
-    let mut end = n;
-    let mut i = 0;
-    let mut step = least(most - n, part.len());
-    while 0 < step {
-        let to = i + step;
-        end = gather(&part[i..to], ring, end);
-        i = to;
-        step = least(most - end, part.len() - i);
+    if version < 2 {
+        return 24 * version + 2;
     }
-    end
-}
-
-// The bits of one turn round the circle, in a ring, or as many of them as are sent; a circle that holds no bit gives its place 0 alone.
-fn gather_turn(w: &[u8], from: CirclePlace, ring: &mut [u8], sent: usize) -> usize
-    requires { ⌜ (0 < length (now w)) × (from .0 ≤ length (now w)) × (length (now w) ≤ length (now ring)) ⌝ }
-    ensures { λ r. ⌜ (0 < r) × (r ≤ length (now (ring .exit)))
-        × (tab sent (turnAfterTurn (take r (now (ring .exit)))) ≡ tab sent (turnAfterTurn (ringOf (now (w .entry)) (from .0)))) ⌝ }
-{
-    let at = from.0;
-    let n = gather_to(&w[at..], ring, 0, sent);
-    let end = gather_to(&w[..at], ring, n, sent);
-    if end == 0 {
-        ring[0] = w[0];
-        return 1;
-    }
-    end
+    12 * version + 17
 }
 
 // Fills `out` with the ring turn after turn; the last turn may be cut short.
@@ -222,108 +284,95 @@ fn repeat(ring: &[u8], out: &mut [u8])
     bytes::copy(&ring[..left], &mut out[i..]);
 }
 
-// Whether these are the lengths of a code block's streams, and one of the four versions.
-fn matchable(d: usize, d1: usize, d2: usize, version: usize) -> bool
-    ensures { λ r. ⌜ r ≡ matchable d d1 d2 version ⌝ }
+// The same of a ring that is short beside `out`, by copies of many turns at once.
+fn repeat_many(ring: &[u8], out: &mut [u8])
+    requires { ⌜ (0 < length (now ring)) × (length (now ring) ≤ 2048) ⌝ }
+    ensures { λ _. ⌜ now (out .exit) ≡ tab (length (now (out .entry))) (turnAfterTurn (now (ring .entry))) ⌝ }
 {
-    (d1 == d) & (d2 == d) & (44 <= d) & (d <= LONGEST) & (version <= 3)
+    let mut turns = [0u8; MANY];
+    let n = MANY / ring.len() * ring.len();
+    repeat(ring, &mut turns[..n]);
+    repeat(&turns[..n], out);
 }
 
-// Rate matching of one code block in rooms for the circle, for its bits and for the sub-blocks, each as long as this block needs or longer.
+// Fills `out` with the ring turn after turn, in the way that is faster.
+fn fill(ring: &[u8], out: &mut [u8])
+    requires { ⌜ 0 < length (now ring) ⌝ }
+    ensures { λ _. ⌜ now (out .exit) ≡ tab (length (now (out .entry))) (turnAfterTurn (now (ring .entry))) ⌝ }
+{
+    if (ring.len() <= FEW) & (MANY <= out.len()) {
+        repeat_many(ring, out);
+        return;
+    }
+    repeat(ring, out);
+}
+
+// Whether these are the lengths and the filler of a code block's streams, and one of the four versions.
+fn matchable(d: usize, d1: usize, d2: usize, filler: usize, version: usize) -> bool
+    ensures { λ r. ⌜ r ≡ matchable d d1 d2 filler version ⌝ }
+{
+    (d1 == d)
+        & (d2 == d)
+        & (44 <= d)
+        & (d <= LONGEST)
+        & (d % 8 == 4)
+        & (filler < d)
+        & (version <= 3)
+}
+
+// Rate matching of one code block with a room for the bits of a turn.
 fn match_in(
     d0: &[u8],
     d1: &[u8],
     d2: &[u8],
+    filler: usize,
     version: usize,
-    w: &mut [u8],
     ring: &mut [u8],
-    y: &mut [u8],
-    v1: &mut [u8],
-    v2: &mut [u8],
     out: &mut [u8],
 )
-    requires { ⌜ (matchable (length (now d0)) (length (now d1)) (length (now d2)) version ≡ true)
-        × (96 * rows (length (now d0)) ≤ length (now w)) × (96 * rows (length (now d0)) ≤ length (now ring))
-        × (32 * rows (length (now d0)) < length (now y)) × (32 * rows (length (now d0)) ≤ length (now v1))
-        × (32 * rows (length (now d0)) ≤ length (now v2)) ⌝ }
-    ensures { λ _. ⌜ now (out .exit) ≡ matchedInto (now (d0 .entry)) (now (d1 .entry)) (now (d2 .entry)) version (now (out .entry)) ⌝ }
+    requires { ⌜ (matchable (length (now d0)) (length (now d1)) (length (now d2)) filler version ≡ true)
+        × (96 * rows (length (now d0)) ≤ length (now ring)) × (0 < length (now out)) ⌝ }
+    ensures { λ _. ⌜ now (out .exit) ≡ matchedInto (now (d0 .entry)) (now (d1 .entry)) (now (d2 .entry)) filler version (now (out .entry)) ⌝ }
 {
-    let rows = (d0.len() + 31) / 32;
-    let m = 32 * rows;
-    let end = m + 1;
-    let n = 96 * rows;
-    lay_out(
-        d0,
-        d1,
-        d2,
-        &mut y[..end],
-        &mut v1[..m],
-        &mut v2[..m],
-        &mut w[..n],
-    );
-    let bits = gather_turn(&w[..n], start(rows, version), ring, out.len());
-    repeat(&ring[..bits], out);
+    let start = start_unit(version);
+    let most = out.len();
+    let n = put_units(d0, d1, d2, filler, start, 64, ring, 0, most);
+    let end = put_units(d0, d1, d2, filler, 0, start, ring, n, most);
+    fill(&ring[..end], out);
 }
 
-// The same in rooms for a short block: a room is filled when it is made, which for a block of some dozen bits costs more than the matching itself.
-fn match_short(d0: &[u8], d1: &[u8], d2: &[u8], version: usize, out: &mut [u8])
-    requires { ⌜ (matchable (length (now d0)) (length (now d1)) (length (now d2)) version ≡ true) × (length (now d0) ≤ 544) ⌝ }
-    ensures { λ _. ⌜ now (out .exit) ≡ matchedInto (now (d0 .entry)) (now (d1 .entry)) (now (d2 .entry)) version (now (out .entry)) ⌝ }
+// The same in a room for a short block: a room is filled when it is made, which for a block of some dozen bits costs as much as the matching itself.
+fn match_short(d0: &[u8], d1: &[u8], d2: &[u8], filler: usize, version: usize, out: &mut [u8])
+    requires { ⌜ (matchable (length (now d0)) (length (now d1)) (length (now d2)) filler version ≡ true) × (length (now d0) ≤ 544) × (0 < length (now out)) ⌝ }
+    ensures { λ _. ⌜ now (out .exit) ≡ matchedInto (now (d0 .entry)) (now (d1 .entry)) (now (d2 .entry)) filler version (now (out .entry)) ⌝ }
 {
-    let mut w = [0u8; SHORT_CIRCLE];
     let mut ring = [0u8; SHORT_CIRCLE];
-    let mut y = [0u8; SHORT + 1];
-    let mut v1 = [0u8; SHORT];
-    let mut v2 = [0u8; SHORT];
-    match_in(
-        d0,
-        d1,
-        d2,
-        version,
-        &mut w,
-        &mut ring,
-        &mut y,
-        &mut v1,
-        &mut v2,
-        out,
-    );
+    match_in(d0, d1, d2, filler, version, &mut ring, out);
 }
 
-// The same in rooms for the longest block.
-fn match_long(d0: &[u8], d1: &[u8], d2: &[u8], version: usize, out: &mut [u8])
-    requires { ⌜ matchable (length (now d0)) (length (now d1)) (length (now d2)) version ≡ true ⌝ }
-    ensures { λ _. ⌜ now (out .exit) ≡ matchedInto (now (d0 .entry)) (now (d1 .entry)) (now (d2 .entry)) version (now (out .entry)) ⌝ }
+// The same in a room for the longest block.
+fn match_long(d0: &[u8], d1: &[u8], d2: &[u8], filler: usize, version: usize, out: &mut [u8])
+    requires { ⌜ (matchable (length (now d0)) (length (now d1)) (length (now d2)) filler version ≡ true) × (0 < length (now out)) ⌝ }
+    ensures { λ _. ⌜ now (out .exit) ≡ matchedInto (now (d0 .entry)) (now (d1 .entry)) (now (d2 .entry)) filler version (now (out .entry)) ⌝ }
 {
-    let mut w = [0u8; CIRCLE];
     let mut ring = [0u8; CIRCLE];
-    let mut y = [0u8; SUB_BLOCK + 1];
-    let mut v1 = [0u8; SUB_BLOCK];
-    let mut v2 = [0u8; SUB_BLOCK];
-    match_in(
-        d0,
-        d1,
-        d2,
-        version,
-        &mut w,
-        &mut ring,
-        &mut y,
-        &mut v1,
-        &mut v2,
-        out,
-    );
+    match_in(d0, d1, d2, filler, version, &mut ring, out);
 }
 
 // Rate matching of one code block: fills `out` with the bits that redundancy version `version` sends of the streams d(0), d(1) and d(2),
-// in which 2 or more stands for <NULL>. Of streams that are no code block's, or another version, it leaves `out` as it is.
-pub fn rate_match(d0: &[u8], d1: &[u8], d2: &[u8], version: usize, out: &mut [u8])
-    ensures { λ _. ⌜ now (out .exit) ≡ matchedInto (now (d0 .entry)) (now (d1 .entry)) (now (d2 .entry)) version (now (out .entry)) ⌝ }
+// where the first `filler` places of d(0) and d(1) are <NULL>. Of streams that are no code block's, or another version, it leaves `out` as it is.
+pub fn rate_match(d0: &[u8], d1: &[u8], d2: &[u8], filler: usize, version: usize, out: &mut [u8])
+    ensures { λ _. ⌜ now (out .exit) ≡ matchedInto (now (d0 .entry)) (now (d1 .entry)) (now (d2 .entry)) filler version (now (out .entry)) ⌝ }
 {
-    if !matchable(d0.len(), d1.len(), d2.len(), version) {
+    if out.len() == 0 {
+        return;
+    }
+    if !matchable(d0.len(), d1.len(), d2.len(), filler, version) {
         return;
     }
     if d0.len() <= SHORT {
-        match_short(d0, d1, d2, version, out);
+        match_short(d0, d1, d2, filler, version, out);
         return;
     }
-    match_long(d0, d1, d2, version, out);
+    match_long(d0, d1, d2, filler, version, out);
 }

@@ -2,7 +2,7 @@
 pub mod block;
 
 ghost use mathlib.Core.Path.{_≡_};
-ghost use Prim.Native.Nat.{_≤_, _<_};
+ghost use Prim.Native.Nat.{_*_, _≤_, _<_};
 ghost use Rattle.interleaver.specs.Table.{rowCount};
 ghost use Rattle.segmentation.specs.Segmentation.{firstRow};
 ghost use Rattle.segmentation.specs.Sizes.{badSize, segmentsOf, segmentsFor, sizesAnswer};
@@ -126,18 +126,30 @@ fn several(b: usize) -> Segments
     }
 }
 
-// The first row of the table with blocks·K ≥ need, or the number of rows where there is none. The table is copied once.
+// The first row of the table with blocks·K ≥ need.
 fn first_row(blocks: usize, need: usize) -> usize
-    requires { ⌜ blocks ≤ 5 ⌝ }
+    requires { ⌜ (0 < blocks) × (blocks ≤ 5) × (need ≤ blocks * 6144) ⌝ }
     ensures { λ r. ⌜ r ≡ firstRow blocks need 0 rowCount ⌝ }
 {
-    let ks = interleaver::table::sizes();
-    let mut row = 0;
-    while row < interleaver::table::ROWS {
-        if need <= blocks * (ks[row] as usize) {
-            return row;
-        }
-        row += 1;
+    row_from((need + (blocks - 1)) / blocks)
+}
+
+// The first row with K ≥ least, by the steps in which K rises.
+fn row_from(least: usize) -> usize
+    requires { ⌜ least ≤ 6144 ⌝ }
+    ensures { λ r. ⌜ r ≡ firstRow 1 least 0 rowCount ⌝ }
+{
+    if least <= 40 {
+        return 0;
     }
-    row
+    if least <= 512 {
+        return (least - 33) / 8;
+    }
+    if least <= 1024 {
+        return 59 + (least - 497) / 16;
+    }
+    if least <= 2048 {
+        return 91 + (least - 993) / 32;
+    }
+    123 + (least - 1985) / 64
 }

@@ -6,29 +6,20 @@ use Prim.Native.Nat.{ℕ, _+_, _-_, _≤_, _<_}
 use native.Mathlib.Nat.{le-refl}
 use native.Mathlib.Omega.{arith}
 use borrow.Rule.Slice.PartMut.{midOf, putMid}
-use lib.ListN.{length, take, drop}
-use lib.Seq.{drop-length, length-take-le, take-at, drop-at}
+use lib.ListN.{length, take, drop, drop-of-length-le}
+use lib.Seq.{drop-length, length-take-le, take-at}
 use Rattle.interleaver.specs.Table.{rowCount, sizeAt}
 use Rattle.interleaver.specs.Place.{interleaved}
 use Rattle.interleaver.specs.Into.{interleavedInto}
 use Rattle.interleaver.proofs.Into.{length-interleaved, into-fits}
 use Rattle.laws.proofs.Copied.{all-copied}
 use Rattle.laws.proofs.Parts.{put-as, length-mid}
-use Rattle.turbo.specs.declared.Registers.{Registers}
 use Rattle.turbo.specs.declared.Tail.{Tail}
-use Rattle.turbo.specs.Encoder.{start, parities, after}
+use Rattle.turbo.specs.Encoder.{start, parities}
 use Rattle.turbo.specs.Streams.{withoutFiller, firstEnd, secondEnd, stream0, stream1, stream2}
 use Rattle.turbo.specs.Encode.{tailOf, completed}
 use Rattle.turbo.proofs.Encoder.{length-parities}
 use Rattle.turbo.proofs.Streams.{withoutFiller-none, withoutFiller-append}
-
--- ---- an encoder at the front of a list d that begins with its k input bits: its outputs stand there, and its tail is that of the input
-
-pub front-encoded : (input rest : List ℕ) {d : List ℕ} {k : ℕ} → d ≡ input ++ rest → length input ≡ k
-    → {part : List ℕ} {s : Registers} {t : Tail} → (part ≡ parities start (take k d)) × (s ≡ after start (take k d)) → t ≡ tailOf s
-    → (part ++ drop k d ≡ parities start input ++ rest) × (t ≡ tailOf (after start input))
-front-encoded input rest {d} {k} told long e tail =
-    (rw (e .0, told, take-at input rest k long, drop-at input rest k long), tail ∙ ap tailOf (e .1 ∙ rw (told, take-at input rest k long)))
 
 -- the interleaver has written the front of a list
 pub front-interleaved : (row : ℕ) (c out : List ℕ) {part : List ℕ} → row < rowCount → length c ≡ sizeAt row → length c ≤ length out

@@ -1,3 +1,4 @@
 pub mod Encoder
 pub mod Streams
 pub mod Encode
+pub mod Eight

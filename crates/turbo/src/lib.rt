@@ -1,4 +1,6 @@
 // The turbo encoder of clause 5.1.3.2: from a code block to its three streams.
+mod steps;
+
 use interleaver::block;
 use interleaver::table;
 ghost use mathlib.Core.Path.{_≡_};
@@ -8,7 +10,7 @@ ghost use Prim.Native.Nat.{_+_, _≤_, _<_, _^_};
 ghost use lib.ListN.{length, drop};
 ghost use Rattle.interleaver.specs.Table.{rowCount, sizeAt};
 ghost use Rattle.interleaver.specs.Place.{interleaved};
-ghost use Rattle.turbo.specs.Encoder.{start, parities, after};
+ghost use Rattle.turbo.specs.Encoder.{start, parities};
 ghost use Rattle.turbo.specs.Streams.{withoutFiller, firstEnd, secondEnd, stream0, stream1, stream2};
 ghost use Rattle.turbo.specs.Encode.{encodable, fit, Encodable, tailOf, completed};
 
@@ -32,6 +34,12 @@ pub struct Tail {
     pub z2: u8,
 }
 
+// The tails of the first and the second encoder.
+pub struct Tails {
+    pub first: Tail,
+    pub second: Tail,
+}
+
 // Whether a code block of `k` bits is one of the row's, with its filler in it, and the streams have the lengths for it.
 fn is_encodable(row: usize, filler: usize, k: usize, n0: usize, n1: usize, n2: usize) -> bool
     requires { ⌜ k < 2 ^ 63 ⌝ }
@@ -44,27 +52,6 @@ fn is_encodable(row: usize, filler: usize, k: usize, n0: usize, n1: usize, n2: u
         & (n0 == n)
         & (n1 == n)
         & (n2 == n)
-}
-
-// One constituent encoder: each input bit gives way to its output bit, so that no second list is needed. Gives the registers
-// after the last bit.
-fn encode_in_place(bits: &mut [u8]) -> Registers
-    ensures outputs { λ r. ⌜ now (bits .exit) ≡ parities start (now (bits .entry)) ⌝ }
-    ensures registers { λ r. ⌜ r ≡ after start (now (bits .entry)) ⌝ }
-{
-    let mut d1: u8 = 0;
-    let mut d2: u8 = 0;
-    let mut d3: u8 = 0;
-    let mut i = 0;
-    while i < bits.len() {
-        let entering = bits[i] ^ (d2 ^ d3);
-        bits[i] = entering ^ d1 ^ d3;
-        d3 = d2;
-        d2 = d1;
-        d1 = entering;
-        i += 1;
-    }
-    Registers { d1, d2, d3 }
 }
 
 // The tail from the registers after the last bit. The input is the feedback, so a zero enters at each of the three steps.
@@ -103,26 +90,21 @@ fn complete(d: &mut [u8], filler: usize, tail: [u8; 4])
     set_absent(d, filler);
 }
 
-// The first encoder: its outputs at the front of `d1`.
-fn encode_first(c: &[u8], d1: &mut [u8]) -> Tail
-    requires { ⌜ length (now c) ≤ length (now d1) ⌝ }
-    ensures outputs { λ r. ⌜ now (d1 .exit) ≡ parities start (now (c .entry)) ++ drop (length (now (c .entry))) (now (d1 .entry)) ⌝ }
-    ensures tail { λ r. ⌜ r ≡ tailOf (firstEnd (now (c .entry))) ⌝ }
+// Both encoders, the second with the bits in the interleaver's order: their outputs at the fronts of `d1` and `d2`.
+fn encode_parities(row: usize, c: &[u8], d1: &mut [u8], d2: &mut [u8]) -> Tails
+    requires { ⌜ (row < rowCount) × (length (now c) ≡ sizeAt row) × (length (now d1) ≡ length (now c) + 4) × (length (now d2) ≡ length (now c) + 4) ⌝ }
+    ensures first { λ r. ⌜ now (d1 .exit) ≡ parities start (now (c .entry)) ++ drop (length (now (c .entry))) (now (d1 .entry)) ⌝ }
+    ensures second { λ r. ⌜ now (d2 .exit) ≡ parities start (interleaved row (now (c .entry))) ++ drop (length (now (c .entry))) (now (d2 .entry)) ⌝ }
+    ensures tails { λ r. ⌜ (r .first ≡ tailOf (firstEnd (now (c .entry)))) × (r .second ≡ tailOf (secondEnd row (now (c .entry)))) ⌝ }
 {
     let k = c.len();
     bytes::copy(c, d1);
-    tail_of(encode_in_place(&mut d1[..k]))
-}
-
-// The second encoder, which takes the bits in the interleaver's order: its outputs at the front of `d2`.
-fn encode_second(row: usize, c: &[u8], d2: &mut [u8]) -> Tail
-    requires { ⌜ (row < rowCount) × (length (now c) ≡ sizeAt row) × (length (now c) ≤ length (now d2)) ⌝ }
-    ensures outputs { λ r. ⌜ now (d2 .exit) ≡ parities start (interleaved row (now (c .entry))) ++ drop (length (now (c .entry))) (now (d2 .entry)) ⌝ }
-    ensures tail { λ r. ⌜ r ≡ tailOf (secondEnd row (now (c .entry))) ⌝ }
-{
-    let k = c.len();
     block::interleave(row, c, &mut d2[..k]);
-    tail_of(encode_in_place(&mut d2[..k]))
+    let ends = steps::encode_both(d1, d2);
+    Tails {
+        first: tail_of(ends.first),
+        second: tail_of(ends.second),
+    }
 }
 
 // The three streams, where all lengths are right. Filler is absent from streams 0 and 1; stream 2 holds a bit at every place.
@@ -133,8 +115,9 @@ fn encode_streams(row: usize, filler: usize, c: &[u8], d0: &mut [u8], d1: &mut [
     ensures third { λ r. ⌜ now (d2 .exit) ≡ stream2 row (now (c .entry)) ⌝ }
 {
     bytes::copy(c, d0);
-    let first = encode_first(c, d1);
-    let second = encode_second(row, c, d2);
+    let tails = encode_parities(row, c, d1, d2);
+    let first = tails.first;
+    let second = tails.second;
     complete(d0, filler, [first.x0, first.z1, second.x0, second.z1]);
     complete(d1, filler, [first.z0, first.x2, second.z0, second.x2]);
     complete(d2, 0, [first.x1, first.z2, second.x1, second.z2]);

@@ -1,11 +1,11 @@
--- `block::interleave` meets its contract: each refusal by its test, and what the walk writes is what the definition says.
+-- `block::interleave` meets its contract: each refusal by its test, and what either walk writes is what the definition says.
 -- Assumes nothing.
 use mathlib.Core.Path.{sym, _∙_}
 use denote.Ref.{now}
 use borrow.Author.Needs.{needs}
 use borrow.Author.Tests.{lt-ltb, le-ltb, eq-eqb, ne-eqb}
 use Rattle.interleaver.specs.Into.{interleavedInto, fitsRow}
-use Rattle.interleaver.proofs.Into.{OfRow, walkable, writes}
+use Rattle.interleaver.proofs.Into.{OfRow, walkable, writes, quartered, countable, writes-bits}
 use Rattle.interleaver.proofs.block.interleave.Statement.{statement}
 use Rattle.interleaver.proofs.block.interleave.Tie as tie
 
@@ -45,14 +45,28 @@ f1-at-requires c κs = search needs
 f2-at-requires : tie.Need-f2-at-requires
 f2-at-requires c κs = search needs
 
+all-bits-requires : tie.Need-all-bits-requires
+all-bits-requires c κs = search needs
+
+interleave-bits-requires : tie.Need-interleave-bits-requires
+interleave-bits-requires c κs =
+    let test = c .before in
+    (quartered (of-row (test .before .before)) (test .before .all-bits .ensures (test .if4 .taken)), countable (of-row (test .before .before)))
+
 walk-requires : tie.Need-walk-requires
-walk-requires c κs = walkable (of-row (c .before))
+walk-requires c κs = walkable (of-row (c .before .before .before))
 
 same-length : tie.Need-same-length
 same-length c = search needs
 
 returns-4 : tie.Need-returns-4
-returns-4 c = c .before .before .walk .ensures ∙ writes (of-row (c .before .before .before .before))
+returns-4 c = c .before .before .interleave-bits .ensures ∙ writes-bits (of-row (c .before .before .before .before .before .before))
+
+same-length-2 : tie.Need-same-length-2
+same-length-2 c = search needs
+
+returns-5 : tie.Need-returns-5
+returns-5 c = c .before .before .walk .ensures ∙ writes (of-row (c .before .before .before .before .before .before))
 
 pub interleave-spec : {M : Type 1} → statement M
 interleave-spec =
@@ -64,6 +78,10 @@ interleave-spec =
     returns-3
     f1-at-requires
     f2-at-requires
+    all-bits-requires
+    interleave-bits-requires
     walk-requires
     same-length
-    returns-4)
+    returns-4
+    same-length-2
+    returns-5)

@@ -1,41 +1,15 @@
--- `matcher::match_long` meets its contract: 32·R is at most 6,176.
+-- `matcher::match_long` meets its contract: every circle fits its room.
 -- Assumes nothing.
-use native.Mathlib.Omega.{arith}
+use Rattle.rate_matching.proofs.MatcherBlock.{matchable-told, long-fits}
 use borrow.Author.Needs.{needs}
-use mathlib.Core.Path.{_≡_}
-use Prim.Native.Nat.{ℕ, _*_, _≤_}
-use lib.ListN.{length, replicate, length-replicate}
-use Rattle.rate_matching.specs.SubBlocks.{rows}
-use Rattle.rate_matching.proofs.MatcherBlock.{matchable-told}
 use Rattle.rate_matching.proofs.matcher.match_long.Statement.{statement}
 use Rattle.rate_matching.proofs.matcher.match_long.Tie as tie
-
-fits : (s : tie.Start) → 32 * rows (length (s .args .d0 .now)) ≤ 6176
-unfolding rows
-fits s = omega (arith, matchable-told (s .pre) .most)
-
-room : (n : ℕ) → length (replicate {A = ℕ} n 0) ≡ n
-room n = length-replicate n 0
 
 slice-aggregate-match-in : tie.Need-slice-aggregate-match-in
 slice-aggregate-match-in c = search needs
 
-slice-aggregate-match-in-2 : tie.Need-slice-aggregate-match-in-2
-slice-aggregate-match-in-2 c = search needs
-
-slice-aggregate-match-in-3 : tie.Need-slice-aggregate-match-in-3
-slice-aggregate-match-in-3 c = search needs
-
-slice-aggregate-match-in-4 : tie.Need-slice-aggregate-match-in-4
-slice-aggregate-match-in-4 c = search needs
-
-slice-aggregate-match-in-5 : tie.Need-slice-aggregate-match-in-5
-slice-aggregate-match-in-5 c = search needs
-
 match-in-requires : tie.Need-match-in-requires
-match-in-requires c κs =
-    let s = c .before .before .before .before .before .before .before .before .before .before in
-    (s .pre, omega (arith, fits s, room 18528), omega (arith, fits s, room 18528), omega (arith, fits s, room 6177), omega (arith, fits s, room 6176), omega (arith, fits s, room 6176))
+match-in-requires c κs = let s = c .before .before .before .before .before .before in (s .pre .0, (long-fits _ (matchable-told (s .pre .0) .fits .most)), s .pre .1)
 
 same-length : tie.Need-same-length
 same-length c = search needs
@@ -45,13 +19,4 @@ returns c = search needs
 
 pub match-long-spec : {M : Type 1} → statement M
 match-long-spec =
-    tie.close
-    (tie.spec
-    slice-aggregate-match-in
-    slice-aggregate-match-in-2
-    slice-aggregate-match-in-3
-    slice-aggregate-match-in-4
-    slice-aggregate-match-in-5
-    match-in-requires
-    same-length
-    returns)
+    tie.close (tie.spec slice-aggregate-match-in match-in-requires same-length returns)

@@ -1,55 +1,66 @@
--- `matcher::rate_match` meets its contract: a refusal leaves `out`, else the block is matched in rooms that it fits.
+-- `matcher::rate_match` meets its contract: an empty `out` and a refusal stay as they are, else the block is matched in a room that it fits.
 -- Assumes nothing.
 use mathlib.Core.Path.{_≡_, sym, _∙_}
 use mathlib.Core.Bool.{true}
+use native.Mathlib.Omega.{arith}
 use lib.ListN.{length}
-use borrow.Author.Needs.{needs}
 use borrow.Author.Tests.{not-true, not-false}
 use Rattle.rate_matching.specs.Matcher.{matchable}
-use Rattle.rate_matching.proofs.MatcherBlock.{refused-is}
+use Rattle.rate_matching.proofs.MatcherBlock.{nothing-is, refused-is}
+use borrow.Author.Needs.{needs}
 use Rattle.rate_matching.proofs.matcher.rate_match.Statement.{statement}
 use Rattle.rate_matching.proofs.matcher.rate_match.Tie as tie
+use Rattle.rate_matching.proofs.matcher.rate_match.Reads as reads
+use Rattle.rate_matching.proofs.matcher.rate_match.Lts as lts
+use Rattle.rate_matching.proofs.matcher.match_long.Reads as match-long-reads
+use Rattle.rate_matching.proofs.matcher.match_short.Reads as match-short-reads
+use Rattle.rate_matching.proofs.matcher.matchable.Reads as matchable-reads
 
 -- past the test
-abbrev entry : tie.Else1 → tie.Start
-entry c = c .before .before .before .before .before .before
+abbrev entry : tie.Else2 → tie.Start
+entry c = c .before .before .before .before .before .before .before
 
-told : (c : tie.Else1) → matchable (length (entry c .args .d0 .now)) (length (entry c .args .d1 .now)) (length (entry c .args .d2 .now)) (entry c .args .version) ≡ true
-told c = sym (c .before .matchable .ensures) ∙ not-false _ (c .if1 .left)
+told : (c : tie.Else2)
+    → matchable (length (entry c .args .d0 .now)) (length (entry c .args .d1 .now)) (length (entry c .args .d2 .now)) (entry c .args .filler) (entry c .args .version) ≡ true
+told c = sym (c .before .matchable .ensures) ∙ not-false _ (c .if2 .left)
+
+returns : tie.Need-returns
+returns c = nothing-is _ _ _ _ _ _ (c .if1 .taken)
 
 matchable-requires : tie.Need-matchable-requires
 matchable-requires c κs = search needs
 
-returns : tie.Need-returns
-returns c = refused-is _ _ _ _ _ (sym (c .before .matchable .ensures) ∙ not-true _ (c .if1 .taken))
+returns-2 : tie.Need-returns-2
+returns-2 c = refused-is _ _ _ _ _ _ (sym (c .before .matchable .ensures) ∙ not-true _ (c .if2 .taken))
 
 match-short-requires : tie.Need-match-short-requires
-match-short-requires c κs = (told (c .before .before), c .before .if2 .taken)
+match-short-requires c κs = (told (c .before .before), c .before .if3 .taken, omega arith)
 
 same-length : tie.Need-same-length
 same-length c = search needs
 
-returns-2 : tie.Need-returns-2
-returns-2 c = search needs
+returns-3 : tie.Need-returns-3
+returns-3 c = search needs
 
 match-long-requires : tie.Need-match-long-requires
-match-long-requires c κs = told (c .before .before)
+match-long-requires c κs = (told (c .before .before), omega arith)
 
 same-length-2 : tie.Need-same-length-2
 same-length-2 c = search needs
 
-returns-3 : tie.Need-returns-3
-returns-3 c = search needs
+returns-4 : tie.Need-returns-4
+returns-4 c = search needs
 
 pub rate-match-spec : {M : Type 1} → statement M
 rate-match-spec =
     tie.close
     (tie.spec
-    matchable-requires
     returns
+    matchable-requires
+    returns-2
     match-short-requires
     same-length
-    returns-2
+    returns-3
     match-long-requires
     same-length-2
-    returns-3)
+    returns-4)

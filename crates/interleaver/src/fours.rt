@@ -1,0 +1,151 @@
+// The interleaver on bits, four places a turn. f2 is even, so Π(i + K/4) is f1·K/4 ahead of Π(i), modulo K: the places that belong to i
+// in the four quarters lie a quarter apart, and their bits, joined beforehand, are found with one look.
+use crate::block::reduced;
+ghost use mathlib.Core.Bool.{true};
+ghost use mathlib.Core.Path.{_≡_};
+ghost use Prim.Native.Nat.{_+_, _*_, _%_, _≤_, _<_};
+ghost use lib.ListN.{length};
+ghost use Rattle.laws.specs.Lists.{tab};
+ghost use Rattle.interleaver.specs.Into.{bitBy, bitsBy};
+ghost use Rattle.interleaver.specs.Quarters.{Bits, joined, Joinable, fours, Quartered, Countable, less, digit, spreadOver};
+
+// Whether every byte is 0 or 1.
+pub(crate) fn all_bits(c: &[u8]) -> bool
+    ensures { λ r. ⌜ (r ≡ true → Bits (now (c .entry))) ⌝ }
+{
+    // with no branch, so that the loop runs many bytes at a time
+    let mut seen: u8 = 0;
+    let mut i = 0;
+    while i < c.len() {
+        seen = seen | c[i];
+        i += 1;
+    }
+    seen < 2
+}
+
+// The interleaved bits of `c` over `out`, with a room of a quarter's length.
+pub(crate) fn interleave_bits(f1: usize, f2: usize, c: &[u8], out: &mut [u8])
+    requires { ⌜ Quartered (now c) (now out) × Countable (length (now c)) f1 f2 ⌝ }
+    ensures { λ _. ⌜ now (out .exit) ≡ bitsBy (length (now (c .entry))) f1 f2 (now (c .entry)) ⌝ }
+{
+    let q = c.len() / 4;
+    if q <= 64 {
+        let mut y = [0u8; 64];
+        by_fours(f1, f2, c, &mut y[..q], out);
+    } else {
+        let mut y = [0u8; 1536];
+        by_fours(f1, f2, c, &mut y[..q], out);
+    }
+}
+
+// The same in a lent room `y`. The joined bits stand in `out` until they are found.
+fn by_fours(f1: usize, f2: usize, c: &[u8], y: &mut [u8], out: &mut [u8])
+    requires { ⌜ Quartered (now c) (now out) × Countable (length (now c)) f1 f2 × (length (now c) ≡ 4 * length (now y)) ⌝ }
+    ensures { λ _. ⌜ now (out .exit) ≡ bitsBy (length (now (c .entry))) f1 f2 (now (c .entry)) ⌝ }
+{
+    join_all(c, out);
+    find(f1, f2, out, y);
+    spread_all(f1, y, out);
+}
+
+// At each place the bits there and one, two and three quarters on, joined.
+fn join_all(c: &[u8], out: &mut [u8])
+    requires { ⌜ Quartered (now c) (now out) ⌝ }
+    ensures { λ _. ⌜ now (out .exit) ≡ fours (now (c .entry)) ⌝ }
+{
+    let q = c.len() / 4;
+    let mut b = q;
+    let mut d = 2 * q;
+    let mut e = 3 * q;
+    let mut at = 0;
+    while at < out.len() {
+        let end = at + q;
+        join(c, at, b, d, e, &mut out[at..end]);
+        b = d;
+        d = e;
+        e = at;
+        at = end;
+    }
+}
+
+// Entry by entry the bits of `c` from `a`, `b`, `d` and `e` on as one number, that of `a` lowest.
+fn join(c: &[u8], a: usize, b: usize, d: usize, e: usize, part: &mut [u8])
+    requires { ⌜ Joinable (now c) a b d e (length (now part)) ⌝ }
+    ensures { λ _. ⌜ now (part .exit) ≡ tab (length (now (part .entry))) (joined (now (c .entry)) a b d e) ⌝ }
+{
+    let mut i = 0;
+    while i < part.len() {
+        part[i] = c[a + i] + 2 * c[b + i] + 4 * c[d + i] + 8 * c[e + i];
+        i += 1;
+    }
+}
+
+// The entries of `w` at Π(0), Π(1), .., two a turn, so that neither waits for the other: p is Π(i) and r is Π(i + 1), and g and h are what
+// takes them back, modulo K, to Π(i + 2) and Π(i + 3). Each shrinks by 8·f2.
+fn find(f1: usize, f2: usize, w: &[u8], y: &mut [u8])
+    requires { ⌜ Countable (length (now w)) f1 f2 × (length (now y) % 2 ≡ 0) × (length (now y) ≤ 1536) ⌝ }
+    ensures { λ _. ⌜ now (y .exit) ≡ tab (length (now (y .entry))) (bitBy (length (now (w .entry))) f1 f2 (now (w .entry))) ⌝ }
+{
+    let k = w.len();
+    let two = plus(f2, f2, k);
+    let four = plus(two, two, k);
+    let step = plus(four, four, k);
+    let way = plus(f1, f1, k);
+    let mut g = k - plus(way, four, k);
+    let mut h = k - plus(way, step, k);
+    let mut p = 0;
+    let mut r = plus(f1, f2, k);
+    let mut i = 0;
+    while i < y.len() {
+        y[i] = w[p];
+        y[i + 1] = w[r];
+        p = back(p, g, k);
+        r = back(r, h, k);
+        g = back(g, step, k);
+        h = back(h, step, k);
+        i += 2;
+    }
+}
+
+// x plus y, modulo k.
+fn plus(x: usize, y: usize, k: usize) -> usize
+    requires { ⌜ (x < k) × (y < k) × (k ≤ 6144) ⌝ }
+    ensures { λ r. ⌜ (r ≡ (x + y) % k) × (r < k) ⌝ }
+{
+    reduced(x + y, k)
+}
+
+// x less y, modulo k.
+fn back(x: usize, y: usize, k: usize) -> usize
+    requires { ⌜ (x ≤ k) × (y ≤ k) × (k ≤ 6144) ⌝ }
+    ensures { λ r. ⌜ r ≡ less k x y ⌝ }
+{
+    if x < y { x + k - y } else { x - y }
+}
+
+// The bits that were found to their quarters: quarter u takes bit u·f1 mod 4.
+fn spread_all(f1: usize, y: &[u8], out: &mut [u8])
+    requires { ⌜ (f1 ≤ 6144) × (length (now y) ≤ 1536) × (length (now out) ≡ 4 * length (now y)) ⌝ }
+    ensures { λ _. ⌜ now (out .exit) ≡ tab (4 * length (now (y .entry))) (spreadOver f1 (now (y .entry))) ⌝ }
+{
+    let mut shift = 0;
+    let mut at = 0;
+    while at < out.len() {
+        let end = at + y.len();
+        spread(y, shift, &mut out[at..end]);
+        shift = (shift + f1) % 4;
+        at = end;
+    }
+}
+
+// Bit number `shift` of each entry of `y`.
+fn spread(y: &[u8], shift: usize, part: &mut [u8])
+    requires { ⌜ (shift < 4) × (length (now part) ≡ length (now y)) ⌝ }
+    ensures { λ _. ⌜ now (part .exit) ≡ tab (length (now (y .entry))) (digit (now (y .entry)) shift) ⌝ }
+{
+    let mut i = 0;
+    while i < part.len() {
+        part[i] = (y[i] >> shift) % 2;
+        i += 1;
+    }
+}

@@ -1,0 +1,65 @@
+-- `matcher::repeat_many` meets its contract: whole turns, repeated, are the turn repeated.
+-- Assumes nothing.
+use mathlib.Core.Path.{sym, _∙_, ap}
+use mathlib.Core.List.{List}
+use Prim.Native.Nat.{ℕ}
+use native.Mathlib.Omega.{arith}
+use lib.ListN.{length}
+use Rattle.laws.specs.Lists.{tab}
+use Rattle.rate_matching.specs.Walk.{turnAfterTurn}
+use Rattle.rate_matching.proofs.MatcherRooms.{fresh-count, back-front, back-count, back-within}
+use Rattle.rate_matching.proofs.MatcherTurns.{turns-fit, turns-some, many-turns}
+use borrow.Author.Needs.{needs}
+use Rattle.rate_matching.proofs.matcher.repeat_many.Statement.{statement}
+use Rattle.rate_matching.proofs.matcher.repeat_many.Tie as tie
+
+div-n : tie.Need-div-n
+div-n c = search needs
+
+mul-n : tie.Need-mul-n
+mul-n c = omega (arith, turns-fit 2048 (length (c .before .before .args .ring .now)))
+
+array-borrow-prefix-turns : tie.Need-array-borrow-prefix-turns
+array-borrow-prefix-turns c = turns-fit 2048 _
+
+slice-aggregate-repeat : tie.Need-slice-aggregate-repeat
+slice-aggregate-repeat c = fresh-count 0 2048 _ (turns-fit 2048 _)
+
+repeat-requires : tie.Need-repeat-requires
+repeat-requires c κs = search needs
+
+array-share-prefix-turns : tie.Need-array-share-prefix-turns
+array-share-prefix-turns c = back-within 0 2048 _ (turns-fit 2048 (length (c .before .before .before .before .before .args .ring .now))) (c .before .repeat .last .1 .0) (c .before .repeat .kept .1 .0)
+
+slice-aggregate-repeat-2 : tie.Need-slice-aggregate-repeat-2
+slice-aggregate-repeat-2 c = back-count 0 2048 _ (turns-fit 2048 (length (c .before .before .before .before .before .before .args .ring .now))) (c .before .before .repeat .last .1 .0) (c .before .before .repeat .kept .1 .0)
+
+repeat-requires-2 : tie.Need-repeat-requires-2
+repeat-requires-2 c κs = let s = c .before .before .before .before .before .before .before in rw (sym (back-count 0 2048 _ (turns-fit 2048 (length (s .args .ring .now))) (c .before .before .before .repeat .last .1 .0) (c .before .before .before .repeat .kept .1 .0))) (turns-some 2048 _ (s .pre .0) (s .pre .1))
+
+same-length : tie.Need-same-length
+same-length c = search needs
+
+returns : tie.Need-returns
+returns c =
+    let s = c .before .before .before .before .before .before .before .before .before .before in
+    let front = back-front 0 2048 _ (turns-fit 2048 (length (s .args .ring .now))) (c .before .before .before .before .before .before .repeat .last .1 .0) (c .before .before .before .before .before .before .repeat .kept .1 .0) in
+    let count = fresh-count 0 2048 _ (turns-fit 2048 (length (s .args .ring .now))) in
+    c .before .before .repeat2 .ensures
+    ∙ ap (λ (l : List ℕ). tab (length (s .args .out .now)) (turnAfterTurn l)) (front ∙ c .before .before .before .before .before .before .repeat .ensures ∙ ap (λ (k : ℕ). tab k (turnAfterTurn (s .args .ring .now))) (sym count))
+    ∙ many-turns (s .args .ring .now) _ _ (turns-some 2048 _ (s .pre .0) (s .pre .1))
+
+pub repeat-many-spec : {M : Type 1} → statement M
+repeat-many-spec =
+    tie.close
+    (tie.spec
+    div-n
+    mul-n
+    array-borrow-prefix-turns
+    slice-aggregate-repeat
+    repeat-requires
+    array-share-prefix-turns
+    slice-aggregate-repeat-2
+    repeat-requires-2
+    same-length
+    returns)

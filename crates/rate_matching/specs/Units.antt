@@ -1,0 +1,78 @@
+-- The circle of clause 5.1.4.1.2 by units: its 32 columns of d(0), then its 32 columns of d(1) and d(2) by turns, and the bits of each, which begin at a known row.
+-- Assumes nothing.
+use mathlib.Core.Path.{_≡_}
+use mathlib.Core.Bool.{cond}
+use mathlib.Core.List.{List, [], _++_}
+use Prim.Native.Nat.{ℕ, zero, suc, _+_, _-_, _*_, _/_, _%_, _≤_, _<_}
+use lib.Dec.{ltb, eqb}
+use lib.ListN.{length, getD, take}
+use Rattle.laws.specs.Lists.{tab}
+use Rattle.rate_matching.specs.Columns.{column}
+use Rattle.rate_matching.specs.SubBlocks.{rows, dummies}
+use Rattle.rate_matching.specs.Places.{longest}
+
+-- row q of a column that begins at a place
+unfoldable pub everyRow : List ℕ → ℕ → ℕ → ℕ
+everyRow d from q = getD d (from + 32 * q) 0
+
+-- entry k of d(1)'s column that begins at a place and d(2)'s that begins one further, by turns
+unfoldable pub pairRow : List ℕ → List ℕ → ℕ → ℕ → ℕ
+pairRow d1 d2 from k = cond (eqb (k % 2) 0) (everyRow d1 from (k / 2)) (everyRow d2 (from + 1) (k / 2))
+
+-- the first row of column p of y that lies behind `absent` places
+unfoldable pub firstRow : ℕ → ℕ → ℕ
+firstRow absent p = (absent + (31 - p)) / 32
+
+-- the bits of column p of a stream of D places whose first F are absent: they begin behind the dummies and the filler
+unfoldable pub columnBits : ℕ → List ℕ → ℕ → ℕ → List ℕ
+columnBits D d F p =
+    tab (rows D - firstRow (dummies D + F) p) (everyRow d (p + 32 * firstRow (dummies D + F) p - dummies D))
+
+-- the bits of column p of d(1), whose first F places are absent, and of d(2), read one further, by turns: d(2) alone first, then both;
+-- in column 31 the last place wraps to a dummy
+unfoldable pub pairBits : ℕ → List ℕ → List ℕ → ℕ → ℕ → List ℕ
+pairBits D d1 d2 F p =
+    tab (firstRow (dummies D + F) p - firstRow (dummies D - 1) p) (everyRow d2 (p + 1 + 32 * firstRow (dummies D - 1) p - dummies D))
+    ++ tab (2 * (rows D - firstRow (dummies D + F) p) - p / 31) (pairRow d1 d2 (p + 32 * firstRow (dummies D + F) p - dummies D))
+
+-- the bits of unit u
+unfoldable pub unitBits : ℕ → List ℕ → List ℕ → List ℕ → ℕ → ℕ → List ℕ
+unitBits D d0 d1 d2 F u = cond (ltb u 32) (columnBits D d0 F (column (u % 32))) (pairBits D d1 d2 F (column (u % 32)))
+
+-- the bits of n units from u on
+unfoldable pub unitsFrom : ℕ → List ℕ → List ℕ → List ℕ → ℕ → ℕ → ℕ → List ℕ
+unitsFrom D d0 d1 d2 F u zero = []
+unitsFrom D d0 d1 d2 F u (suc n) = unitBits D d0 d1 d2 F u ++ unitsFrom D d0 d1 d2 F (suc u) n
+
+-- the circle place that unit u begins at: R places a unit, from unit 32 on twice as many
+unfoldable pub unitStart : ℕ → ℕ → ℕ
+unitStart R u = R * (u + (u - 32))
+
+-- the unit that begins at k0 of redundancy version v
+unfoldable pub startUnit : ℕ → ℕ
+startUnit v = cond (ltb v 2) (24 * v + 2) (12 * v + 17)
+
+-- streams of D = K + 4 places, K a multiple of 8, with F filler bits, and a column p of them
+pub record Laid (D F p : ℕ) : Type 0 where
+  pub some : D % 8 ≡ 4
+  pub most : D ≤ longest
+  pub filler : F < D
+  pub column : p < 32
+
+-- three streams of one such length
+pub record Fitting (D D1 D2 F : ℕ) : Type 0 where
+  pub first : D1 ≡ D
+  pub second : D2 ≡ D
+  pub some : D % 8 ≡ 4
+  pub most : D ≤ longest
+  pub filler : F < D
+
+-- the bits stand in the ring from place n to place r, before them what stood there
+pub record Put (bits ring : List ℕ) (n : ℕ) (ring′ : List ℕ) (r : ℕ) : Type 0 where
+  pub ends : r ≡ n + length bits
+  pub told : take r ring′ ≡ take n ring ++ bits
+
+-- the bits, of which there are at most `size`, stand there as far as the first `most` entries of the ring go
+pub record PutTo (most : ℕ) (bits : List ℕ) (size : ℕ) (ring : List ℕ) (n : ℕ) (ring′ : List ℕ) (r : ℕ) : Type 0 where
+  pub within : r ≤ n + size
+  pub told : take most (take r ring′) ≡ take most (take n ring ++ bits)
