@@ -5,4 +5,5 @@ pub mod Linear
 pub mod Stride
 pub mod Gathering
 pub mod Running
+pub mod Padding
 pub mod Putting

@@ -1,26 +1,31 @@
--- What 24 data bits do to the register in one stride: the table that is looked up for it, and the words of eight bytes from which the bits are gathered.
+-- What 24 or 48 data bits do to the register in one stride: the tables that are looked up for it, and the words of eight bytes from which the bits are gathered.
 -- Assumes nothing.
 use mathlib.Core.Path.{_≡_}
 use mathlib.Core.List.{List, [], _∷_}
 use Prim.Native.Nat.{ℕ, _+_, _*_, _/_, _%_, _^_, _<_}
 use lib.Bits.{bitOr}
-use lib.ListN.{getD, replicate}
-use Rattle.laws.specs.Bits.{_⊕_}
+use lib.ListN.{getD, take, replicate}
+use Rattle.laws.specs.Bits.{_⊕_, bitsOf}
 use Rattle.check_bits.specs.CheckBits.{crcFrom}
 
--- the register s after 24 zeros
-unfoldable pub after24 : ℕ → ℕ → ℕ
-after24 g s = crcFrom 24 g s (replicate 24 0)
+-- the register s after n zeros
+unfoldable pub after : ℕ → ℕ → ℕ → ℕ
+after n g s = crcFrom 24 g s (replicate n 0)
 
--- six rows of 16 entries: row r has what becomes of each four bits that stand 4 r places up in the register
-pub record IsTable (g : ℕ) (t : List ℕ) : Type 0 where
-  pub entry : (n : ℕ) → n < 96 → getD t n 0 ≡ after24 g (n % 16 * 2 ^ (n / 16 * 4))
+-- six rows of 16 entries: row r has what becomes, after n zeros, of each four bits that stand 4 r places up in the register
+pub record IsTable (n g : ℕ) (t : List ℕ) : Type 0 where
+  pub entry : (k : ℕ) → k < 96 → getD t k 0 ≡ after n g (k % 16 * 2 ^ (k / 16 * 4))
 
 -- the entries for the register's six times four bits, added
 abbrev pub entries : List ℕ → ℕ → ℕ
 entries t s =
     getD t (s % 16) 0 ⊕ getD t (16 + s / 2 ^ 4 % 16) 0 ⊕ getD t (32 + s / 2 ^ 8 % 16) 0
     ⊕ getD t (48 + s / 2 ^ 12 % 16) 0 ⊕ getD t (64 + s / 2 ^ 16 % 16) 0 ⊕ getD t (80 + s / 2 ^ 20 % 16) 0
+
+-- v is the number that the first n bits are, the first highest
+pub record IsNumber (n : ℕ) (bits : List ℕ) (v : ℕ) : Type 0 where
+  pub small : v < 2 ^ n
+  pub told : take n bits ≡ bitsOf n v
 
 -- the bytes of a list as one number, the first lowest
 unfoldable pub wordOf : List ℕ → ℕ

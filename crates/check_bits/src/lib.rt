@@ -6,44 +6,118 @@ ghost use Prim.Native.Nat.{_+_, _^_, _≤_, _<_};
 ghost use lib.ListN.{length, take, drop};
 ghost use Rattle.laws.specs.Bits.{bitsOf};
 ghost use Rattle.check_bits.specs.CheckBits.{crc, crcFrom, gCRC24A, gCRC24B};
-ghost use Rattle.check_bits.specs.Stride.{IsTable, entries, wordOf, lowest};
+ghost use Rattle.check_bits.specs.Stride.{IsTable, IsNumber, entries, wordOf, lowest};
 ghost use Rattle.check_bits.specs.Put.{putCheckBits};
 
 // The transport check of `bits`.
 pub fn crc24a(bits: &[u8]) -> u32
     ensures { λ r. ⌜ r ≡ crc 24 gCRC24A (now (bits .entry)) ⌝ }
 {
-    let t = table::table_a();
-    by_table(0x864CFB, &t, bits)
+    let near = table::table_a();
+    if bits.len() < 48 {
+        return by_near(0x864CFB, &near, bits);
+    }
+    let far = table::table_a_48();
+    by_table(0x864CFB, &near, &far, bits)
 }
 
 // The check of a code block's `bits`.
 pub fn crc24b(bits: &[u8]) -> u32
     ensures { λ r. ⌜ r ≡ crc 24 gCRC24B (now (bits .entry)) ⌝ }
 {
-    let t = table::table_b();
-    by_table(0x800063, &t, bits)
+    let near = table::table_b();
+    let far = table::table_b_48();
+    by_table(0x800063, &near, &far, bits)
 }
 
-// The register after `bits`: by the generator's table 24 bits a turn, as long as each byte is 0 or 1, and the others one by one.
-fn by_table(generator: u32, table: &[u32; 96], bits: &[u8]) -> u32
-    requires { ⌜ IsTable generator (now table) ⌝ }
+// The remainder of `bits`. Zeros in front change none, so the bits by which the length is over a multiple of 24 go first, as the lowest of
+// 24; the others follow in strides.
+fn by_table(generator: u32, near: &[u32; 96], far: &[u32; 96], bits: &[u8]) -> u32
+    requires { ⌜ IsTable 24 generator (now near) ⌝ }
+    requires { ⌜ IsTable 48 generator (now far) ⌝ }
     ensures { λ r. ⌜ r ≡ crc 24 generator (now (bits .entry)) ⌝ }
 {
-    let mut s: u32 = 0;
-    let mut i = 0;
-    while 24 <= bits.len() - i {
-        let x = gathered(bits, i);
-        if 0xFF_FFFF < x {
-            break;
-        }
-        s = passed(table, s ^ x);
-        i += 24;
+    let k = bits.len() % 24;
+    let v = leading(&bits[..k]);
+    if 0xFF_FFFF < v {
+        return one_by_one(generator, 0, bits);
     }
-    one_by_one(generator, s, &bits[i..])
+    let s = passed(near, v);
+    strides(generator, near, far, s, &bits[k..])
 }
 
-// The register `s` after 24 zeros: by linearity the sum of what its six times four bits give.
+// The same of few bits, for which a second table costs more than it spares.
+fn by_near(generator: u32, near: &[u32; 96], bits: &[u8]) -> u32
+    requires { ⌜ IsTable 24 generator (now near) ⌝ }
+    ensures { λ r. ⌜ r ≡ crc 24 generator (now (bits .entry)) ⌝ }
+{
+    let k = bits.len() % 24;
+    let v = leading(&bits[..k]);
+    if 0xFF_FFFF < v {
+        return one_by_one(generator, 0, bits);
+    }
+    let s = passed(near, v);
+    last_stride(generator, near, s, &bits[k..])
+}
+
+// Fewer than 24 bits as a number, the first highest; 2 to the 24 where a byte is neither 0 nor 1.
+fn leading(bits: &[u8]) -> u32
+    requires { ⌜ length (now bits) < 24 ⌝ }
+    ensures { λ r. ⌜ (r < 2 ^ 24 → IsNumber (length (now (bits .entry))) (now (bits .entry)) r) ⌝ }
+{
+    let mut v: u32 = 0;
+    let mut i = 0;
+    while i < bits.len() {
+        if 1 < bits[i] {
+            return 0x100_0000;
+        }
+        v = 2 * v + (bits[i] as u32);
+        i += 1;
+    }
+    v
+}
+
+// The register after `bits`, from the register `from` on: 48 bits a turn, as long as each byte is 0 or 1. By linearity the register goes on
+// with the first 24 of them through 48 zeros and the other 24 by themselves, so that a turn waits for the register once.
+fn strides(generator: u32, near: &[u32; 96], far: &[u32; 96], from: u32, bits: &[u8]) -> u32
+    requires { ⌜ IsTable 24 generator (now near) ⌝ }
+    requires { ⌜ IsTable 48 generator (now far) ⌝ }
+    requires { ⌜ from < 2 ^ 24 ⌝ }
+    ensures { λ r. ⌜ r ≡ crcFrom 24 generator from (now (bits .entry)) ⌝ }
+{
+    let mut s = from;
+    let mut i = 0;
+    while 48 <= bits.len() - i {
+        let x = gathered(bits, i);
+        let y = gathered(bits, i + 24);
+        if 0xFF_FFFF < (x | y) {
+            break;
+        }
+        s = passed(far, s ^ x) ^ passed(near, y);
+        i += 48;
+    }
+    last_stride(generator, near, s, &bits[i..])
+}
+
+// The register after `bits`, from the register `from` on: 24 bits at once, where there are as many and each byte of them is 0 or 1, and the
+// others one by one.
+fn last_stride(generator: u32, near: &[u32; 96], from: u32, bits: &[u8]) -> u32
+    requires { ⌜ IsTable 24 generator (now near) ⌝ }
+    requires { ⌜ from < 2 ^ 24 ⌝ }
+    ensures { λ r. ⌜ r ≡ crcFrom 24 generator from (now (bits .entry)) ⌝ }
+{
+    if bits.len() < 24 {
+        return one_by_one(generator, from, bits);
+    }
+    let x = gathered(bits, 0);
+    if 0xFF_FFFF < x {
+        return one_by_one(generator, from, bits);
+    }
+    let s = passed(near, from ^ x);
+    one_by_one(generator, s, &bits[24..])
+}
+
+// The register `s` after the zeros that the table is for: by linearity the sum of what its six times four bits give.
 fn passed(table: &[u32; 96], s: u32) -> u32
     ensures { λ r. ⌜ r ≡ entries (now (table .entry)) s ⌝ }
 {

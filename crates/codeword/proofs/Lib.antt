@@ -3,6 +3,7 @@ pub mod Shares
 pub mod Segmented
 pub mod Numbers
 pub mod Sent
+pub mod Rooms
 pub mod Taken
 pub mod Data
 pub mod Stretches

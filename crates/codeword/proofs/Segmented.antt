@@ -7,7 +7,7 @@ use native.Mathlib.Omega.{arith}
 use Rattle.segmentation.specs.declared.Segments.{Segments}
 use Rattle.segmentation.specs.Segmentation.{blocks}
 use Rattle.segmentation.specs.Sizes.{badSize, segmentsOf, segmentsFor, noSegments}
-use Rattle.segmentation.proofs.Segmentation.{in-range, blocks-least}
+use Rattle.segmentation.proofs.Segmentation.{in-range, blocks-least, long-most}
 
 -- the segmentation of a block of A bits, A in range
 pub record Sized (A : ℕ) (s : Segments) : Type 0 where
@@ -15,6 +15,16 @@ pub record Sized (A : ℕ) (s : Segments) : Type 0 where
   pub told : s ≡ segmentsOf (A + 24)
   pub count : s .blocks ≡ blocks (A + 24)
 
+-- its number of code blocks and its long size
+pub count-told : (B : ℕ) {s : Segments} → s ≡ segmentsOf B → s .blocks ≡ blocks B
+unfolding segmentsOf
+count-told B told = ap (λ (x : Segments). x .blocks) told
+
+pub long-told : (A : ℕ) {s : Segments} → badSize A ≡ false → s ≡ segmentsOf (A + 24) → s .long ≤ 6144
+unfolding segmentsOf
+long-told A good told = rw told (long-most (A + 24) (omega (arith, in-range A good .1)))
+
+-- no code block: the size is out of range
 pub unsized : (A : ℕ) (s : Segments) → s ≡ segmentsFor A → s .blocks ≡ 0 → badSize A ≡ true
 unfolding segmentsFor segmentsOf noSegments
 unsized A s told none = go (badSize A) refl (sym (ap (λ (x : Segments). x .blocks) told) ∙ none)
@@ -38,7 +48,4 @@ pub sized-in : (A : ℕ) (s : Segments) → badSize A ≡ false → s ≡ segmen
 unfolding segmentsFor
 sized-in A s good told =
     let e : s ≡ segmentsOf (A + 24) = told ∙ rw good refl in
-    record { size = good; told = e; count = ap (λ (x : Segments). x .blocks) e ∙ count-of (A + 24) }
-  where
-    count-of : (B : ℕ) → segmentsOf B .blocks ≡ blocks B
-    count-of B = unfold segmentsOf in refl
+    record { size = good; told = e; count = count-told (A + 24) e }

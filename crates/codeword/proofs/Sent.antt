@@ -3,21 +3,22 @@
 use mathlib.Core.Path.{_≡_, refl, sym, _∙_, ap}
 use mathlib.Core.Bool.{true, cond}
 use mathlib.Core.List.{List, _++_}
-use Prim.Native.Nat.{ℕ, _+_, _-_, _≤_}
+use Prim.Native.Nat.{ℕ, _+_, _-_, _≤_, _<_}
+use native.Mathlib.Decide.{decLt}
 use native.Mathlib.Omega.{arith}
 use lib.Dec.{eqb, ltb}
-use lib.ListN.{length, replicate, length-replicate}
+use lib.ListN.{length}
 use borrow.Author.Tests.{lt-ltb, eq-eqb}
 use Rattle.laws.specs.Bits.{bitsOf}
 use Rattle.laws.proofs.Bits.{bitsOf-bits}
 use Rattle.interleaver.specs.Table.{sizeAt}
 use Rattle.interleaver.proofs.Rows.{row-keeps}
 use Rattle.segmentation.specs.declared.Segments.{Segments}
-use Rattle.segmentation.specs.Segmentation.{blocks, sizeOf, rowOf, fillerOf}
+use Rattle.segmentation.specs.Segmentation.{blocks, shorts, sizeOf, rowOf, fillerOf}
 use Rattle.segmentation.specs.CodeBlocks.{codeBlock}
 use Rattle.segmentation.specs.Into.{fitsBlock, codeBlockInto}
 use Rattle.segmentation.specs.Sizes.{segmentsOf}
-use Rattle.segmentation.proofs.Segmentation.{in-range, size-row, row-below, size-most}
+use Rattle.segmentation.proofs.Segmentation.{in-range, large-of, short-is, shorts-fewer, size-short, size-long, size-row, row-below, size-most}
 use Rattle.segmentation.proofs.CodeBlocks.{filler-within, length-codeBlock}
 use Rattle.segmentation.proofs.Payload.{with-bits}
 use Rattle.turbo.specs.Streams.{stream0, stream1, stream2}
@@ -28,17 +29,9 @@ use Rattle.rate_matching.specs.Matcher.{matchedInto}
 use Rattle.rate_matching.proofs.Alike.{Filled}
 use Rattle.rate_matching.proofs.MatcherBlock.{Matchable, matched-selected}
 use Rattle.codeword.specs.Codeword.{blockCircle, blockRows, sentBits}
-use Rattle.codeword.specs.Sending.{Sending, Spacious, Roomy}
+use Rattle.codeword.specs.Sending.{Sending, Roomy}
 use Rattle.codeword.proofs.Accepted.{given-bits}
 use Rattle.codeword.proofs.Data.{block-filled}
-
--- fresh rooms for a K of at most N
-pub fresh-rooms : {K : ℕ} (N : ℕ) → K ≤ N
-    → Spacious K (length (replicate {A = ℕ} N 0)) (length (replicate {A = ℕ} (N + 4) 0)) (length (replicate {A = ℕ} (N + 4) 0)) (length (replicate {A = ℕ} (N + 4) 0))
-fresh-rooms {K} N h = record { bits = rw (length-replicate {A = ℕ} N 0) h; first = stream; second = stream; third = stream }
-  where
-    stream : K + 4 ≤ length (replicate {A = ℕ} (N + 4) 0)
-    stream = rw (length-replicate {A = ℕ} (N + 4) 0) (omega arith)
 
 module _ {a : List ℕ} {s : Segments} {r v : ℕ} (h : Sending a s r v) where
   high : length a + 24 ≤ 30600
@@ -59,6 +52,15 @@ module _ {a : List ℕ} {s : Segments} {r v : ℕ} (h : Sending a s r v) where
 
   pub size-most-told : sizeOf (length a + 24) r ≤ 6144
   size-most-told = size-most (length a + 24) high r
+
+  -- no code block is longer than the long size
+  pub size-within : sizeOf (length a + 24) r ≤ s .long
+  unfolding segmentsOf
+  size-within = rw (h .segments) (elim (decLt r (shorts (length a + 24))) [
+    | yes l ↦ let several : 1 < blocks (length a + 24) = omega (arith, shorts-fewer (length a + 24) high) in
+        omega (arith, size-short (length a + 24) high r l, short-is (length a + 24) high (large-of (length a + 24) several) .below)
+    | no g ↦ let last : shorts (length a + 24) ≤ r = omega arith in omega (arith, size-long (length a + 24) high r last)
+  ])
 
   -- the code block's bits
   pub coded : (x : ℕ) (c₀ c : List ℕ) → length c₀ ≡ sizeOf (length a + 24) r → c ≡ codeBlockInto a x r c₀ → c ≡ codeBlock (a ++ bitsOf 24 x) r

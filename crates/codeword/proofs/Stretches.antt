@@ -16,7 +16,7 @@ use Rattle.segmentation.specs.declared.Segments.{Segments}
 use Rattle.segmentation.specs.Segmentation.{blocks}
 use Rattle.segmentation.specs.CodeBlocks.{withCheck}
 use Rattle.segmentation.specs.Sizes.{segmentsOf}
-use Rattle.segmentation.proofs.Segmentation.{in-range, blocks-least}
+use Rattle.segmentation.proofs.Segmentation.{in-range, blocks-least, blocks-most}
 use Rattle.codeword.specs.Shares.{share, sharesBefore}
 use Rattle.codeword.specs.Codeword.{sentBits, blockBits, bitsFrom, codeword}
 use Rattle.codeword.specs.Build.{shareOf}
@@ -75,6 +75,9 @@ module _ {a : List ℕ} {Q N v : ℕ} {out₀ : List ℕ} {s : Segments} {C rema
     (h : Stretching a Q N v out₀ s C remainder G out at r) where
   high : length a + 24 ≤ 30600
   high = omega (arith, in-range (length a) (h .accepted .size) .1)
+
+  pub few : C ≤ 5
+  few = omega (arith, h .count, blocks-most (length a + 24) high)
 
   ok : Allocated C Q N (length out₀)
   ok = allocated C Q N (length out₀) (rw (h .count) (h .accepted .allocation))

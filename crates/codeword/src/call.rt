@@ -6,6 +6,7 @@ ghost use Prim.Native.Nat.{_+_, _≤_, _<_};
 ghost use lib.ListN.{length};
 ghost use Rattle.laws.specs.Bits.{bitsOf};
 ghost use Rattle.segmentation.specs.Segmentation.{sizeOf};
+ghost use Rattle.segmentation.specs.Sizes.{segmentsOf};
 ghost use Rattle.codeword.specs.Codeword.{sentBits, codeword};
 ghost use Rattle.codeword.specs.Build.{buildNumber, buildOutput};
 ghost use Rattle.codeword.specs.Sending.{Sending, Spacious, Roomy, Accepted};
@@ -46,140 +47,137 @@ fn build_number(block: &[u8], q: usize, n: usize, version: usize, g: usize, room
     0
 }
 
-// Each code block is written straight into its own stretch of the codeword.
+// The codeword over the whole of `out`. All of a room is cleared when it is made, so the rooms are made once, of a length that goes by K+.
 fn write_codeword(block: &[u8], q: usize, n: usize, version: usize, out: &mut [u8])
     requires { ⌜ Accepted (now block) q n version (length (now out)) ⌝ }
     ensures { λ r. ⌜ now (out .exit) ≡ codeword (now (block .entry)) q n version (length (now (out .entry))) ⌝ }
 {
     let s = segmentation::segments_for(block.len());
-    let blocks = s.blocks;
-    let remainder = check_bits::crc24a(block);
-    let g = out.len();
-    let mut at = 0;
-    let mut r = 0;
-    while r < blocks {
-        let end = at + crate::share_of(blocks, q, n, g, r);
-        send_block(block, remainder, s, r, version, &mut out[at..end]);
-        at = end;
-        r += 1;
-    }
-}
-
-// Code block r, turbo coded and rate matched, over the whole of `stretch`. All of a room is cleared when it is made, so its length goes by K.
-fn send_block(
-    block: &[u8],
-    remainder: u32,
-    s: Segments,
-    r: usize,
-    version: usize,
-    stretch: &mut [u8],
-)
-    requires { ⌜ Sending (now block) s r version ⌝ }
-    ensures { λ _. ⌜ now (stretch .exit) ≡ sentBits (now (block .entry) ++ bitsOf 24 remainder) version r (length (now (stretch .entry))) ⌝ }
-{
-    let k = segmentation::block::size_of(s, r);
-    if k <= 128 {
-        send_short(block, remainder, s, r, version, stretch);
-    } else if k <= 1024 {
-        send_middle(block, remainder, s, r, version, stretch);
+    if s.long <= 128 {
+        write_short(block, q, n, version, s, out);
+    } else if s.long <= 1024 {
+        write_middle(block, q, n, version, s, out);
     } else {
-        send_long(block, remainder, s, r, version, stretch);
+        write_long(block, q, n, version, s, out);
     }
 }
 
-// The same with rooms for a K of at most 128.
-fn send_short(
-    block: &[u8],
-    remainder: u32,
-    s: Segments,
-    r: usize,
-    version: usize,
-    stretch: &mut [u8],
-)
-    requires { ⌜ Sending (now block) s r version ⌝ }
-    requires { ⌜ sizeOf (length (now block) + 24) r ≤ 128 ⌝ }
-    ensures { λ _. ⌜ now (stretch .exit) ≡ sentBits (now (block .entry) ++ bitsOf 24 remainder) version r (length (now (stretch .entry))) ⌝ }
+// The same with rooms for a K+ of at most 128.
+fn write_short(block: &[u8], q: usize, n: usize, version: usize, s: Segments, out: &mut [u8])
+    requires { ⌜ Accepted (now block) q n version (length (now out)) ⌝ }
+    requires { ⌜ s ≡ segmentsOf (length (now block) + 24) ⌝ }
+    requires { ⌜ s .long ≤ 128 ⌝ }
+    ensures { λ r. ⌜ now (out .exit) ≡ codeword (now (block .entry)) q n version (length (now (out .entry))) ⌝ }
 {
     let mut c = [0u8; 128];
     let mut d0 = [0u8; 132];
     let mut d1 = [0u8; 132];
     let mut d2 = [0u8; 132];
-    send_within(
+    write_in(
         block,
-        remainder,
-        s,
-        r,
+        q,
+        n,
         version,
+        s,
         &mut c,
         &mut d0,
         &mut d1,
         &mut d2,
-        stretch,
+        out,
     );
 }
 
-// The same with rooms for a K of at most 1,024.
-fn send_middle(
-    block: &[u8],
-    remainder: u32,
-    s: Segments,
-    r: usize,
-    version: usize,
-    stretch: &mut [u8],
-)
-    requires { ⌜ Sending (now block) s r version ⌝ }
-    requires { ⌜ sizeOf (length (now block) + 24) r ≤ 1024 ⌝ }
-    ensures { λ _. ⌜ now (stretch .exit) ≡ sentBits (now (block .entry) ++ bitsOf 24 remainder) version r (length (now (stretch .entry))) ⌝ }
+// The same with rooms for a K+ of at most 1,024.
+fn write_middle(block: &[u8], q: usize, n: usize, version: usize, s: Segments, out: &mut [u8])
+    requires { ⌜ Accepted (now block) q n version (length (now out)) ⌝ }
+    requires { ⌜ s ≡ segmentsOf (length (now block) + 24) ⌝ }
+    requires { ⌜ s .long ≤ 1024 ⌝ }
+    ensures { λ r. ⌜ now (out .exit) ≡ codeword (now (block .entry)) q n version (length (now (out .entry))) ⌝ }
 {
     let mut c = [0u8; 1024];
     let mut d0 = [0u8; 1028];
     let mut d1 = [0u8; 1028];
     let mut d2 = [0u8; 1028];
-    send_within(
+    write_in(
         block,
-        remainder,
-        s,
-        r,
+        q,
+        n,
         version,
+        s,
         &mut c,
         &mut d0,
         &mut d1,
         &mut d2,
-        stretch,
+        out,
     );
 }
 
-// The same with rooms for every K.
-fn send_long(
-    block: &[u8],
-    remainder: u32,
-    s: Segments,
-    r: usize,
-    version: usize,
-    stretch: &mut [u8],
-)
-    requires { ⌜ Sending (now block) s r version ⌝ }
-    ensures { λ _. ⌜ now (stretch .exit) ≡ sentBits (now (block .entry) ++ bitsOf 24 remainder) version r (length (now (stretch .entry))) ⌝ }
+// The same with rooms for every K+.
+fn write_long(block: &[u8], q: usize, n: usize, version: usize, s: Segments, out: &mut [u8])
+    requires { ⌜ Accepted (now block) q n version (length (now out)) ⌝ }
+    requires { ⌜ s ≡ segmentsOf (length (now block) + 24) ⌝ }
+    ensures { λ r. ⌜ now (out .exit) ≡ codeword (now (block .entry)) q n version (length (now (out .entry))) ⌝ }
 {
     let mut c = [0u8; 6144];
     let mut d0 = [0u8; 6148];
     let mut d1 = [0u8; 6148];
     let mut d2 = [0u8; 6148];
-    send_within(
+    write_in(
         block,
-        remainder,
-        s,
-        r,
+        q,
+        n,
         version,
+        s,
         &mut c,
         &mut d0,
         &mut d1,
         &mut d2,
-        stretch,
+        out,
     );
 }
 
-// The same in the fronts of lent rooms.
+// The same in lent rooms: each code block is written straight into its own stretch of the codeword.
+fn write_in(
+    block: &[u8],
+    q: usize,
+    n: usize,
+    version: usize,
+    s: Segments,
+    c: &mut [u8],
+    d0: &mut [u8],
+    d1: &mut [u8],
+    d2: &mut [u8],
+    out: &mut [u8],
+)
+    requires { ⌜ Accepted (now block) q n version (length (now out)) ⌝ }
+    requires { ⌜ s ≡ segmentsOf (length (now block) + 24) ⌝ }
+    requires { ⌜ Spacious (s .long) (length (now c)) (length (now d0)) (length (now d1)) (length (now d2)) ⌝ }
+    ensures { λ r. ⌜ now (out .exit) ≡ codeword (now (block .entry)) q n version (length (now (out .entry))) ⌝ }
+{
+    let remainder = check_bits::crc24a(block);
+    let g = out.len();
+    let mut at = 0;
+    let mut r = 0;
+    while r < s.blocks {
+        let end = at + crate::share_of(s.blocks, q, n, g, r);
+        send_within(
+            block,
+            remainder,
+            s,
+            r,
+            version,
+            c,
+            d0,
+            d1,
+            d2,
+            &mut out[at..end],
+        );
+        at = end;
+        r += 1;
+    }
+}
+
+// Code block r, turbo coded and rate matched, over the whole of `stretch`, in the fronts of lent rooms.
 fn send_within(
     block: &[u8],
     remainder: u32,

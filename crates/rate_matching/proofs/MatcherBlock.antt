@@ -85,13 +85,10 @@ refused-is d0 d1 d2 F v out t = rw t
 
 -- ---- the room for the ring
 
-pub short-fits : (D : ℕ) → D ≤ 544 → 96 * rows D ≤ 1632
+-- streams of at most R rows
+pub room-fits : (R D : ℕ) → D ≤ 32 * R → 96 * rows D ≤ 96 * R
 unfolding rows
-short-fits D h = omega arith
-
-pub long-fits : (D : ℕ) → D ≤ longest → 96 * rows D ≤ 18528
-unfolding rows
-long-fits D h = omega arith
+room-fits R D h = omega arith
 
 pub unit-below : (v : ℕ) {s : ℕ} → v ≤ 3 → s ≡ startUnit v → s ≤ 64
 unit-below v h e = rw e (start-below v h)

@@ -29,6 +29,11 @@ const SHORT: usize = 544;
 
 const SHORT_CIRCLE: usize = 1632;
 
+// The same of a block of a middle size, with R = 33.
+const MIDDLE: usize = 1056;
+
+const MIDDLE_CIRCLE: usize = 3168;
+
 // The most entries of whole turns that are copied at once, and a turn of so few that copying it alone is slower.
 const MANY: usize = 2048;
 
@@ -350,6 +355,15 @@ fn match_short(d0: &[u8], d1: &[u8], d2: &[u8], filler: usize, version: usize, o
     match_in(d0, d1, d2, filler, version, &mut ring, out);
 }
 
+// The same in a room for a block of a middle size.
+fn match_middle(d0: &[u8], d1: &[u8], d2: &[u8], filler: usize, version: usize, out: &mut [u8])
+    requires { ⌜ (matchable (length (now d0)) (length (now d1)) (length (now d2)) filler version ≡ true) × (length (now d0) ≤ 1056) × (0 < length (now out)) ⌝ }
+    ensures { λ _. ⌜ now (out .exit) ≡ matchedInto (now (d0 .entry)) (now (d1 .entry)) (now (d2 .entry)) filler version (now (out .entry)) ⌝ }
+{
+    let mut ring = [0u8; MIDDLE_CIRCLE];
+    match_in(d0, d1, d2, filler, version, &mut ring, out);
+}
+
 // The same in a room for the longest block.
 fn match_long(d0: &[u8], d1: &[u8], d2: &[u8], filler: usize, version: usize, out: &mut [u8])
     requires { ⌜ (matchable (length (now d0)) (length (now d1)) (length (now d2)) filler version ≡ true) × (0 < length (now out)) ⌝ }
@@ -372,6 +386,10 @@ pub fn rate_match(d0: &[u8], d1: &[u8], d2: &[u8], filler: usize, version: usize
     }
     if d0.len() <= SHORT {
         match_short(d0, d1, d2, filler, version, out);
+        return;
+    }
+    if d0.len() <= MIDDLE {
+        match_middle(d0, d1, d2, filler, version, out);
         return;
     }
     match_long(d0, d1, d2, filler, version, out);

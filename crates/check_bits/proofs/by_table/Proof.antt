@@ -1,75 +1,70 @@
--- `check_bits::by_table` meets its contract. The loop's invariant: the register, gone on with the bits from `i` on, gives the remainder of all.
+-- `check_bits::by_table` meets its contract.
 -- Assumes nothing.
-use mathlib.Core.Path.{_∙_}
-use Prim.Native.Nat.{_≤_, _-_}
+use mathlib.Core.Path.{sym, _∙_}
+use Prim.Native.Nat.{_%_}
 use native.Mathlib.Omega.{arith}
 use lib.ListN.{length}
-use Rattle.check_bits.proofs.Running.{Running, start, next24, rest}
+use lib.Seq.{length-take-le}
+use borrow.Author.Needs.{needs}
+use Rattle.check_bits.specs.CheckBits.{crc}
+use Rattle.check_bits.proofs.Running.{rest}
+use Rattle.check_bits.proofs.Padding.{led}
 use Rattle.check_bits.proofs.by_table.Statement.{statement}
 use Rattle.check_bits.proofs.by_table.Tie as tie
 
-abbrev Inv-loop : tie.InvT-loop
-Inv-loop generator table bits s₀ i₀ s i = (i ≤ length bits) × Running generator 0 bits s i
+slice-aggregate-leading : tie.Need-slice-aggregate-leading
+slice-aggregate-leading c =
+    let bits = c .before .before .args .bits .now in
+    sym (length-take-le (length bits % 24) bits (omega arith))
 
-abbrev μ-loop : tie.MeasureT-loop
-μ-loop generator table bits s₀ i₀ s i = length bits - i
+leading-requires : tie.Need-leading-requires
+leading-requires c κs =
+    let bits = c .before .before .args .bits .now in
+    rw (length-take-le (length bits % 24) bits (omega arith)) (omega arith)
 
-loop-holds : tie.Need-loop-holds Inv-loop μ-loop
-loop-holds c = (omega arith, start (omega arith))
+one-by-one-requires : tie.Need-one-by-one-requires
+one-by-one-requires c κs = search needs
 
-sub-loop : tie.Need-sub-loop Inv-loop μ-loop
-sub-loop c = omega arith
+returns : tie.Need-returns
+unfolding crc
+returns c = c .one-by-one .ensures
 
-gathered-requires : tie.Need-gathered-requires Inv-loop μ-loop
-gathered-requires c κs = omega arith
+passed-requires : tie.Need-passed-requires
+passed-requires c κs = search needs
 
-passed-requires : tie.Need-passed-requires Inv-loop μ-loop
-passed-requires c κs = tt
+sub-strides : tie.Need-sub-strides
+sub-strides c = search needs
 
-add-i : tie.Need-add-i Inv-loop μ-loop
-add-i c = omega arith
+part-strides-start : tie.Need-part-strides-start
+part-strides-start c = search needs
 
-loop-less : tie.Need-loop-less Inv-loop μ-loop
-loop-less c = omega arith
+part-strides-end : tie.Need-part-strides-end
+part-strides-end c = search needs
 
-loop-again : tie.Need-loop-again Inv-loop μ-loop
-loop-again c =
-    let x = c .before .before .gathered in (
-      omega arith,
-      rw (c .passed .ensures)
-          (next24 (c .before .before .before .before .before .before .pre) (omega arith) (x .ensures (omega arith)) (c .before .before .before .before .loop .inv .1)),
-    )
+strides-requires : tie.Need-strides-requires
+strides-requires c κs =
+    let w = c .before .before .before in
+    let a = w .before .before .before in
+    (a .pre .0, (a .pre .1, led (a .args .bits .now) (a .pre .0) (c .before .passed .ensures) (omega arith) (w .leading .ensures) .small))
 
-sub-one-by-one : tie.Need-sub-one-by-one Inv-loop μ-loop
-sub-one-by-one c = omega arith
-
-part-one-by-one-start : tie.Need-part-one-by-one-start Inv-loop μ-loop
-part-one-by-one-start c = omega arith
-
-part-one-by-one-end : tie.Need-part-one-by-one-end Inv-loop μ-loop
-part-one-by-one-end c = omega arith
-
-one-by-one-requires : tie.Need-one-by-one-requires Inv-loop μ-loop
-one-by-one-requires c κs = c .before .before .loop .inv .1 .small
-
-returns : tie.Need-returns Inv-loop μ-loop
-returns c = c .one-by-one .ensures ∙ rest (c .before .before .before .loop .inv .1)
+returns-2 : tie.Need-returns-2
+unfolding crc
+returns-2 c =
+    let w = c .before .before .before .before in
+    let a = w .before .before .before in
+    c .strides .ensures ∙ rest (led (a .args .bits .now) (a .pre .0) (c .before .before .passed .ensures) (omega arith) (w .leading .ensures))
 
 pub by-table-spec : {M : Type 1} → statement M
 by-table-spec =
     tie.close
     (tie.spec
-    Inv-loop
-    μ-loop
-    loop-holds
-    sub-loop
-    gathered-requires
-    passed-requires
-    add-i
-    loop-less
-    loop-again
-    sub-one-by-one
-    part-one-by-one-start
-    part-one-by-one-end
+    slice-aggregate-leading
+    leading-requires
     one-by-one-requires
-    returns)
+    returns
+    passed-requires
+    sub-strides
+    part-strides-start
+    part-strides-end
+    strides-requires
+    returns-2)

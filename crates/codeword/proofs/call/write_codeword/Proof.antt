@@ -1,90 +1,60 @@
--- `write_codeword` meets its contract: the loop's invariant is `Stretching`, what stands before the stretch of code block r is the codeword's beginning.
+-- `write_codeword` meets its contract: each test is that of the rooms which it leads to.
 -- Assumes nothing.
 use borrow.Author.Needs.{needs}
-use mathlib.Core.Path.{_≡_, sym, _∙_}
-use Prim.Native.Nat.{ℕ, _+_, _-_, _≤_, _<_}
-use native.Mathlib.Omega.{arith}
+use mathlib.Core.Path.{_≡_}
+use Prim.Native.Nat.{_+_}
 use lib.ListN.{length}
 use denote.Ref.{now}
-use Rattle.segmentation.proofs.Segmentation.{in-range, blocks-least}
-use Rattle.codeword.proofs.Segmented.{Sized, sized-in}
-use Rattle.codeword.proofs.Stretches.{Stretching, start, sending, within, next, finish}
+use Rattle.segmentation.specs.Sizes.{segmentsOf}
+use Rattle.codeword.proofs.Segmented.{sized-in}
 use Rattle.codeword.proofs.call.write_codeword.Statement.{statement}
 use Rattle.codeword.proofs.call.write_codeword.Tie as tie
 
-abbrev Inv-loop : tie.InvT-loop
-Inv-loop block q n version out₀ s blocks remainder g at₀ r₀ out at r =
-    Stretching block q n version out₀ s blocks remainder g out at r
+-- the segmentation is the block's
+told : (c : tie.After-segments-for) → c .segments-for .result ≡ segmentsOf (length (now (c .before .before .before .args .block)) + 24)
+told c = sized-in _ _ (c .before .before .before .pre .size) (c .segments-for .ensures) .told
 
-abbrev μ-loop : tie.MeasureT-loop
-μ-loop block q n version out₀ s blocks remainder g at₀ r₀ out at r = blocks - r
-
-segments-for-requires : tie.Need-segments-for-requires Inv-loop μ-loop
+segments-for-requires : tie.Need-segments-for-requires
 segments-for-requires c κs = search needs
 
-crc24a-requires : tie.Need-crc24a-requires Inv-loop μ-loop
-crc24a-requires c κs = search needs
+write-short-requires : tie.Need-write-short-requires
+write-short-requires c κs = let sized = c .before .before .before in (sized .before .before .before .pre, (told sized, c .before .if1 .taken))
 
-loop-holds : tie.Need-loop-holds Inv-loop μ-loop
-loop-holds c =
-    let accepted = c .before .before .before .before .pre in
-    let size = sized-in _ _ (accepted .size) (c .before .segments-for .ensures) in
-    start accepted (size .told) (size .count) (c .crc24a .ensures) (search needs)
+write-middle-requires : tie.Need-write-middle-requires
+write-middle-requires c κs = let sized = c .before .before .before .before .before in (sized .before .before .before .pre, (told sized, c .before .if2 .taken))
 
-share-of-requires : tie.Need-share-of-requires Inv-loop μ-loop
-share-of-requires c κs = search needs
+write-long-requires : tie.Need-write-long-requires
+write-long-requires c κs = let sized = c .before .before .before .before .before in (sized .before .before .before .pre, told sized)
 
-add-end : tie.Need-add-end Inv-loop μ-loop
-add-end c = omega (arith, within (c .before .before .loop .inv) (c .before .loop-test .taken) (c .share-of .ensures))
+same-length : tie.Need-same-length
+same-length c = search needs
 
-sub-send-block : tie.Need-sub-send-block Inv-loop μ-loop
-sub-send-block c = omega arith
+returns : tie.Need-returns
+returns c = search needs
 
-part-send-block-start : tie.Need-part-send-block-start Inv-loop μ-loop
-part-send-block-start c = omega arith
+same-length-2 : tie.Need-same-length-2
+same-length-2 c = search needs
 
-part-send-block-end : tie.Need-part-send-block-end Inv-loop μ-loop
-part-send-block-end c = within (c .before .before .loop .inv) (c .before .loop-test .taken) (c .share-of .ensures)
+returns-2 : tie.Need-returns-2
+returns-2 c = search needs
 
-send-block-requires : tie.Need-send-block-requires Inv-loop μ-loop
-send-block-requires c κs = sending (c .before .before .before .loop .inv) (c .before .before .loop-test .taken)
+same-length-3 : tie.Need-same-length-3
+same-length-3 c = search needs
 
-add-r : tie.Need-add-r Inv-loop μ-loop
-add-r c = omega arith
-
-loop-less : tie.Need-loop-less Inv-loop μ-loop
-loop-less c = omega arith
-
-loop-again : tie.Need-loop-again Inv-loop μ-loop
-loop-again c =
-    let sent = c .before .before in
-    let shared = sent .before .before in
-    next (shared .before .before .loop .inv) (shared .before .loop-test .taken) (shared .share-of .ensures) (sent .send-block .ensures)
-    (c .before .out .given .0 ∙ sym (sent .before .send-block-arg .given .1))
-
-same-length : tie.Need-same-length Inv-loop μ-loop
-same-length c = c .before .loop .inv .written .long
-
-returns : tie.Need-returns Inv-loop μ-loop
-returns c = finish (c .before .loop .inv) (c .loop-test .left)
+returns-3 : tie.Need-returns-3
+returns-3 c = search needs
 
 pub write-codeword-spec : {M : Type 1} → statement M
 write-codeword-spec =
     tie.close
     (tie.spec
-    Inv-loop
-    μ-loop
     segments-for-requires
-    crc24a-requires
-    loop-holds
-    share-of-requires
-    add-end
-    sub-send-block
-    part-send-block-start
-    part-send-block-end
-    send-block-requires
-    add-r
-    loop-less
-    loop-again
+    write-short-requires
+    write-middle-requires
+    write-long-requires
     same-length
-    returns)
+    returns
+    same-length-2
+    returns-2
+    same-length-3
+    returns-3)

@@ -1,6 +1,7 @@
 -- `matcher::match_long` meets its contract: every circle fits its room.
 -- Assumes nothing.
-use Rattle.rate_matching.proofs.MatcherBlock.{matchable-told, long-fits}
+use native.Mathlib.Omega.{arith}
+use Rattle.rate_matching.proofs.MatcherBlock.{matchable-told, room-fits}
 use borrow.Author.Needs.{needs}
 use Rattle.rate_matching.proofs.matcher.match_long.Statement.{statement}
 use Rattle.rate_matching.proofs.matcher.match_long.Tie as tie
@@ -9,7 +10,7 @@ slice-aggregate-match-in : tie.Need-slice-aggregate-match-in
 slice-aggregate-match-in c = search needs
 
 match-in-requires : tie.Need-match-in-requires
-match-in-requires c κs = let s = c .before .before .before .before .before .before in (s .pre .0, (long-fits _ (matchable-told (s .pre .0) .fits .most)), s .pre .1)
+match-in-requires c κs = let s = c .before .before .before .before .before .before in (s .pre .0, room-fits 193 _ (omega (arith, matchable-told (s .pre .0) .fits .most)), s .pre .1)
 
 same-length : tie.Need-same-length
 same-length c = search needs

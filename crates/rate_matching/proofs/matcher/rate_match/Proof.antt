@@ -10,11 +10,6 @@ use Rattle.rate_matching.proofs.MatcherBlock.{nothing-is, refused-is}
 use borrow.Author.Needs.{needs}
 use Rattle.rate_matching.proofs.matcher.rate_match.Statement.{statement}
 use Rattle.rate_matching.proofs.matcher.rate_match.Tie as tie
-use Rattle.rate_matching.proofs.matcher.rate_match.Reads as reads
-use Rattle.rate_matching.proofs.matcher.rate_match.Lts as lts
-use Rattle.rate_matching.proofs.matcher.match_long.Reads as match-long-reads
-use Rattle.rate_matching.proofs.matcher.match_short.Reads as match-short-reads
-use Rattle.rate_matching.proofs.matcher.matchable.Reads as matchable-reads
 
 -- past the test
 abbrev entry : tie.Else2 → tie.Start
@@ -42,14 +37,23 @@ same-length c = search needs
 returns-3 : tie.Need-returns-3
 returns-3 c = search needs
 
-match-long-requires : tie.Need-match-long-requires
-match-long-requires c κs = (told (c .before .before), omega arith)
+match-middle-requires : tie.Need-match-middle-requires
+match-middle-requires c κs = (told (c .before .before .before), c .before .if4 .taken, omega arith)
 
 same-length-2 : tie.Need-same-length-2
 same-length-2 c = search needs
 
 returns-4 : tie.Need-returns-4
 returns-4 c = search needs
+
+match-long-requires : tie.Need-match-long-requires
+match-long-requires c κs = (told (c .before .before .before), omega arith)
+
+same-length-3 : tie.Need-same-length-3
+same-length-3 c = search needs
+
+returns-5 : tie.Need-returns-5
+returns-5 c = search needs
 
 pub rate-match-spec : {M : Type 1} → statement M
 rate-match-spec =
@@ -61,6 +65,9 @@ rate-match-spec =
     match-short-requires
     same-length
     returns-3
-    match-long-requires
+    match-middle-requires
     same-length-2
-    returns-4)
+    returns-4
+    match-long-requires
+    same-length-3
+    returns-5)

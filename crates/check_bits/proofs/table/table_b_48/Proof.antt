@@ -1,0 +1,15 @@
+-- `table::table_b_48` meets its contract: each entry of the constant passes the test.
+-- Assumes nothing.
+use Rattle.laws.specs.Computed.{all-below}
+use Rattle.check_bits.specs.CheckBits.{crcStep, crcFrom, gCRC24B}
+use Rattle.check_bits.specs.Stride.{after}
+use Rattle.check_bits.proofs.Stride.{right, tested}
+use Rattle.check_bits.proofs.table.table_b_48.Statement.{statement}
+use Rattle.check_bits.proofs.table.table_b_48.Tie as tie
+
+returns : tie.Need-returns
+unfolding all-below right after crcFrom crcStep
+returns c = tested 48 gCRC24B _ tt
+
+pub table-b-48-spec : {M : Type 1} → statement M
+table-b-48-spec = tie.close (tie.spec returns)
