@@ -14,9 +14,6 @@ pub fn crc24a(bits: &[u8]) -> u32
     ensures { λ r. ⌜ r ≡ crc 24 gCRC24A (now (bits .entry)) ⌝ }
 {
     let near = table::table_a();
-    if bits.len() < 48 {
-        return by_near(0x864CFB, &near, bits);
-    }
     let far = table::table_a_48();
     by_table(0x864CFB, &near, &far, bits)
 }
@@ -44,20 +41,6 @@ fn by_table(generator: u32, near: &[u32; 96], far: &[u32; 96], bits: &[u8]) -> u
     }
     let s = passed(near, v);
     strides(generator, near, far, s, &bits[k..])
-}
-
-// The same of few bits, for which a second table costs more than it spares.
-fn by_near(generator: u32, near: &[u32; 96], bits: &[u8]) -> u32
-    requires { ⌜ IsTable 24 generator (now near) ⌝ }
-    ensures { λ r. ⌜ r ≡ crc 24 generator (now (bits .entry)) ⌝ }
-{
-    let k = bits.len() % 24;
-    let v = leading(&bits[..k]);
-    if 0xFF_FFFF < v {
-        return one_by_one(generator, 0, bits);
-    }
-    let s = passed(near, v);
-    last_stride(generator, near, s, &bits[k..])
 }
 
 // Fewer than 24 bits as a number, the first highest; 2 to the 24 where a byte is neither 0 nor 1.
