@@ -1,25 +1,25 @@
-# Sourced after needs.sh: native_lib makes the proved library for this machine and puts its path into $library.
+# Sourced after needs.sh: native_lib NAME makes the proved library of crate NAME for this machine and puts its path into $library.
 # Rattle compiles for x86-64 alone. Elsewhere the kit's compiler is given the same module once more, for this machine and with the
 # same -O3; the module is had from a kit folder made of links, in which the compiler is a script that keeps what it is handed.
 native_lib() {
-    local room=$PWD/target/native machine
+    local name=$1 room=$PWD/target/native machine
     machine=$(uname -m)
     mkdir -p "$room" || return 1
-    library=$PWD/target/staticlib/libface.a
+    library=$PWD/target/staticlib/lib$name.a
     if [ "$machine" = x86_64 ]; then
-        rt staticlib face > "$room/log" 2>&1 || { tail -n 20 "$room/log"; return 1; }
+        rt staticlib "$name" > "$room/log" 2>&1 || { tail -n 20 "$room/log"; return 1; }
         return
     fi
-    library=$room/face.o
-    rm -rf "$room/kit" "$room/face.bc" "$library"
+    library=$room/$name.o
+    rm -rf "$room/kit" "$room/$name.bc" "$library"
     cp -rs "$kit" "$room/kit" || return 1
     local clang=on/$machine/toolchain/bin/clang
     rm "$room/kit/$clang" || return 1
     printf '#!/bin/sh\nfor word; do case $word in *.bc) cp "$word" "%s" ;; esac; done\nexec "%s" "$@"\n' \
-        "$room/face.bc" "$kit/$clang" > "$room/kit/$clang" || return 1
+        "$room/$name.bc" "$kit/$clang" > "$room/kit/$clang" || return 1
     chmod +x "$room/kit/$clang"
-    RATTLE_HOME=$room/kit rt staticlib face > "$room/log" 2>&1 || { tail -n 20 "$room/log"; return 1; }
+    RATTLE_HOME=$room/kit rt staticlib "$name" > "$room/log" 2>&1 || { tail -n 20 "$room/log"; return 1; }
     # The module names x86-64 as its processor; the compiler then says that it takes this machine's usual one.
-    "$kit/$clang" --target="$machine-unknown-linux-gnu" -Wno-override-module -fPIC -O3 -c -x ir "$room/face.bc" -o "$library" \
+    "$kit/$clang" --target="$machine-unknown-linux-gnu" -Wno-override-module -fPIC -O3 -c -x ir "$room/$name.bc" -o "$library" \
         2> "$room/compiler.log" || { cat "$room/compiler.log"; return 1; }
 }

@@ -1,13 +1,15 @@
-//! Build timed: the proved library beside the fast and the literal program, all three
-//! linked into one process and called by turns. Feature `linked` alone, since the library
-//! must be linked too: `scripts/bench` does both.
+//! Build, Receive and Read timed: the proved library beside the fast and the literal
+//! program, all three linked into one process and called by turns. Feature `linked` alone,
+//! since the library must be linked too: `scripts/bench` does both.
 //!
-//! A row is a block and a G. Each of the three has its own output; outputs and the fast
-//! program's workspace are not cleared between calls. In each round each of the three makes
-//! enough calls to fill `BATCH`, another one first each time; the least time a call stands.
+//! A row is a block and a G. Each of the three has its own output (for Receive that is its
+//! store); outputs and the fast programs' workspaces are not cleared between calls. In each
+//! round each of the three makes enough calls to fill `BATCH`, another one first each time;
+//! the least time a call stands.
 
 use crate::segmentation::Segmentation;
-use crate::{codeword, fast, xorshift};
+use crate::slots::{self, Refusal, State, ROOM_OF_BLOCK};
+use crate::{codeword, fast, fast_slots, xorshift};
 use std::hint::black_box;
 use std::time::{Duration, Instant};
 
@@ -22,6 +24,9 @@ const Q: usize = 2;
 const N: usize = 1;
 const VERSION: usize = 0;
 
+/// Slot 0 is open for this terminal.
+const TERMINAL: u16 = 0;
+
 mod library {
     extern "C" {
         /// As include/zemrukste.h has it.
@@ -35,6 +40,76 @@ mod library {
             out: *mut u8,
             out_len: usize,
         ) -> u32;
+
+        /// The exports of crates/heard: one slot, open for terminal 0.
+        pub fn heard_receive(
+            m: usize,
+            a: usize,
+            q: usize,
+            n: usize,
+            version: usize,
+            bits: *const u8,
+            bits_len: usize,
+            store: *mut u8,
+            store_len: usize,
+            lacking: *mut usize,
+        ) -> u32;
+        pub fn heard_read(
+            m: usize,
+            a: usize,
+            store: *const u8,
+            store_len: usize,
+            out: *mut u8,
+            out_len: usize,
+            lacking: *mut usize,
+        ) -> u32;
+    }
+}
+
+/// The calls that are timed.
+#[derive(Clone, Copy)]
+pub enum Timed {
+    Build,
+    Receive,
+    Read,
+}
+
+pub const ALL: [Timed; 3] = [Timed::Build, Timed::Receive, Timed::Read];
+
+impl Timed {
+    pub fn name(self) -> &'static str {
+        match self {
+            Timed::Build => "build",
+            Timed::Receive => "receive",
+            Timed::Read => "read",
+        }
+    }
+
+    /// Four blocks without filler (one code block of 64, 1,024 and 6,144, and five of
+    /// 6,144), each with the whole mother code once and with the largest G; Build also with
+    /// the least G, and Read after the mother code alone, since it does not see G.
+    pub fn usual_rows(self) -> Vec<Row> {
+        let least = |a| Row { a, g: N * Q * Segmentation::of(a + 24).blocks };
+        let most = |a| Row { a, g: codeword::G_MAX };
+        let rows = |a| match self {
+            Timed::Build => vec![least(a), mother_code(a), most(a)],
+            Timed::Receive => vec![mother_code(a), most(a)],
+            Timed::Read => vec![mother_code(a)],
+        };
+        [40, 1_000, 6_120, codeword::A_MAX].into_iter().flat_map(rows).collect()
+    }
+
+    fn runners(self, row: Row) -> Result<[Runner; 3], String> {
+        let block = xorshift::block(row.a, 1);
+        let mut bits = vec![0; codeword::G_MAX];
+        let built = codeword::build_into(&block, Q, N, VERSION, row.g, &mut bits);
+        built.map_err(|number| format!("A {}, G {}: refused with {number}", row.a, row.g))?;
+        bits.truncate(row.g);
+        Ok(match self {
+            Timed::Build => build_runners(block, row.g),
+            Timed::Receive => receive_runners(row.a, bits),
+            Timed::Read => read_runners(row.a, bits),
+        })
     }
 }
 
@@ -45,145 +120,216 @@ pub struct Row {
     pub g: usize,
 }
 
-/// Four blocks without filler (one code block of 64, 1,024 and 6,144, and five of 6,144),
-/// each with the least G, with the whole mother code once, and with the largest G.
-pub fn usual_rows() -> Vec<Row> {
-    [40, 1_000, 6_120, codeword::A_MAX].into_iter().flat_map(rows_of).collect()
-}
-
-fn rows_of(a: usize) -> [Row; 3] {
+/// Every place of every code block sent once.
+fn mother_code(a: usize) -> Row {
     let segmentation = Segmentation::of(a + 24);
-    let blocks = segmentation.blocks;
-    let places: usize = (0..blocks).map(|r| 3 * (segmentation.size(r) + 4)).sum();
-    let mother = (places - 2 * segmentation.filler) / (N * Q) * (N * Q);
-    [N * Q * blocks, mother, codeword::G_MAX].map(|g| Row { a, g })
+    let places: usize = (0..segmentation.blocks).map(|r| 3 * (segmentation.size(r) + 4)).sum();
+    Row { a, g: (places - 2 * segmentation.filler) / (N * Q) * (N * Q) }
 }
 
-struct Call {
-    block: Vec<u8>,
-    q: usize,
-    n: usize,
-    version: usize,
-    g: usize,
-}
+/// 0 or the number of a refusal, and how many data places lack a bit where that is told.
+type Answer = (u32, usize);
 
-impl Call {
-    fn of(row: Row) -> Call {
-        Call { block: xorshift::block(row.a, 1), q: Q, n: N, version: VERSION, g: row.g }
-    }
-}
-
-/// Answers 0 or the number of a refusal.
-type Build = Box<dyn FnMut(&Call, &mut [u8]) -> u32>;
-
-/// One of the three with its output.
+/// One of the three: a call, and what it writes.
 struct Runner {
-    build: Build,
+    call: Box<dyn FnMut(&mut [u8]) -> Answer>,
     output: Vec<u8>,
 }
 
 impl Runner {
-    fn all() -> [Runner; 3] {
-        let mut workspace = fast::Workspace::default();
-        let number = |answer: Result<(), u8>| answer.map_or_else(u32::from, |()| 0);
-        let builds: [Build; 3] = [
-            Box::new(library_build),
-            Box::new(move |c, out| number(workspace.build_into(&c.block, c.q, c.n, c.version, c.g, out))),
-            Box::new(move |c, out| number(codeword::build_into(&c.block, c.q, c.n, c.version, c.g, out))),
-        ];
-        builds.map(|build| Runner { build, output: vec![0; codeword::G_MAX] })
+    fn of(length: usize, call: impl FnMut(&mut [u8]) -> Answer + 'static) -> Runner {
+        Runner { call: Box::new(call), output: vec![0; length] }
     }
 
-    fn call(&mut self, call: &Call) -> u32 {
-        (self.build)(black_box(call), black_box(&mut self.output))
+    fn call(&mut self) -> Answer {
+        (self.call)(black_box(&mut self.output))
     }
 
     /// The time of so many calls.
-    fn time(&mut self, call: &Call, calls: u32) -> Duration {
+    fn time(&mut self, calls: u32) -> Duration {
         let start = Instant::now();
         for _ in 0..calls {
-            black_box(self.call(call));
+            black_box(self.call());
         }
         start.elapsed()
     }
 }
 
-fn library_build(c: &Call, out: &mut [u8]) -> u32 {
-    let (block, output) = (c.block.as_ptr(), out.as_mut_ptr());
-    // Two slices of Rust, so both are there for their lengths and do not overlap.
-    unsafe { library::zemrukste_build(block, c.block.len(), c.q, c.n, c.version, c.g, output, out.len()) }
+fn told(answer: Result<usize, Refusal>) -> Answer {
+    match answer {
+        Ok(lacking) => (0, lacking),
+        Err(Refusal::Lacking(lacking)) => (slots::LACKING.into(), lacking),
+        Err(Refusal::Number(number)) => (number.into(), 0),
+    }
 }
 
-/// The table over the rows. An error if one refuses or two codewords differ.
-pub fn table(rows: &[Row], rounds: u32) -> Result<String, String> {
-    let mut runners = Runner::all();
-    let mut text = String::from(
-        "|      A |       G |  Rattle ns |    fast ns | literal ns | Rattle/fast | literal/Rattle |\n\
+fn build_runners(block: Vec<u8>, g: usize) -> [Runner; 3] {
+    let mut workspace = fast::Workspace::default();
+    let blocks = [block.clone(), block.clone(), block];
+    let number = |answer: Result<(), u8>| (answer.map_or_else(u32::from, |()| 0), 0);
+    let [rattle, fast, literal] = blocks;
+    [
+        Runner::of(codeword::G_MAX, move |out| {
+            let block = black_box(&rattle);
+            // Two slices of Rust, so both are there for their lengths and do not overlap.
+            let number = unsafe {
+                library::zemrukste_build(block.as_ptr(), block.len(), Q, N, VERSION, g, out.as_mut_ptr(), out.len())
+            };
+            (number, 0)
+        }),
+        Runner::of(codeword::G_MAX, move |out| number(workspace.build_into(black_box(&fast), Q, N, VERSION, g, out))),
+        Runner::of(codeword::G_MAX, move |out| number(codeword::build_into(black_box(&literal), Q, N, VERSION, g, out))),
+    ]
+}
+
+/// A slot for the code blocks of A, open; a store full of anything but bits is as good as a
+/// cleared one.
+fn open_slot(a: usize) -> State {
+    let m = Segmentation::of(a + 24).blocks;
+    let (state, _) = slots::new(1, m);
+    slots::open(state, &mut vec![0; m * ROOM_OF_BLOCK], 0, TERMINAL, a).0
+}
+
+/// Opening is in no one's time.
+fn receive_runners(a: usize, bits: Vec<u8>) -> [Runner; 3] {
+    let state = open_slot(a);
+    let [rattle, fast, literal] = [bits.clone(), bits.clone(), bits];
+    let length = state.m * ROOM_OF_BLOCK;
+    [
+        Runner::of(length, move |store| {
+            let (state, bits) = (black_box(&state), black_box(&rattle));
+            let mut lacking = 0;
+            // Slices of Rust and a number of its own, as above.
+            let number = unsafe {
+                library::heard_receive(
+                    state.m,
+                    state.heads[0].a,
+                    Q,
+                    N,
+                    VERSION,
+                    bits.as_ptr(),
+                    bits.len(),
+                    store.as_mut_ptr(),
+                    store.len(),
+                    &mut lacking,
+                )
+            };
+            (number, lacking)
+        }),
+        Runner::of(length, move |store| {
+            told(fast_slots::receive(black_box(&state), store, 0, TERMINAL, Q, N, VERSION, black_box(&fast)))
+        }),
+        Runner::of(length, move |store| {
+            told(slots::receive(*black_box(&state), store, 0, TERMINAL, Q, N, VERSION, black_box(&literal)).1)
+        }),
+    ]
+}
+
+fn read_runners(a: usize, bits: Vec<u8>) -> [Runner; 3] {
+    let state = open_slot(a);
+    let mut store = vec![slots::UNHEARD; state.m * ROOM_OF_BLOCK];
+    let _ = slots::receive(state, &mut store, 0, TERMINAL, Q, N, VERSION, &bits);
+    let mut workspace = fast_slots::Workspace::default();
+    let [rattle, fast, literal] = [store.clone(), store.clone(), store];
+    let done = |answer: slots::Answer| told(answer.map(|()| 0));
+    [
+        Runner::of(codeword::A_MAX, move |out| {
+            let (state, store) = (black_box(&state), black_box(&rattle));
+            let mut lacking = 0;
+            // Slices of Rust and a number of its own, as above.
+            let number = unsafe {
+                library::heard_read(
+                    state.m,
+                    state.heads[0].a,
+                    store.as_ptr(),
+                    store.len(),
+                    out.as_mut_ptr(),
+                    out.len(),
+                    &mut lacking,
+                )
+            };
+            (number, lacking)
+        }),
+        Runner::of(codeword::A_MAX, move |out| {
+            done(workspace.read(black_box(&state), black_box(&fast), 0, TERMINAL, out))
+        }),
+        Runner::of(codeword::A_MAX, move |out| {
+            done(slots::read(*black_box(&state), black_box(&literal), 0, TERMINAL, out).1)
+        }),
+    ]
+}
+
+/// The table over the rows. An error if one refuses or two leave other bytes.
+pub fn table(timed: Timed, rows: &[Row], rounds: u32) -> Result<String, String> {
+    let mut text = format!(
+        "{}\n\
+         |      A |       G |  Rattle ns |    fast ns | literal ns | Rattle/fast | literal/Rattle |\n\
          |-------:|--------:|-----------:|-----------:|-----------:|------------:|---------------:|\n",
+        timed.name()
     );
     for &row in rows {
-        let [rattle, fast, literal] = least_times(&mut runners, row, rounds)?;
+        let [rattle, fast, literal] = least_times(timed, row, rounds)?;
         let (slower, faster) = (rattle / fast, literal / rattle);
         let Row { a, g } = row;
         text += &format!(
             "| {a:6} | {g:7} | {rattle:10.0} | {fast:10.0} | {literal:10.0} | {slower:11.2} | {faster:14.2} |\n"
         );
     }
-    Ok(text + "The three gave the same bytes in every row, before and after the timing.\n")
+    Ok(text + "The three gave the same answers and bytes in every row, before and after the timing.\n")
 }
 
 /// The least nanoseconds a call of each of the three.
-fn least_times(runners: &mut [Runner; 3], row: Row, rounds: u32) -> Result<[f64; 3], String> {
-    let call = Call::of(row);
-    same_codeword(runners, &call)?;
-    let calls = runners.each_mut().map(|runner| calls_in_a_batch(runner, &call));
+fn least_times(timed: Timed, row: Row, rounds: u32) -> Result<[f64; 3], String> {
+    let mut runners = timed.runners(row)?;
+    let failed = |why: String| format!("{}, A {}, G {}: {why}", timed.name(), row.a, row.g);
+    called_alike(&mut runners).map_err(failed)?;
+    let calls = runners.each_mut().map(calls_in_a_batch);
     let mut least = [f64::INFINITY; 3];
     for round in 0..rounds as usize {
         for turn in 0..3 {
             let who = (round + turn) % 3;
-            let nanoseconds = runners[who].time(&call, calls[who]).as_nanos() as f64;
+            let nanoseconds = runners[who].time(calls[who]).as_nanos() as f64;
             least[who] = least[who].min(nanoseconds / f64::from(calls[who]));
         }
     }
-    same_outputs(runners, &call)?;
+    left_alike(&runners).map_err(failed)?;
     Ok(least)
 }
 
 /// Calls that fill a batch, judged by the quickest of three.
-fn calls_in_a_batch(runner: &mut Runner, call: &Call) -> u32 {
-    let once = (0..3).map(|_| runner.time(call, 1)).min().unwrap_or(BATCH);
+fn calls_in_a_batch(runner: &mut Runner) -> u32 {
+    let once = (0..3).map(|_| runner.time(1)).min().unwrap_or(BATCH);
     (BATCH.as_nanos() / once.as_nanos().max(1)).max(1) as u32
 }
 
 /// Calls each once, on outputs full of what is no bit.
-fn same_codeword(runners: &mut [Runner; 3], call: &Call) -> Result<(), String> {
+fn called_alike(runners: &mut [Runner; 3]) -> Result<(), String> {
     for (runner, name) in runners.iter_mut().zip(NAMES) {
         runner.output.fill(7);
-        let answer = runner.call(call);
-        if answer != 0 {
-            return Err(format!("A {}, G {}: {name} refuses with {answer}", call.block.len(), call.g));
+        let answer = runner.call();
+        if answer != (0, 0) {
+            return Err(format!("{name} answers {} with {}", answer.0, answer.1));
         }
     }
-    same_outputs(runners, call)
+    left_alike(runners)
 }
 
-/// The whole outputs, so also that nothing past G is written.
-fn same_outputs(runners: &[Runner; 3], call: &Call) -> Result<(), String> {
+/// The whole outputs, so also that nothing else is written.
+fn left_alike(runners: &[Runner; 3]) -> Result<(), String> {
     let literal = &runners[2].output;
     match runners.iter().zip(NAMES).find(|(runner, _)| runner.output != *literal) {
         None => Ok(()),
-        Some((_, name)) => {
-            Err(format!("A {}, G {}: {name} and literal differ", call.block.len(), call.g))
-        }
+        Some((_, name)) => Err(format!("{name} and literal differ")),
     }
 }
 
 /// So many calls of one of the three for each row, untimed: for a profiler to watch.
-pub fn only(name: &str, rows: &[Row], calls: u32) -> Result<(), String> {
-    let who = NAMES.iter().position(|known| *known == name);
-    let runner = &mut Runner::all()[who.ok_or(format!("no such program: {name}"))?];
+pub fn only(name: &str, timed: Timed, rows: &[Row], calls: u32) -> Result<(), String> {
+    let who = NAMES.iter().position(|known| *known == name).ok_or(format!("no such program: {name}"))?;
     for &row in rows {
-        runner.time(&Call::of(row), calls);
+        let runner = &mut timed.runners(row)?[who];
+        runner.output.fill(7);
+        runner.time(calls);
     }
     Ok(())
 }

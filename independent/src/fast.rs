@@ -15,7 +15,7 @@ use crate::segmentation::Z;
 use crate::table::{Row, TABLE};
 
 /// L of clause 5.1.1, for both generators used here.
-const PARITY: usize = 24;
+pub(crate) const PARITY: usize = 24;
 
 /// Build with a workspace of its own.
 pub fn build_into(
@@ -79,7 +79,7 @@ impl Workspace {
         let transport_parity = crc(&CRC24A, block);
         let (mut data, mut rest) = (block, output);
         for r in 0..plan.blocks {
-            let layout = Layout::of(plan.row(r), if r == 0 { plan.filler } else { 0 });
+            let layout = plan.layout(r);
             self.fit(layout.rows);
             let c = &mut self.y[0][layout.dummies..][..layout.k];
             let is_last = r + 1 == plan.blocks;
@@ -162,10 +162,10 @@ impl Workspace {
 
 /// The unit of the circle that each version starts with: R * (24 * v + 2) is always the
 /// head of a column.
-const START: [usize; 4] = [2, 26, 32 + 9, 32 + 21];
+pub(crate) const START: [usize; 4] = [2, 26, 32 + 9, 32 + 21];
 
 /// The first row of a column that lies behind the first `absent` places.
-fn first_row(absent: usize, column: usize) -> usize {
+pub(crate) fn first_row(absent: usize, column: usize) -> usize {
     absent.saturating_sub(column).div_ceil(COLUMNS)
 }
 
@@ -179,8 +179,8 @@ fn column_bits(turn: &mut [u8], rows: &[[u8; COLUMNS]], column: usize) {
 static ROWS: [Row; TABLE.len()] = TABLE;
 
 /// Clause 5.1.2 in numbers, K as rows of the table.
-struct Plan {
-    blocks: usize,
+pub(crate) struct Plan {
+    pub(crate) blocks: usize,
     shorts: usize,
     long: &'static Row,
     short: &'static Row,
@@ -188,7 +188,7 @@ struct Plan {
 }
 
 impl Plan {
-    fn of(b: usize) -> Plan {
+    pub(crate) fn of(b: usize) -> Plan {
         let blocks = if b <= Z { 1 } else { b.div_ceil(Z - PARITY) };
         let b_prime = if blocks == 1 { b } else { b + PARITY * blocks };
         let above = ROWS.partition_point(|row| blocks * row.k < b_prime);
@@ -209,17 +209,22 @@ impl Plan {
             self.long
         }
     }
+
+    /// How code block r lies.
+    pub(crate) fn layout(&self, r: usize) -> Layout {
+        Layout::of(self.row(r), if r == 0 { self.filler } else { 0 })
+    }
 }
 
 /// How one code block lies in the padded streams: place i of streams 0 and 1 at
 /// `dummies + i`, of stream 2 one earlier. So the + 1 of its rule is already made, and
 /// all three streams are read alike.
-struct Layout {
+pub(crate) struct Layout {
     row: &'static Row,
-    k: usize,
-    rows: usize,
-    dummies: usize,
-    filler: usize,
+    pub(crate) k: usize,
+    pub(crate) rows: usize,
+    pub(crate) dummies: usize,
+    pub(crate) filler: usize,
 }
 
 impl Layout {
@@ -292,9 +297,9 @@ fn unpack_some(word: u64, bits: &mut [u8]) {
 // Check bits.
 
 /// Table n gives the remainder of a byte with n bytes of zeros behind it.
-type CrcTables = [[u32; 256]; 8];
+pub(crate) type CrcTables = [[u32; 256]; 8];
 
-static CRC24A: CrcTables = crc_tables(0x86_4CFB);
+pub(crate) static CRC24A: CrcTables = crc_tables(0x86_4CFB);
 static CRC24B: CrcTables = crc_tables(0x80_0063);
 
 /// From the generator, highest power first, to tables with the highest power lowest.
@@ -327,7 +332,7 @@ const fn crc_tables(generator: u32) -> CrcTables {
 
 /// The 24 parity bits, p_0 lowest. Zeros in front change no remainder, so the odd bits
 /// come first, at the end of a word.
-fn crc(tables: &CrcTables, bits: &[u8]) -> u64 {
+pub(crate) fn crc(tables: &CrcTables, bits: &[u8]) -> u64 {
     let (odd, words) = bits.split_at(bits.len() % WORD);
     let step = |remainder: u64, word: u64| {
         let bytes = (word ^ remainder).to_le_bytes();

@@ -3,8 +3,9 @@
 //!
 //! One module a clause, in the order of the clauses. Each transcribes the loops of the
 //! standard as they stand there; nothing is made fast at the cost of that likeness. The
-//! slots of 01 stand on them. `fast` is Build again with speed in mind, held to the literal
-//! one by the tests; the modules after it compare another program with this one.
+//! slots of 01 stand on them. `fast` is Build again with speed in mind and `fast_slots` Receive
+//! and Read, held to the literal ones by the tests; the modules after them compare another
+//! program with this one.
 //!
 //! A bit is one byte, 0 or 1. A place that carries no bit (`<NULL>` in the standard:
 //! filler and dummies) is `None`.
@@ -20,6 +21,7 @@ pub mod sizes; // the call Sizes and the sizes program of 01
 pub mod stage; // every stage as readable text
 pub mod xorshift; // repeatable blocks to try
 pub mod fast; // Build for speed
+pub mod fast_slots; // Receive and Read for speed
 pub mod protocol; // how a bridge to another program is asked and answers
 pub mod cases; // what it is asked
 pub mod compare; // asks it and compares

@@ -40,9 +40,10 @@ independent histories [--seed N] [--histories N] [--only N] COMMAND...
     --only N       send only history N, counted from 0; the rooms begin as zeros
 independent figures
     the numbers of the pictures, for scripts/pictures
-independent bench [--rounds N] [--only NAME --calls N] [A:G]...
-    times Build of the proved library, of the fast program and of the literal one, least
-    of the rounds; needs the library linked, as scripts/bench does
+independent bench [CALL] [--rounds N] [--only NAME --calls N] [A:G]...
+    times the proved library, the fast program and the literal one, least of the rounds;
+    needs the library linked, as scripts/bench does
+    CALL         build, receive or read; all three if not given
     --rounds N   15 if not given
     --only NAME  only N untimed calls of rattle, fast or literal, for a profiler
     A:G          the rows, instead of the usual ones
@@ -161,9 +162,10 @@ fn bench(_: &[&str]) -> Result<(), String> {
 
 #[cfg(feature = "linked")]
 fn bench(words: &[&str]) -> Result<(), String> {
-    use independent::bench::{only, table, usual_rows, Row};
+    use independent::bench::{only, table, Row, ALL};
+    let named = words.first().and_then(|word| ALL.into_iter().find(|timed| timed.name() == *word));
+    let mut rest = if named.is_some() { &words[1..] } else { words };
     let (mut rounds, mut calls, mut one) = (15, 1, None);
-    let mut rest = words;
     while let [option, value, later @ ..] = rest {
         match *option {
             "--rounds" => rounds = number::<u32>(value)?.max(1),
@@ -178,11 +180,14 @@ fn bench(words: &[&str]) -> Result<(), String> {
         Ok(Row { a: number(a)?, g: number(g)? })
     };
     let given = rest.iter().map(row).collect::<Result<Vec<Row>, String>>()?;
-    let rows = if given.is_empty() { usual_rows() } else { given };
-    match one {
-        Some(name) => only(name, &rows, calls),
-        None => print(table(&rows, rounds)?.as_bytes()),
+    for timed in named.map_or(ALL.to_vec(), |timed| vec![timed]) {
+        let rows = if given.is_empty() { timed.usual_rows() } else { given.clone() };
+        match one {
+            Some(name) => only(name, timed, &rows, calls)?,
+            None => print(table(timed, &rows, rounds)?.as_bytes())?,
+        }
     }
+    Ok(())
 }
 
 /// What a command prints, or what is wrong with it.

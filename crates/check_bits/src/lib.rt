@@ -2,8 +2,8 @@
 mod table;
 
 ghost use mathlib.Core.Path.{_≡_};
-ghost use Prim.Native.Nat.{_+_, _^_, _≤_, _<_};
-ghost use lib.ListN.{length, take, drop};
+ghost use Prim.Native.Nat.{_+_, _%_, _^_, _≤_, _<_};
+ghost use lib.ListN.{length, getD, take, drop};
 ghost use Rattle.laws.specs.Bits.{bitsOf};
 ghost use Rattle.check_bits.specs.CheckBits.{crc, crcFrom, gCRC24A, gCRC24B};
 ghost use Rattle.check_bits.specs.Stride.{IsTable, IsNumber, entries, wordOf, lowest};
@@ -100,17 +100,27 @@ fn last_stride(generator: u32, near: &[u32; 96], from: u32, bits: &[u8]) -> u32
     one_by_one(generator, s, &bits[24..])
 }
 
-// The register `s` after the zeros that the table is for: by linearity the sum of what its six times four bits give.
+// The register `s` after the zeros that the table is for: by linearity the sum of what its six times four bits give. Each four have a row
+// of the table, lent by itself, so that where it begins is not worked out anew in every turn.
 fn passed(table: &[u32; 96], s: u32) -> u32
     ensures { λ r. ⌜ r ≡ entries (now (table .entry)) s ⌝ }
 {
-    let a = (s % 16) as usize;
-    let b = 16 + ((s >> 4) % 16) as usize;
-    let c = 32 + ((s >> 8) % 16) as usize;
-    let d = 48 + ((s >> 12) % 16) as usize;
-    let e = 64 + ((s >> 16) % 16) as usize;
-    let f = 80 + ((s >> 20) % 16) as usize;
-    table[a] ^ table[b] ^ table[c] ^ table[d] ^ table[e] ^ table[f]
+    let rows = &table[..];
+    let a = entry(rows, s);
+    let b = entry(&rows[16..], s >> 4);
+    let c = entry(&rows[32..], s >> 8);
+    let d = entry(&rows[48..], s >> 12);
+    let e = entry(&rows[64..], s >> 16);
+    let f = entry(&rows[80..], s >> 20);
+    a ^ b ^ c ^ d ^ e ^ f
+}
+
+// The entry of a row for the lowest four bits of `s`.
+fn entry(row: &[u32], s: u32) -> u32
+    requires { ⌜ 16 ≤ length (now row) ⌝ }
+    ensures { λ r. ⌜ r ≡ getD (now (row .entry)) (s % 16) 0 ⌝ }
+{
+    row[(s % 16) as usize]
 }
 
 // The 24 bits from `from` on as a number, the first highest; 2 to the 24 where a byte is neither 0 nor 1.

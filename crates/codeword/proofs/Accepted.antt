@@ -1,4 +1,4 @@
--- What an accepted allocation keeps to (01, 'Sizes and numbers'), and how the bytes of given bits are looked at together.
+-- What an accepted allocation keeps to (01, 'Sizes and numbers').
 -- Assumes nothing.
 use mathlib.Core.Path.{_≡_, refl, sym, _∙_, ap}
 use mathlib.Core.Bool.{Bool, true, false, not, _||_}
@@ -7,8 +7,7 @@ use Prim.Native.Nat.{ℕ, zero, suc, _+_, _-_, _*_, _/_, _%_, _≤_, _<_}
 use native.Mathlib.Nat.{mul-le-mul}
 use native.Mathlib.Omega.{arith}
 use lib.Dec.{eqb, ltb, lit<}
-use lib.Bits.{bitOr, bitAnd, or-lt, or-add-and, and-le-l, and-le-r}
-use borrow.Author.Tests.{eqb-true, eqb-false, ltb-true, ltb-false, lt-ltb, le-ltb, not-false}
+use borrow.Author.Tests.{eqb-true, eqb-false, ltb-false, lt-ltb, not-false}
 use Rattle.laws.specs.Bits.{AreBits}
 use Rattle.codeword.specs.Shares.{symbols, share}
 use Rattle.codeword.specs.Build.{badModulation, badLayers, badAllocation, shareOf, badBits}
@@ -70,17 +69,6 @@ allocated C Q N G h =
 pub share-told : (C Q N G r : ℕ) → r < C → badAllocation C Q N G ≡ false → shareOf C Q N G r ≡ share C Q N G r
 unfolding shareOf
 share-told C Q N G r h e = simp (lt-ltb r C h, e)
-
--- the bytes seen together are above 1 where one of them is
-pub seen-more : (a b : ℕ) → ltb 1 (bitOr a b) ≡ (ltb 1 a || ltb 1 b)
-seen-more a b = go (ltb 1 a) (ltb 1 b) refl refl
-  where
-    go : (s t : Bool) → ltb 1 a ≡ s → ltb 1 b ≡ t → ltb 1 (bitOr a b) ≡ (s || t)
-    go true t e f = lt-ltb 1 (bitOr a b) (omega (arith, or-add-and a b, and-le-r a b, ltb-true 1 a e))
-    go false true e f = lt-ltb 1 (bitOr a b) (omega (arith, or-add-and a b, and-le-l a b, ltb-true 1 b f))
-    go false false e f =
-        let h : bitOr a b < 2 = or-lt 1 a b (omega (arith, ltb-false 1 a e)) (omega (arith, ltb-false 1 b f)) in
-        le-ltb 1 (bitOr a b) (omega arith)
 
 -- ---- given bits
 

@@ -1,4 +1,5 @@
 pub mod Accepted
+pub mod Seen
 pub mod Shares
 pub mod Segmented
 pub mod Numbers

@@ -2,6 +2,8 @@
 // all that Build and Receive have in common.
 
 ghost use mathlib.Core.Path.{_≡_};
+ghost use mathlib.Core.Bool.{_||_};
+ghost use lib.ListN.{length};
 ghost use Rattle.codeword.specs.Build.{badModulation, badLayers, badAllocation, shareOf, badBits};
 
 fn bad_modulation(q: usize) -> bool
@@ -45,18 +47,33 @@ pub fn bad_allocation(blocks: usize, q: usize, n: usize, g: usize) -> bool
     g / step < blocks
 }
 
-// Number 2: a byte above 1 among the bits.
+// Number 2: a byte above 1 among the bits. They are looked at in two halves, and the last one by itself if their number is odd.
 pub fn bad_bits(bits: &[u8]) -> bool
     ensures { λ r. ⌜ r ≡ badBits (now (bits .entry)) ⌝ }
 {
-    // every byte is looked at, with no branch, so that the loop runs many bytes at a time
+    let half = bits.len() / 2;
+    let end = half + half;
+    if end < bits.len() && bits[end] > 1 {
+        return true;
+    }
+    bad_halves(&bits[..half], &bits[half..end])
+}
+
+// Whether a byte of one of two equally long slices is above 1. Every byte is looked at, with no branch, so that the loop runs many bytes
+// at a time, and neither of the two sums waits for the other.
+fn bad_halves(first: &[u8], second: &[u8]) -> bool
+    requires { ⌜ length (now second) ≡ length (now first) ⌝ }
+    ensures { λ r. ⌜ r ≡ (badBits (now (first .entry)) || badBits (now (second .entry))) ⌝ }
+{
     let mut seen: u8 = 0;
+    let mut other: u8 = 0;
     let mut i = 0;
-    while i < bits.len() {
-        seen = seen | bits[i];
+    while i < first.len() {
+        seen = seen | first[i];
+        other = other | second[i];
         i += 1;
     }
-    seen > 1
+    (seen | other) > 1
 }
 
 // E of code block r of an accepted allocation; 0 where there is no such code block, or the allocation is refused.

@@ -1,5 +1,6 @@
 pub mod Columns
 pub mod Places
+pub mod Firsts
 pub mod Circle
 pub mod Kept
 pub mod Walk
@@ -8,6 +9,7 @@ pub mod MatcherPadded
 pub mod MatcherColumns
 pub mod MatcherTurns
 pub mod ShapeTurn
+pub mod ShapeColumns
 pub mod Alike
 pub mod Units
 pub mod MatcherBlock

@@ -115,10 +115,7 @@ module _ (R v : ℕ) {s : ℕ} (h : v ≤ 3) (e : s ≡ startUnit v) where
 module _ {D F v : ℕ} (m : Matchable D D D F v) where
   -- a turn has places
   pub places-some : 0 < length (turn (shape D F) (startOf (rows D) v))
-  places-some = turn-some (record { least = m .least; most = m .fits .most; filler = omega (arith, m .fits .filler); version = m .version; fits = fits })
-    where
-      fits : circleLength (rows D) ≤ circleLength (rows D)
-      fits = omega arith
+  places-some = turn-some (omega (arith, m .least)) (omega (arith, m .fits .filler)) (m .version)
 
 module _ (d0 d1 d2 : List ℕ) (F v : ℕ) (out : List ℕ) (t : matchable (length d0) (length d1) (length d2) F v ≡ true) {s : ℕ} (e : s ≡ startUnit v) where
   m : Matchable (length d0) (length d1) (length d2) F v

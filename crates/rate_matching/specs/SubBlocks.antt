@@ -38,3 +38,7 @@ plain d = tab (32 * rows (length d)) (yAt readPlain d)
 -- v(2) of a stream
 unfoldable pub shifted : List ℕ → List ℕ
 shifted d = tab (32 * rows (length d)) (yAt readShifted d)
+
+-- how many of the places u, u + 32, u + 64, .. lie before place i: the rows of a column that are above it
+unfoldable pub rowsBefore : ℕ → ℕ → ℕ
+rowsBefore i u = (i - u + 31) / 32

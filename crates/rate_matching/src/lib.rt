@@ -1,13 +1,13 @@
 // Rate matching of clause 5.1.4.1: a place in a stream and a place on the circle are two types, crossed only by the mapping functions.
 mod mapping;
 mod matcher;
-mod table;
-mod turn;
+pub mod table;
 
+pub use mapping::first_places;
 pub use mapping::held_at;
 pub use mapping::place_of;
+pub use mapping::rows_before;
 pub use matcher::rate_match;
-pub use turn::turn_places;
 
 // Which stream, 0 to 2, and the place in it, which runs to D.
 pub struct StreamPlace(pub usize, pub usize);

@@ -4,10 +4,12 @@ use crate::Held;
 use crate::Lies;
 use crate::StreamPlace;
 use crate::table::column_at;
+use crate::table::columns;
 ghost use mathlib.Core.Path.{_≡_};
 ghost use Prim.Native.Nat.{_*_, _≤_, _<_};
-ghost use Rattle.rate_matching.specs.SubBlocks.{rows, readPlain, readShifted};
-ghost use Rattle.rate_matching.specs.Places.{heldY, heldAt, plainPlace, shiftedPlace, placeOf, heldWithin, liesAt, InStreams, OnCircle};
+ghost use Rattle.rate_matching.specs.Columns.{columnTable};
+ghost use Rattle.rate_matching.specs.SubBlocks.{rows, readPlain, readShifted, rowsBefore};
+ghost use Rattle.rate_matching.specs.Places.{heldY, heldAt, plainPlace, shiftedPlace, placeOf, firstPlaces, heldWithin, liesAt, firstsWithin, InStreams, OnCircle};
 
 // The largest D: that of K = 6,144.
 const LONGEST: usize = 6148;
@@ -82,26 +84,33 @@ pub fn held_at(d: usize, place: CirclePlace) -> Held
     }
 }
 
-// Where the plain rule reads y place p.
-fn plain_place(rows: usize, p: usize) -> usize
-    requires { ⌜ (rows ≤ 193) × (p < 32 * rows) ⌝ }
+// How many of the places u, u + 32, u + 64, .. lie before place i: the rows of a column that are above it.
+pub fn rows_before(i: usize, u: usize) -> usize
+    ensures { λ r. ⌜ r ≡ rowsBefore i u ⌝ }
+{
+    if i <= u { 0 } else { (i - u - 1) / 32 + 1 }
+}
+
+// Where the plain rule reads y place p. The table is lent, since a constant is copied whole wherever it is read.
+fn plain_place(table: &[u8; 32], rows: usize, p: usize) -> usize
+    requires { ⌜ (now table ≡ columnTable) × (rows ≤ 193) × (p < 32 * rows) ⌝ }
     ensures { λ r. ⌜ (r ≡ plainPlace rows p) × (r < 32 * rows) ⌝ }
 {
-    column_at(p % 32) * rows + p / 32
+    (table[p % 32] as usize) * rows + p / 32
 }
 
 // Where the shifted rule reads y place p.
-fn shifted_place(rows: usize, p: usize) -> usize
-    requires { ⌜ (rows ≤ 193) × (p < 32 * rows) ⌝ }
+fn shifted_place(table: &[u8; 32], rows: usize, p: usize) -> usize
+    requires { ⌜ (now table ≡ columnTable) × (rows ≤ 193) × (p < 32 * rows) ⌝ }
     ensures { λ r. ⌜ (r ≡ shiftedPlace rows p) × (r < 32 * rows) ⌝ }
 {
     let n = 32 * rows;
-    plain_place(rows, (p + (n - 1)) % n)
+    plain_place(table, rows, (p + (n - 1)) % n)
 }
 
 // Where a place of the streams of d places lies on the circle.
-fn lies_on_circle(d: usize, place: StreamPlace) -> CirclePlace
-    requires { ⌜ (d ≤ 6148) × InStreams d place ⌝ }
+fn lies_on_circle(table: &[u8; 32], d: usize, place: StreamPlace) -> CirclePlace
+    requires { ⌜ (now table ≡ columnTable) × (d ≤ 6148) × InStreams d place ⌝ }
     ensures { λ r. ⌜ r ≡ placeOf d place ⌝ }
 {
     let rows = rows_of(d);
@@ -109,12 +118,12 @@ fn lies_on_circle(d: usize, place: StreamPlace) -> CirclePlace
     let p = first - d + place.1;
     let s = place.0;
     if s == 0 {
-        return CirclePlace(plain_place(rows, p));
+        return CirclePlace(plain_place(table, rows, p));
     }
     if s == 1 {
-        return CirclePlace(first + 2 * plain_place(rows, p));
+        return CirclePlace(first + 2 * plain_place(table, rows, p));
     }
-    CirclePlace(first + 2 * shifted_place(rows, p) + 1)
+    CirclePlace(first + 2 * shifted_place(table, rows, p) + 1)
 }
 
 // Where a stream place lies for streams of d places; nowhere if there is no such place.
@@ -125,8 +134,37 @@ pub fn place_of(d: usize, place: StreamPlace) -> Lies
         return Lies::Nowhere;
     }
     if place.0 < 3 && place.1 < d {
-        Lies::At(lies_on_circle(d, place))
+        let table = columns();
+        Lies::At(lies_on_circle(&table, d, place))
     } else {
         Lies::Nowhere
     }
+}
+
+// Where the first 32 places of stream s lie, one in each column; all at place 0 where streams of d places have no such places.
+pub fn first_places(d: usize, s: usize) -> [CirclePlace; 32]
+    ensures { λ r. ⌜ r ≡ firstsWithin d s ⌝ }
+{
+    let there = (32 <= d) & (d <= LONGEST) & (s <= 2);
+    if there {
+        return firsts_of(d, s);
+    }
+    let none = CirclePlace(0);
+    [none; 32]
+}
+
+// The same for streams that have them.
+fn firsts_of(d: usize, s: usize) -> [CirclePlace; 32]
+    requires { ⌜ (32 ≤ d) × (d ≤ 6148) × (s < 3) ⌝ }
+    ensures { λ r. ⌜ r ≡ firstPlaces d s ⌝ }
+{
+    let table = columns();
+    let none = CirclePlace(0);
+    let mut firsts = [none; 32];
+    let mut i = 0;
+    while i < 32 {
+        firsts[i] = lies_on_circle(&table, d, StreamPlace(s, i));
+        i += 1;
+    }
+    firsts
 }

@@ -1,21 +1,25 @@
--- The count of the data places that lack a bit, 01 'Slots': code block by code block, each from a copy of its data places.
+-- The count of the data places that lack a bit, 01 'Slots': code block by code block, each column by column or from a copy of its data places.
 -- Assumes nothing.
-use mathlib.Core.Path.{_≡_, refl, sym, _∙_, ap}
+use mathlib.Core.Path.{_≡_, refl, sym, _∙_, ap, ap₂}
 use mathlib.Core.Bool.{false, cond}
 use mathlib.Core.List.{List}
-use Prim.Native.Nat.{ℕ, _+_, _-_, _*_, _^_, _≤_, _<_}
-use native.Mathlib.Nat.{add-zero, mul-le-mul-right}
+use Prim.Native.Nat.{ℕ, _+_, _-_, _*_, _/_, _%_, _^_, _≤_, _<_}
+use native.Mathlib.Nat.{add-zero, zero-add, mul-le-mul-right}
 use native.Mathlib.Omega.{arith}
 use lib.Dec.{eqb, ltb}
-use lib.ListN.{length}
+use lib.ListN.{length, getD}
 use borrow.Author.Tests.{le-leb, lt-leb}
 use borrow.Rule.Slice.PartMut.{midOf}
 use Rattle.laws.specs.Lists.{tabFrom}
-use Rattle.laws.proofs.Parts.{length-mid}
+use Rattle.laws.proofs.Parts.{length-mid, getD-mid}
 use Rattle.laws.proofs.Tab.{length-tabFrom, getD-tabFrom}
 use Rattle.segmentation.specs.declared.Segments.{Segments}
 use Rattle.segmentation.specs.Segmentation.{blocks, sizeOf, fillerOf}
 use Rattle.segmentation.specs.Sizes.{badSize, segmentsFor}
+use Rattle.rate_matching.specs.Columns.{columnTable, column}
+use Rattle.rate_matching.specs.SubBlocks.{rows, dummies, rowsBefore}
+use Rattle.rate_matching.specs.Places.{plainPlace, placeNumber}
+use Rattle.rate_matching.proofs.Columns.{column-rule, table-at}
 use Rattle.slots.specs.State.{perBlock, roomStart}
 use Rattle.slots.specs.Room.{heard, byteOf}
 use Rattle.slots.specs.Reading.{keptAt, lacks, sumFrom, lackingIn, lacking}
@@ -23,10 +27,48 @@ use Rattle.slots.proofs.PlaceBounds.{place-below}
 use Rattle.slots.proofs.Sums.{sumFrom-ext, sumFrom-shift, sumFrom-most}
 use Rattle.reading.specs.Circle.{keptOn, missing, missingAt, missingOn, Stretch}
 use Rattle.reading.specs.Room.{roomFits}
-use Rattle.reading.proofs.Sums.{Summing, start, next, finish}
+use Rattle.reading.proofs.Sums.{Summing, start, next, finish, sumFrom-split}
+use Rattle.reading.proofs.ColumnSums.{inColumn, by-columns}
 use Rattle.reading.proofs.Bytes.{missing-le}
 use Rattle.reading.proofs.Blocks.{streams, filler-below, stretch, by-range, blocks-few, Block, block-of}
 use Rattle.reading.proofs.Lent.{circle-lent}
+
+-- ---- bytes by parts
+
+missing-few : (bytes : List ℕ) (i n : ℕ) → sumFrom (missingAt bytes) i n ≤ n
+unfolding missingAt
+missing-few bytes i n = sumFrom-most (missingAt bytes) i n (λ k. missing-le (getD bytes k 0))
+
+-- the count of a part that is lent
+pub part-count : (bytes : List ℕ) (i e : ℕ) → e ≤ length bytes → sumFrom (missingAt (midOf i (e - i) bytes)) 0 (length (midOf i (e - i) bytes)) ≡ sumFrom (missingAt bytes) i (e - i)
+unfolding missingAt
+part-count bytes i e h =
+    ap (sumFrom (missingAt (midOf i (e - i) bytes)) 0) (length-mid i e bytes h)
+    ∙ sumFrom-ext (missingAt (midOf i (e - i) bytes)) (λ (k : ℕ). missingAt bytes (i + k)) 0 (e - i) (λ k a b. ap missing (getD-mid i (e - i) bytes k 0 (omega arith)))
+    ∙ sym (sumFrom-shift i 0 (e - i) (missingAt bytes))
+    ∙ ap (λ (j : ℕ). sumFrom (missingAt bytes) j (e - i)) (add-zero i)
+
+-- the bytes before i are counted
+pub record Counted (bytes : List ℕ) (n i : ℕ) : Type 0 where
+  pub passed : i ≤ length bytes
+  pub told : n ≡ sumFrom (missingAt bytes) 0 i
+
+module _ {bytes : List ℕ} where
+  pub counted-start : Counted bytes 0 0
+  unfolding sumFrom
+  counted-start = record { passed = omega arith; told = refl }
+
+  module _ {n i : ℕ} (w : Counted bytes n i) {e x : ℕ} (low : i ≤ e) (h : e ≤ length bytes) (s : x ≡ sumFrom (missingAt (midOf i (e - i) bytes)) 0 (length (midOf i (e - i) bytes))) where
+    pub part-few : n + x ≤ length bytes
+    part-few = omega (arith, w .told, w .passed, missing-few bytes 0 i, s ∙ part-count bytes i e h, missing-few bytes i (e - i))
+
+    pub counted-next : Counted bytes (n + x) e
+    counted-next = record { passed = h; told = ap₂ _+_ (w .told) (s ∙ part-count bytes i e h ∙ ap (λ (j : ℕ). sumFrom (missingAt bytes) j (e - i)) (sym (zero-add i))) ∙ sym (sumFrom-split (missingAt bytes) 0 i (e - i)) ∙ ap (sumFrom (missingAt bytes) 0) whole }
+      where
+        whole : i + (e - i) ≡ e
+        whole = omega arith
+
+-- ---- the data places of a circle
 
 -- the count of a list of what a circle keeps
 count-kept : (circle : List ℕ) (D f n : ℕ) → sumFrom (missingAt (tabFrom f n (keptOn circle D 0))) 0 n ≡ sumFrom (missingOn circle D) f n
@@ -37,15 +79,109 @@ count-kept circle D f n =
     ∙ sym (sumFrom-shift f 0 n (missingOn circle D))
     ∙ ap (λ (i : ℕ). sumFrom (missingOn circle D) i n) (add-zero f)
 
--- the data places are copied to the front of a fresh array, which is then lent to be counted
-pub counted : (circle : List ℕ) (D f : ℕ) {n m count : ℕ} {part lent : List ℕ} → part ≡ tabFrom f m (keptOn circle D 0) → n ≡ m → lent ≡ part
-    → count ≡ sumFrom (missingAt lent) 0 (length lent) → count ≡ sumFrom (missingOn circle D) f n
-counted circle D f {n} e l b t = t ∙ rw (b ∙ e, ← l, length-tabFrom f n (keptOn circle D 0)) (count-kept circle D f n)
+-- a list that is what a circle keeps for its data places
+pub counted : (circle : List ℕ) (D f n : ℕ) {count : ℕ} {lent : List ℕ} → lent ≡ tabFrom f n (keptOn circle D 0) → count ≡ sumFrom (missingAt lent) 0 (length lent)
+    → count ≡ sumFrom (missingOn circle D) f n
+counted circle D f n e t = t ∙ rw (e, length-tabFrom f n (keptOn circle D 0)) (count-kept circle D f n)
+
+-- ---- column by column
+
+-- 1 where y place y of stream 0 has heard no bit
+missingY : List ℕ → ℕ → ℕ → ℕ
+missingY circle R y = missing (getD circle (plainPlace R y) 0)
+
+-- how many data places from f to k lack a bit in column c of the circle
+pub inPart : List ℕ → ℕ → ℕ → ℕ → ℕ
+inPart circle k f c = inColumn (missingY circle (rows (k + 4))) (dummies (k + 4) + f) (dummies (k + 4) + k) (column c)
+
+-- each column of the matrix is one of the circle's
+all-columns : (g : ℕ → ℕ) → sumFrom (λ (c : ℕ). g (column c)) 0 32 ≡ sumFrom g 0 32
+unfolding sumFrom column columnTable
+all-columns g = omega arith
+
+pub parts-sum : (circle : List ℕ) (k f : ℕ) → f ≤ k → sumFrom (inPart circle k f) 0 32 ≡ sumFrom (missingOn circle (k + 4)) f (k - f)
+unfolding inPart missingY missingOn keptOn placeNumber
+parts-sum circle k f h =
+    all-columns (inColumn (missingY circle (rows (k + 4))) (dummies (k + 4) + f) (dummies (k + 4) + k))
+    ∙ ap (λ (e : ℕ). sumFrom (inColumn (missingY circle (rows (k + 4))) (dummies (k + 4) + f) e) 0 32) end
+    ∙ by-columns (missingY circle (rows (k + 4))) (dummies (k + 4) + f) (k - f)
+    ∙ sumFrom-shift (dummies (k + 4)) f (k - f) (missingY circle (rows (k + 4)))
+  where
+    end : dummies (k + 4) + k ≡ dummies (k + 4) + f + (k - f)
+    end = omega arith
+
+-- row t of column c lies t places from the column's begin
+row-is : (R c t : ℕ) → c < 32 → plainPlace R (column c + 32 * t) ≡ c * R + t
+unfolding plainPlace
+row-is R c t h = rw (same, further, column-rule c h .1) refl
+  where
+    same : (column c + 32 * t) % 32 ≡ column c
+    same = omega (arith, column-rule c h .0)
+
+    further : (column c + 32 * t) / 32 ≡ t
+    further = omega (arith, column-rule c h .0)
+
+-- the columns before c are counted
+pub record Columns (circle : List ℕ) (k f : ℕ) (p : List ℕ) (n j c : ℕ) : Type 0 where
+  pub table : p ≡ columnTable
+  pub place : j ≡ c * rows (k + 4)
+  pub sum : Summing (inPart circle k f) 32 193 c n
+
+module _ {circle : List ℕ} {k f : ℕ} {p : List ℕ} where
+  pub columns-start : p ≡ columnTable → Columns circle k f p 0 0 0
+  columns-start e = record { table = e; place = omega arith; sum = start }
+
+  module _ (low : f ≤ k) (w : Stretch (length circle) (k + 4) 0 f (k - f)) {n j c : ℕ} (h : c < 32) (l : Columns circle k f p n j c) where
+    -- the column lies on the circle
+    pub column-ends : j + rows (k + 4) ≤ 6176
+    unfolding rows
+    column-ends = let most : rows (k + 4) ≤ 193 = omega (arith, w .sized .most) in omega (arith, l .place, mul-le-mul-right (rows (k + 4)) h)
+
+    module _ {a b : ℕ} (from : a ≡ rowsBefore (dummies (k + 4) + f) (getD p c 0)) (to : b ≡ rowsBefore (dummies (k + 4) + k) (getD p c 0)) where
+      -- its data places
+      pub rows-few : (a ≤ b) × (b ≤ rows (k + 4)) × (rows (k + 4) ≤ 193)
+      unfolding rowsBefore dummies rows
+      rows-few = (omega arith, omega arith, omega (arith, w .sized .most))
+
+      pub column-within : j + b ≤ length circle
+      column-within = omega (arith, column-ends, rows-few, w .room)
+
+      pub column-lent : length (midOf (j + a) (j + b - (j + a)) circle) ≤ 255
+      column-lent = omega (arith, length-mid (j + a) (j + b) circle column-within, rows-few)
+
+      module _ {x : ℕ} (s : x ≡ sumFrom (missingAt (midOf (j + a) (j + b - (j + a)) circle)) 0 (length (midOf (j + a) (j + b - (j + a)) circle))) where
+        few : sumFrom (missingAt circle) (j + a) (j + b - (j + a)) ≤ j + b - (j + a)
+        few = missing-few circle (j + a) (j + b - (j + a))
+
+        pub column-few : x ≤ 193
+        column-few = omega (arith, s ∙ part-count circle (j + a) (j + b) column-within, few, rows-few)
+
+        column-is : x ≡ inPart circle k f c
+        unfolding inPart missingY missingAt
+        column-is =
+            s
+            ∙ part-count circle (j + a) (j + b) column-within
+            ∙ ap (sumFrom (missingAt circle) (j + a)) count
+            ∙ sumFrom-shift j a (b - a) (missingAt circle)
+            ∙ sumFrom-ext (λ (t : ℕ). missingAt circle (j + t)) (λ (t : ℕ). missingY circle (rows (k + 4)) (column c + 32 * t)) a (b - a)
+            (λ t low high. ap (λ (i : ℕ). missing (getD circle i 0)) (ap (λ (i : ℕ). i + t) (l .place) ∙ sym (row-is (rows (k + 4)) c t h)))
+            ∙ ap₂ (λ (i e : ℕ). sumFrom (λ (t : ℕ). missingY circle (rows (k + 4)) (column c + 32 * t)) i (e - i))
+            (from ∙ ap (rowsBefore (dummies (k + 4) + f)) (table-at c (l .table)))
+            (to ∙ ap (rowsBefore (dummies (k + 4) + k)) (table-at c (l .table)))
+          where
+            count : j + b - (j + a) ≡ b - a
+            count = omega arith
+
+        pub columns-next : Columns circle k f p (n + x) (j + rows (k + 4)) (c + 1)
+        columns-next = record { table = l .table; place = omega (arith, l .place); sum = next h column-is column-few (l .sum) }
+
+  pub columns-finish : {n j c : ℕ} → f ≤ k → 32 ≤ c → Columns circle k f p n j c → n ≡ sumFrom (missingOn circle (k + 4)) f (k - f)
+  columns-finish low h w = finish h (w .sum) ∙ parts-sum circle k f low
 
 -- ---- code block by code block
 
 -- the count of code block r, whose circle is lent
-block-lacking : (A r : ℕ) {from : ℕ} (room : List ℕ) → badSize A ≡ false → from ≡ r * perBlock
+pub block-lacking : (A r : ℕ) {from : ℕ} (room : List ℕ) → badSize A ≡ false → from ≡ r * perBlock
     → sumFrom (missingOn (midOf from (from + perBlock - from) room) (sizeOf (A + 24) r + 4)) (fillerOf (A + 24) r) (sizeOf (A + 24) r - fillerOf (A + 24) r)
     ≡ lackingIn 1 0 (A + 24) room r
 unfolding missingOn missing lackingIn lacks byteOf roomStart
@@ -56,7 +192,7 @@ block-lacking A r {from} room good e =
     (circle-lent 1 0 (A + 24) r room 0 i starts (place-below A good r 0 i (omega arith) (omega (arith, filler-below A good r)))))
 
 -- no count is above 6,144
-block-few : (A r : ℕ) (room : List ℕ) → badSize A ≡ false → lackingIn 1 0 (A + 24) room r ≤ 6144
+pub block-few : (A r : ℕ) (room : List ℕ) → badSize A ≡ false → lackingIn 1 0 (A + 24) room r ≤ 6144
 unfolding lackingIn lacks missing
 block-few A r room good =
     omega (

@@ -8,9 +8,10 @@ use native.Mathlib.Nat.{mul-le-mul-right}
 use native.Mathlib.Omega.{arith}
 use lib.Arith.{digits-lt}
 use lib.Dec.{ltb}
-use lib.ListN.{length, getD}
+use lib.ListN.{length, getD, take, drop}
+use lib.Seq.{length-take-le, take-at, drop-at}
 use borrow.Author.Tests.{le-leb}
-use borrow.Rule.Slice.PartMut.{midOf}
+use borrow.Rule.Slice.PartMut.{midOf, putMid}
 use Rattle.laws.specs.Lists.{tab}
 use Rattle.laws.proofs.Parts.{length-mid, getD-mid}
 use Rattle.laws.proofs.Tab.{tab-ext}
@@ -24,6 +25,10 @@ use Rattle.slots.proofs.PlaceBounds.{place-below}
 use Rattle.slots.proofs.SameKept.{same-lacking, same-wrong, same-block}
 use Rattle.reading.specs.Circle.{keptOn, shown, streamOn, streamsOn}
 use Rattle.reading.specs.Room.{roomFits}
+
+-- a part that came back, lent again
+pub mid-put : (a k : ℕ) (xs ys : List ℕ) → a ≤ length xs → length ys ≡ k → midOf a k (putMid a k xs ys) ≡ ys
+mid-put a k xs ys h e = ap (take k) (drop-at (take a xs) (ys ++ drop k (drop a xs)) a (length-take-le a xs h)) ∙ take-at ys (drop k (drop a xs)) k e
 
 -- the circle of code block r
 pub circle-lent : (M slot B r : ℕ) {from : ℕ} (store : List ℕ) (s i : ℕ) → from ≡ byteOf M slot r 0 → placeNumber (sizeOf B r + 4) s i < perBlock

@@ -1,4 +1,5 @@
 pub mod Sums
+pub mod ColumnSums
 pub mod Bytes
 pub mod Rows
 pub mod Gathering

@@ -5,26 +5,16 @@ use mathlib.Core.Path.{_≡_, sym, _∙_, ap}
 use mathlib.Core.List.{List}
 use Prim.Native.Nat.{ℕ, zero, suc, _+_, _-_, _*_, _/_, _%_, _≤_, _<_}
 use native.Mathlib.Omega.{arith}
-use lib.Bits.{bitAnd, and-mask}
 use lib.ListN.{getD, List·getD-map}
-use borrow.Author.Tests.{lt-ltb, le-leb}
+use borrow.Author.Tests.{le-leb}
 use Rattle.laws.specs.Lists.{tab, tabFrom}
 use Rattle.laws.proofs.Tab.{getD-tab, tabFrom-ext}
-use Rattle.rate_matching.specs.declared.StreamPlace.{StreamPlace}
-use Rattle.rate_matching.specs.declared.CirclePlace.{CirclePlace}
-use Rattle.rate_matching.specs.declared.Lies.{Lies}
-use Rattle.rate_matching.specs.declared.Lies.the-variants.{At, Nowhere}
 use Rattle.rate_matching.specs.SubBlocks.{rows, dummies}
 use Rattle.rate_matching.specs.Circle.{circleLength}
-use Rattle.rate_matching.specs.Places.{plainPlace, shiftedPlace, placeNumber, placeOf, longest, liesAt, InStreams}
+use Rattle.rate_matching.specs.Places.{plainPlace, shiftedPlace, placeNumber, placeOf, circlePlace, firstPlaces, longest, firstsWithin}
 use Rattle.rate_matching.proofs.Places.{dummies-add, once-round, place-on-circle}
 use Rattle.slots.specs.State.{perBlock}
-use Rattle.reading.specs.Circle.{keptOn, circlePlace, firstPlaces, rowStep, placeBy, keptBy, Along, Streams, Stretch}
-
--- the place as it is computed: the column by a mask, the row by a shift
-pub place-masked : (firsts : List CirclePlace) (step i : ℕ) → getD firsts (bitAnd i 31) (circlePlace 0) .0 + step * (i / 32) ≡ placeBy firsts step i
-unfolding placeBy
-place-masked firsts step i = rw (and-mask i 5)
+use Rattle.reading.specs.Circle.{keptOn, rowStep, placeBy, keptBy, Along, Streams, Stretch}
 
 -- q rows further by the plain rule
 plain-further : (R y q : ℕ) → plainPlace R (y + 32 * q) ≡ plainPlace R y + q
@@ -68,14 +58,14 @@ module _ {D : ℕ} (w : Streams D) where
       sums : dummies D + (i + 32 * q) ≡ dummies D + i + 32 * q
       sums = omega arith
 
-  place-further : (s i q : ℕ) → s < 3 → i + 32 * q < D → placeNumber D s (i + 32 * q) ≡ placeNumber D s i + rowStep s * q
+  pub place-further : (s i q : ℕ) → s < 3 → i + 32 * q < D → placeNumber D s (i + 32 * q) ≡ placeNumber D s i + rowStep s * q
   unfolding placeNumber rowStep
   place-further zero i q u h = omega (arith, plain-from i q)
   place-further (suc zero) i q u h = omega (arith, plain-from i q)
   place-further (suc (suc zero)) i q u h = omega (arith, shifted-further i q h)
   place-further (suc (suc (suc s))) i q u h = absurd (omega arith)
 
-  first-at : (s c : ℕ) → c < 32 → getD (firstPlaces D s) c (circlePlace 0) ≡ circlePlace (placeNumber D s c)
+  pub first-at : (s c : ℕ) → c < 32 → getD (firstPlaces D s) c (circlePlace 0) ≡ circlePlace (placeNumber D s c)
   unfolding firstPlaces
   first-at s c h = List·getD-map circlePlace (tab 32 (placeNumber D s)) c 0 ∙ ap circlePlace (getD-tab 32 (placeNumber D s) c 0 h)
 
@@ -84,7 +74,7 @@ module _ {D : ℕ} (w : Streams D) where
   unfolding placeBy
   place-by s i u h = rw (first-at s (i % 32) (omega arith)) (sym (place-further s (i % 32) (i / 32) u (omega arith)) ∙ ap (placeNumber D s) (omega arith))
 
-  place-in-room : (s i : ℕ) → s < 3 → i < D → placeNumber D s i < perBlock
+  pub place-in-room : (s i : ℕ) → s < 3 → i < D → placeNumber D s i < perBlock
   unfolding placeOf circleLength rows
   place-in-room s i u h = omega (arith, w .most, place-on-circle D (s, i) (record { stream = u; place = h }))
 
@@ -102,14 +92,7 @@ kept-along {long} {D} {s} {i} {n} circle w =
     tabFrom-ext i n (keptBy circle (firstPlaces D s) (rowStep s)) (keptOn circle D s)
     (λ k a b. ap (λ (j : ℕ). getD circle j 0) (place-by (w .sized) s k (w .stream) (omega (arith, w .within))))
 
--- ---- the mapping function's answer for a place that the streams have
-
-lies-there : {D : ℕ} {p : StreamPlace} → D ≤ longest → InStreams D p → liesAt D p ≡ At (placeOf D p)
-unfolding liesAt
-lies-there {D} {p} h w = simp (le-leb D longest h, lt-ltb (p .0) 3 (w .stream), lt-ltb (p .1) D (w .place))
-
-pub lies-at : {D : ℕ} {p : StreamPlace} {told : Lies} {j : CirclePlace} → told ≡ liesAt D p → told ≡ At j → D ≤ longest → InStreams D p → j ≡ placeOf D p
-lies-at {D} {p} {told} {j} e t h w = let same : At j ≡ At (placeOf D p) = sym t ∙ e ∙ lies-there h w in cc
-
-pub lies-nowhere : {D : ℕ} {p : StreamPlace} {told : Lies} {j : CirclePlace} → told ≡ liesAt D p → told ≡ Nowhere → D ≤ longest → InStreams D p → j ≡ placeOf D p
-lies-nowhere {D} {p} e t h w = let never : Nowhere ≡ At (placeOf D p) = sym t ∙ e ∙ lies-there h w in let z : _≡_ {A = ℕ} 0 1 = cc in absurd (omega arith)
+-- the streams have them
+pub firsts-there : {long D s i n : ℕ} → Stretch long D s i n → firstsWithin D s ≡ firstPlaces D s
+unfolding firstsWithin
+firsts-there {long} {D} {s} w = simp (le-leb 32 D (omega (arith, w .sized .least)), le-leb D longest (w .sized .most), le-leb s 2 (omega (arith, w .stream)))

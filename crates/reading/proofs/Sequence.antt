@@ -1,21 +1,21 @@
--- The sequence as it was heard, 01 'Read': put together code block by code block, each from its circle.
+-- The sequence as it was heard, 01 'Read': put together code block by code block, each from its circle, and its data places counted.
 -- Assumes nothing.
 use mathlib.Core.Path.{_≡_, refl, sym, _∙_, ap}
 use mathlib.Core.Bool.{Bool, true, false, cond, not, _&&_, true≢false}
-use mathlib.Core.List.{List, [], _++_}
-use Prim.Native.Nat.{ℕ, suc, _+_, _-_, _*_, _≤_, _<_}
+use mathlib.Core.List.{List, [], _++_, append-assoc, append-nil}
+use Prim.Native.Nat.{ℕ, suc, _+_, _-_, _*_, _^_, _≤_, _<_}
 use native.Mathlib.Nat.{sub-zero, add-sub-cancel-left, mul-le-mul-right}
 use native.Mathlib.Numerals.{add-one}
 use native.Mathlib.Decide.{decLe}
 use native.Mathlib.Omega.{arith}
 use lib.Dec.{eqb, ltb, leb, eqb·suc-zero}
-use lib.ListN.{length}
+use lib.ListN.{length, take, drop}
+use lib.Seq.{length-take-le, take-at, take-append-add, take-append-le}
 use borrow.Author.Tests.{leb-true, ne-eqb}
 use borrow.Rule.Slice.PartMut.{midOf, putMid}
 use Rattle.laws.specs.Lists.{tabFrom}
-use Rattle.laws.proofs.Parts.{length-mid}
-use Rattle.laws.proofs.Tab.{length-tabFrom, tabFrom-ext}
-use Rattle.laws.proofs.Writing.{Writing, start, same, pushPart, finish-all}
+use Rattle.laws.proofs.Parts.{length-mid, length-put}
+use Rattle.laws.proofs.Tab.{length-tabFrom, tabFrom-ext, tabFrom-split}
 use Rattle.segmentation.specs.declared.Segments.{Segments}
 use Rattle.segmentation.specs.Segmentation.{checkLength, blocks, filler, sizeOf, fillerOf}
 use Rattle.segmentation.specs.CodeBlocks.{takenBefore}
@@ -24,12 +24,14 @@ use Rattle.segmentation.proofs.Segmentation.{single, several}
 use Rattle.segmentation.proofs.CodeBlocks.{taken-all, taken-within}
 use Rattle.slots.specs.State.{perBlock, roomStart}
 use Rattle.slots.specs.Room.{byteOf}
-use Rattle.slots.specs.Reading.{heardIn, heardFrom, heardSequence}
+use Rattle.slots.specs.Reading.{sumFrom, lackingIn, lacking, heardIn, heardFrom, heardSequence}
 use Rattle.slots.proofs.PlaceBounds.{place-below}
-use Rattle.reading.specs.Circle.{keptOn, Stretch}
+use Rattle.reading.specs.Circle.{keptOn, missingAt, Stretch}
 use Rattle.reading.specs.Room.{roomFits}
-use Rattle.reading.proofs.Blocks.{high, filler-below, stretch, blocks-told, Block, block-of}
-use Rattle.reading.proofs.Lent.{circle-lent}
+use Rattle.reading.proofs.Blocks.{high, few, filler-below, stretch, blocks-told, Block, block-of}
+use Rattle.reading.proofs.Lent.{mid-put, circle-lent}
+use Rattle.reading.proofs.Sums.{Summing, start, next, finish}
+use Rattle.reading.proofs.Lacking.{counted, block-lacking, block-few}
 
 -- what a room that fits tells
 pub record Fit (A long : ℕ) : Type 0 where
@@ -54,6 +56,13 @@ check-is B = elim (decLe B 6144) [
       let large : 6144 < B = omega arith in
       let more : blocks B ≡ 1 → ⊥ = λ e. omega (arith, several B large .0) in
       rw (ne-eqb (blocks B) 1 more, several B large .1)
+]
+
+-- there is a code block
+blocks-some : (B : ℕ) → 0 < blocks B
+blocks-some B = elim (decLe B 6144) [
+  | yes h ↦ omega (arith, single B h .0)
+  | no h ↦ let large : 6144 < B = omega arith in omega (arith, several B large .0)
 ]
 
 -- ---- one code block
@@ -91,33 +100,54 @@ taken-next : (B r : ℕ) → takenBefore B (r + 1) ≡ takenBefore B r + (sizeOf
 unfolding takenBefore
 taken-next B r = rw (add-one r)
 
+-- the first m of n entries
+take-tab : (i m n : ℕ) (f : ℕ → ℕ) → m ≤ n → take m (tabFrom i n f) ≡ tabFrom i m f
+take-tab i m n f h = ap (λ (k : ℕ). take m (tabFrom i k f)) whole ∙ ap (take m) (tabFrom-split i m (n - m) f) ∙ take-at (tabFrom i m f) (tabFrom (i + m) (n - m) f) m (length-tabFrom i m f)
+  where
+    whole : n ≡ m + (n - m)
+    whole = omega arith
+
 -- ---- the loop
 
--- the bits of the code blocks before r are written, up to place `at`
-pub record Hearing (A : ℕ) (room out₀ out : List ℕ) (from at r : ℕ) : Type 0 where
+-- the bits of the code blocks before r are written, up to place `at`, and n of their data places lack a bit
+pub record Hearing (A : ℕ) (room b₀ b : List ℕ) (n from at r : ℕ) : Type 0 where
   pub room-fits : Fit A (length room)
   pub passed : r ≤ blocks (A + 24)
   pub place : from ≡ r * perBlock
   pub taken : at + filler (A + 24) ≡ takenBefore (A + 24) r + fillerOf (A + 24) r
-  pub long : length out₀ ≡ A + 24
-  pub wrote : Writing out₀ out at (heardFrom 1 0 (A + 24) room r (blocks (A + 24) - r)) (heardSequence 1 0 A room)
+  pub enough : A + 48 ≤ length b₀
+  pub long : length b ≡ length b₀
+  pub told : take at b ++ heardFrom 1 0 (A + 24) room r (blocks (A + 24) - r) ≡ heardSequence 1 0 A room
+  pub sum : Summing (lackingIn 1 0 (A + 24) room) (blocks (A + 24)) 6144 r n
 
-pub hearing-start : (A : ℕ) (room out : List ℕ) → Fit A (length room) → length out ≡ A + 24 → Hearing A room out out 0 0 0
+pub hearing-start : (A : ℕ) (room b : List ℕ) → Fit A (length room) → A + 48 ≤ length b → Hearing A room b b 0 0 0 0
 unfolding takenBefore fillerOf heardSequence
-hearing-start A room out w e = record {
+hearing-start A room b w e = record {
   room-fits = w;
   passed = omega arith;
   place = refl;
   taken = omega arith;
-  long = e;
-  wrote = same (ap (heardFrom 1 0 (A + 24) room 0) (sym (sub-zero (blocks (A + 24))))) start;
+  enough = e;
+  long = refl;
+  told = ap (heardFrom 1 0 (A + 24) room 0) (sub-zero (blocks (A + 24)));
+  sum = start;
 }
 
--- how many bits code block r carries
+-- how many data places code block r has, and how many of them carry the sequence
+abbrev holds : ℕ → ℕ → ℕ
+holds B r = sizeOf B r - fillerOf B r
+
 abbrev carries : ℕ → ℕ → ℕ
 carries B r = sizeOf B r - checkLength B - fillerOf B r
 
-module _ (A : ℕ) {room out₀ out : List ℕ} {from at r : ℕ} (below : r < blocks (A + 24)) (w : Hearing A room out₀ out from at r) where
+check-few : (B : ℕ) → checkLength B ≤ 24
+check-few B = rw (← (check-is B)) (go (eqb (blocks B) 1))
+  where
+    go : (b : Bool) → cond b 0 24 ≤ 24
+    go true = omega arith
+    go false = omega arith
+
+module _ (A : ℕ) {room b₀ b : List ℕ} {n from at r : ℕ} (below : r < blocks (A + 24)) (w : Hearing A room b₀ b n from at r) where
   good : badSize A ≡ false
   good = w .room-fits .admitted
 
@@ -125,49 +155,95 @@ module _ (A : ℕ) {room out₀ out : List ℕ} {from at r : ℕ} (below : r < b
   within = omega (arith, w .place, w .room-fits .enough, mul-le-mul-right perBlock below)
 
   -- where code block r ends
-  ends : at + carries (A + 24) r ≤ length out
-  ends = omega (arith, w .taken, w .long, w .wrote .long, filler-below A good r, taken-within (A + 24) (high A good) r below)
+  ends : at + holds (A + 24) r ≤ length b
+  ends = omega (arith, w .taken, w .enough, w .long, check-few (A + 24), filler-below A good r, taken-within (A + 24) (high A good) r below)
 
-  part-long : length (midOf at (at + carries (A + 24) r - at) out) ≡ carries (A + 24) r
-  part-long = length-mid at (at + carries (A + 24) r) out ends ∙ add-sub-cancel-left at (carries (A + 24) r)
+  part-long : length (midOf at (at + holds (A + 24) r - at) b) ≡ holds (A + 24) r
+  part-long = length-mid at (at + holds (A + 24) r) b ends ∙ add-sub-cancel-left at (holds (A + 24) r)
 
   data-stretch : Stretch (length (midOf from (from + perBlock - from) room)) (sizeOf (A + 24) r + 4) 0 (fillerOf (A + 24) r)
-      (length (midOf at (at + carries (A + 24) r - at) out))
+      (length (midOf at (at + holds (A + 24) r - at) b))
   data-stretch =
       stretch A good r 0 _ _ (omega arith) (omega (arith, part-long, filler-below A good r)) (omega (arith, length-mid from (from + perBlock) room within))
 
-  pushed : {part : List ℕ}
-      → part ≡ tabFrom (fillerOf (A + 24) r) (length (midOf at (at + carries (A + 24) r - at) out)) (keptOn (midOf from (from + perBlock - from) room) (sizeOf (A + 24) r + 4) 0)
-      → Hearing A room out₀ (putMid at (at + carries (A + 24) r - at) out part) (from + perBlock) (at + carries (A + 24) r) (r + 1)
-  pushed {part} e = record {
-    room-fits = w .room-fits;
-    passed = omega arith;
-    place = omega (arith, w .place);
-    taken = omega (arith, w .taken, taken-next (A + 24) r, no-filler (A + 24) r, filler-below A good r);
-    long = w .long;
-    wrote = pushPart said (omega arith) ends long-is (same (heard-more (A + 24) (blocks (A + 24)) r room below) (w .wrote));
-  }
+  module _ {part : List ℕ} {x : ℕ}
+      (e : part ≡ tabFrom (fillerOf (A + 24) r) (length (midOf at (at + holds (A + 24) r - at) b)) (keptOn (midOf from (from + perBlock - from) room) (sizeOf (A + 24) r + 4) 0))
+      (s : let b′ = putMid at (at + holds (A + 24) r - at) b part in
+      x ≡ sumFrom (missingAt (midOf at (at + holds (A + 24) r - at) b′)) 0 (length (midOf at (at + holds (A + 24) r - at) b′)))
     where
       circle : ℕ → ℕ
       circle = keptOn (midOf from (from + perBlock - from) room) (sizeOf (A + 24) r + 4) 0
 
-      said : part ≡ heardIn 1 0 (A + 24) room r
-      said = e ∙ ap (λ (m : ℕ). tabFrom (fillerOf (A + 24) r) m circle) part-long ∙ carried A r room good (w .place)
+      b′ : List ℕ
+      b′ = putMid at (at + holds (A + 24) r - at) b part
 
-      long-is : length part ≡ at + carries (A + 24) r - at
-      long-is = ap length e ∙ length-tabFrom (fillerOf (A + 24) r) _ circle ∙ length-mid at (at + carries (A + 24) r) out ends
+      said : part ≡ tabFrom (fillerOf (A + 24) r) (holds (A + 24) r) circle
+      unfolding circle
+      said = e ∙ ap (λ (m : ℕ). tabFrom (fillerOf (A + 24) r) m circle) part-long
+
+      whole : length part ≡ holds (A + 24) r
+      whole = ap length said ∙ length-tabFrom (fillerOf (A + 24) r) (holds (A + 24) r) circle
+
+      count : x ≡ lackingIn 1 0 (A + 24) room r
+      unfolding circle b′
+      count =
+          counted (midOf from (from + perBlock - from) room) (sizeOf (A + 24) r + 4) (fillerOf (A + 24) r) (holds (A + 24) r)
+          (mid-put at (at + holds (A + 24) r - at) b part (omega (arith, ends)) (whole ∙ sym (add-sub-cancel-left at (holds (A + 24) r))) ∙ said) s
+          ∙ block-lacking A r room good (w .place)
+
+      count-fits : n + x < 2 ^ 64
+      count-fits = omega (arith, count, block-few A r room good, w .sum .few, w .passed, few A good)
+
+      -- the sequence with the bits that code block r carries
+      front : take (at + holds (A + 24) r - checkLength (A + 24)) b′ ≡ take at b ++ heardIn 1 0 (A + 24) room r
+      unfolding circle b′
+      front =
+          ap (λ (m : ℕ). take m b′) till
+          ∙ take-append-add (take at b) (part ++ drop (at + holds (A + 24) r - at) (drop at b)) (carries (A + 24) r)
+          ∙ ap (λ (l : List ℕ). take at b ++ l)
+          (take-append-le (carries (A + 24) r) part (drop (at + holds (A + 24) r - at) (drop at b)) (omega (arith, whole))
+          ∙ ap (take (carries (A + 24) r)) said
+          ∙ take-tab (fillerOf (A + 24) r) (carries (A + 24) r) (holds (A + 24) r) circle (omega arith)
+          ∙ carried A r room good (w .place))
+        where
+          till : at + holds (A + 24) r - checkLength (A + 24) ≡ length (take at b) + carries (A + 24) r
+          till = omega (arith, length-take-le at b (omega (arith, ends)), filler-below A good r)
+
+      pushed : Hearing A room b₀ b′ (n + x) (from + perBlock) (at + holds (A + 24) r - checkLength (A + 24)) (r + 1)
+      unfolding b′
+      pushed = record {
+        room-fits = w .room-fits;
+        passed = omega arith;
+        place = omega (arith, w .place);
+        taken = omega (arith, w .taken, taken-next (A + 24) r, no-filler (A + 24) r, filler-below A good r);
+        enough = w .enough;
+        long = length-put at (at + holds (A + 24) r) b part ends (whole ∙ sym (add-sub-cancel-left at (holds (A + 24) r))) ∙ w .long;
+        told =
+            ap (λ (l : List ℕ). l ++ heardFrom 1 0 (A + 24) room (r + 1) (blocks (A + 24) - (r + 1))) front
+            ∙ append-assoc (take at b) (heardIn 1 0 (A + 24) room r) (heardFrom 1 0 (A + 24) room (r + 1) (blocks (A + 24) - (r + 1)))
+            ∙ ap (λ (l : List ℕ). take at b ++ l) (sym (heard-more (A + 24) (blocks (A + 24)) r room below))
+            ∙ w .told;
+        sum = next below count (rw count (block-few A r room good)) (w .sum);
+      }
 
 -- what a turn needs of the numbers that the code finds: the size K, the check bits L, the filler F
-pub record Turn (room out : List ℕ) (from at K L F : ℕ) : Type 0 where
-  pub checked : L ≤ K
-  pub filled : F ≤ K - L
+pub record Turn (room b : List ℕ) (from at K L F : ℕ) : Type 0 where
+  pub filled : F ≤ K
   pub circle : from + perBlock ≤ length room
-  pub ends : at + (K - L - F) ≤ length out
-  pub stretch : Stretch (length (midOf from (from + perBlock - from) room)) (K + 4) 0 F (length (midOf at (at + (K - L - F) - at) out))
+  pub ends : at + (K - F) ≤ length b
+  pub checked : L ≤ at + (K - F)
+  pub stretch : Stretch (length (midOf from (from + perBlock - from) room)) (K + 4) 0 F (length (midOf at (at + (K - F) - at) b))
 
-module _ {A : ℕ} {room out₀ out : List ℕ} {from at r : ℕ} {s : Segments} where
+-- the part that came back is there to be counted
+pub part-back : {room b : List ℕ} {from at K L F : ℕ} → Turn room b from at K L F → (part : List ℕ) → length part ≡ length (midOf at (at + (K - F) - at) b)
+    → at + (K - F) ≤ length (putMid at (at + (K - F) - at) b part)
+part-back {b = b} {at = at} {K = K} {F = F} t part e =
+    let long = length-put at (at + (K - F)) b part (t .ends) (e ∙ length-mid at (at + (K - F)) b (t .ends)) in
+    omega (arith, long, t .ends)
+
+module _ {A : ℕ} {room b₀ b : List ℕ} {n from at r : ℕ} {s : Segments} where
   module _ {K L F : ℕ} (told : s ≡ segmentsFor A) (checks : L ≡ cond (eqb (s .blocks) 1) 0 24) (h : r < s .blocks)
-      (size : K ≡ cond (ltb r (s .shorts)) (s .short) (s .long)) (zeros : F ≡ cond (eqb r 0) (s .filler) 0) (w : Hearing A room out₀ out from at r)
+      (size : K ≡ cond (ltb r (s .shorts)) (s .short) (s .long)) (zeros : F ≡ cond (eqb r 0) (s .filler) 0) (w : Hearing A room b₀ b n from at r)
     where
       here : Block A s r
       here = block-of A told h
@@ -175,22 +251,32 @@ module _ {A : ℕ} {room out₀ out : List ℕ} {from at r : ℕ} {s : Segments}
       check-told : L ≡ checkLength (A + 24)
       check-told = checks ∙ ap (λ (n : ℕ). cond (eqb n 1) 0 24) (blocks-told A told (here .admitted)) ∙ check-is (A + 24)
 
-      pub turn : Turn room out from at K L F
+      pub turn : Turn room b from at K L F
       turn = rw (size ∙ here .size, zeros ∙ here .filled, check-told) (record {
-        checked = omega (arith, filler-below A (here .admitted) r);
         filled = omega (arith, filler-below A (here .admitted) r);
         circle = within A (here .below) w;
         ends = ends A (here .below) w;
+        checked = omega (arith, filler-below A (here .admitted) r);
         stretch = data-stretch A (here .below) w;
       })
 
-      pub hearing-next : {part : List ℕ}
-          → part ≡ tabFrom F (length (midOf at (at + (K - L - F) - at) out)) (keptOn (midOf from (from + perBlock - from) room) (K + 4) 0)
-          → Hearing A room out₀ (putMid at (at + (K - L - F) - at) out part) (from + perBlock) (at + (K - L - F)) (r + 1)
-      hearing-next {part} e = rw (size ∙ here .size, zeros ∙ here .filled, check-told) (pushed A (here .below) w (rw (size ∙ here .size, zeros ∙ here .filled, check-told) at e))
+      module _ {part : List ℕ} {x : ℕ} (e : part ≡ tabFrom F (length (midOf at (at + (K - F) - at) b)) (keptOn (midOf from (from + perBlock - from) room) (K + 4) 0))
+          (c : let b′ = putMid at (at + (K - F) - at) b part in x ≡ sumFrom (missingAt (midOf at (at + (K - F) - at) b′)) 0 (length (midOf at (at + (K - F) - at) b′)))
+        where
+          pub sum-fits : n + x < 2 ^ 64
+          sum-fits =
+              count-fits A (here .below) w (rw (size ∙ here .size, zeros ∙ here .filled) at e) (rw (size ∙ here .size, zeros ∙ here .filled) at c)
 
-  pub hearing-finish : s ≡ segmentsFor A → s .blocks ≤ r → Hearing A room out₀ out from at r → out ≡ heardSequence 1 0 A room
-  hearing-finish told h w = finish-all full (heard-none (A + 24) (blocks (A + 24)) r room past) (w .wrote)
+          pub hearing-next : Hearing A room b₀ (putMid at (at + (K - F) - at) b part) (n + x) (from + perBlock) (at + (K - F) - L) (r + 1)
+          unfolding b′
+          hearing-next =
+              rw (size ∙ here .size, zeros ∙ here .filled, check-told)
+              (pushed A (here .below) w (rw (size ∙ here .size, zeros ∙ here .filled) at e) (rw (size ∙ here .size, zeros ∙ here .filled) at c))
+
+  pub hearing-finish : s ≡ segmentsFor A → s .blocks ≤ r → Hearing A room b₀ b n from at r → (n ≡ lacking 1 0 A room) × (take (A + 24) b ≡ heardSequence 1 0 A room)
+  unfolding lacking
+  hearing-finish told h w =
+      (finish past (w .sum), ap (λ (m : ℕ). take m b) (sym full) ∙ sym (append-nil (take at b)) ∙ ap (λ (l : List ℕ). take at b ++ l) (sym (heard-none (A + 24) (blocks (A + 24)) r room past)) ∙ w .told)
     where
       past : blocks (A + 24) ≤ r
       past = omega (arith, blocks-told A told (w .room-fits .admitted))
@@ -198,5 +284,9 @@ module _ {A : ℕ} {room out₀ out : List ℕ} {from at r : ℕ} {s : Segments}
       all : r ≡ blocks (A + 24)
       all = omega (arith, past, w .passed)
 
-      full : length out ≤ at
-      full = omega (arith, w .taken, w .long, w .wrote .long, ap (takenBefore (A + 24)) all, taken-all (A + 24) (high A (w .room-fits .admitted)))
+      full : at ≡ A + 24
+      full =
+          omega (arith, w .taken, ap (takenBefore (A + 24)) all, taken-all (A + 24) (high A (w .room-fits .admitted)), ap (fillerOf (A + 24)) (all ∙ last), no-filler (A + 24) (blocks (A + 24) - 1))
+        where
+          last : blocks (A + 24) ≡ blocks (A + 24) - 1 + 1
+          last = omega (arith, blocks-some (A + 24))

@@ -2,13 +2,13 @@
 -- Assumes nothing.
 use mathlib.Core.Path.{_≡_}
 use mathlib.Core.Bool.{cond, _&&_}
-use mathlib.Core.List.{List, map, _++_}
+use mathlib.Core.List.{List, _++_}
 use Prim.Native.Nat.{ℕ, _+_, _*_, _/_, _%_, _≤_, _<_}
 use lib.Dec.{eqb, ltb}
 use lib.ListN.{getD, length}
 use Rattle.laws.specs.Lists.{tab}
 use Rattle.rate_matching.specs.declared.CirclePlace.{CirclePlace}
-use Rattle.rate_matching.specs.Places.{placeNumber, longest}
+use Rattle.rate_matching.specs.Places.{placeNumber, circlePlace, longest}
 use Rattle.slots.specs.State.{perBlock}
 use Rattle.slots.specs.Room.{heard}
 
@@ -49,21 +49,22 @@ streamsOn circle D F =
 unfoldable pub rowStep : ℕ → ℕ
 rowStep s = cond (eqb s 0) 1 2
 
--- the place of the circle with a number
-abbrev pub circlePlace : ℕ → CirclePlace
-circlePlace j = record { 0 = j }
-
--- where the first 32 places of stream s lie, one in each column
-unfoldable pub firstPlaces : ℕ → ℕ → List CirclePlace
-firstPlaces D s = map circlePlace (tab 32 (placeNumber D s))
-
 -- where place i of a stream lies, from where its first 32 lie: i / 32 rows further
 unfoldable pub placeBy : List CirclePlace → ℕ → ℕ → ℕ
 placeBy firsts step i = getD firsts (i % 32) (circlePlace 0) .0 + step * (i / 32)
 
--- the byte there
+-- the byte so far below the first place of column c
+unfoldable pub keptBelow : List ℕ → List CirclePlace → ℕ → ℕ → ℕ
+keptBelow circle firsts below c = getD circle (getD firsts c (circlePlace 0) .0 + below) 0
+
+-- the byte where place i of a stream lies
 unfoldable pub keptBy : List ℕ → List CirclePlace → ℕ → ℕ → ℕ
 keptBy circle firsts step i = getD circle (placeBy firsts step i) 0
+
+-- n columns from column c on have a place so far below their first on a circle of the length
+pub record AlongRow (long : ℕ) (firsts : List CirclePlace) (below c n : ℕ) : Type 0 where
+  pub most : c + n ≤ 32
+  pub places : (k : ℕ) → c ≤ k → k < c + n → getD firsts k (circlePlace 0) .0 + below < long
 
 -- these n places from place i on lie on a circle of the length
 pub record Along (long : ℕ) (firsts : List CirclePlace) (step i n : ℕ) : Type 0 where

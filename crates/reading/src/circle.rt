@@ -1,28 +1,29 @@
 // What the circle of one code block keeps: the bytes of a stream, and how many of them have heard no bit.
 use rate_matching::CirclePlace;
-use rate_matching::Lies;
-use rate_matching::StreamPlace;
+use rate_matching::first_places;
+use rate_matching::rows_before;
+use rate_matching::table::columns;
 ghost use mathlib.Core.Path.{_≡_};
 ghost use mathlib.Core.List.{_++_};
 ghost use Prim.Native.Nat.{ℕ, _+_, _-_, _*_, _≤_, _<_};
 ghost use lib.ListN.{length, drop, replicate};
 ghost use Rattle.laws.specs.Lists.{tab, tabFrom};
-ghost use Rattle.rate_matching.specs.Places.{placeOf, longest, InStreams};
 ghost use Rattle.slots.specs.Reading.{sumFrom};
-ghost use Rattle.reading.specs.Circle.{keptOn, missing, missingAt, missingOn, firstPlaces, keptBy, shown, shownAt, streamOn, streamsOn, Along, Stretch};
+ghost use Rattle.reading.specs.Circle.{keptOn, missing, missingAt, missingOn, keptBelow, keptBy, shown, shownAt, streamOn, streamsOn, AlongRow, Along, Stretch};
 
 // 1 where a byte of a room has heard no bit.
-fn missing(byte: u8) -> usize
+fn missing(byte: u8) -> u8
     ensures { λ r. ⌜ r ≡ missing byte ⌝ }
 {
-    (byte > 1) as usize
+    (byte > 1) as u8
 }
 
-// How many of the bytes have heard no bit. A sum, so that no byte costs a branch.
-fn count_missing(bytes: &[u8]) -> usize
+// How many of at most 255 bytes have heard no bit. A sum, so that no byte costs a branch, and of bytes, so that many are added at a time.
+fn count_few(bytes: &[u8]) -> u8
+    requires { ⌜ length (now bytes) ≤ 255 ⌝ }
     ensures { λ r. ⌜ r ≡ sumFrom (missingAt (now (bytes .entry))) 0 (length (now (bytes .entry))) ⌝ }
 {
-    let mut n = 0;
+    let mut n: u8 = 0;
     let mut i = 0;
     while i < bytes.len() {
         n += missing(bytes[i]);
@@ -31,45 +32,63 @@ fn count_missing(bytes: &[u8]) -> usize
     n
 }
 
-// Where a place lies on the circle of streams of d places, which have it.
-fn place_in(d: usize, place: StreamPlace) -> CirclePlace
-    requires { ⌜ (d ≤ longest) × InStreams d place ⌝ }
-    ensures { λ r. ⌜ r ≡ placeOf d place ⌝ }
+// How many of the bytes have heard no bit.
+pub(crate) fn count_missing(bytes: &[u8]) -> usize
+    ensures { λ r. ⌜ r ≡ sumFrom (missingAt (now (bytes .entry))) 0 (length (now (bytes .entry))) ⌝ }
 {
-    match rate_matching::place_of(d, place) {
-        Lies::At(at) => at,
-        Lies::Nowhere => CirclePlace(0),
+    let mut n = 0;
+    let mut i = 0;
+    while 192 <= bytes.len() - i {
+        let end = i + 192;
+        n += count_few(&bytes[i..end]) as usize;
+        i = end;
+    }
+    n + (count_few(&bytes[i..]) as usize)
+}
+
+// Fills `out` with what the circle keeps `below` places below the first places of a stream, from column `from` on.
+fn gather_row(circle: &[u8], firsts: [CirclePlace; 32], below: usize, from: usize, out: &mut [u8])
+    requires { ⌜ AlongRow (length (now circle)) firsts below from (length (now out)) ⌝ }
+    ensures { λ _. ⌜ now (out .exit) ≡ tabFrom from (length (now (out .entry))) (keptBelow (now (circle .entry)) firsts below) ⌝ }
+{
+    let mut k = 0;
+    while k < out.len() {
+        let first = firsts[from + k];
+        out[k] = circle[first.0 + below];
+        k += 1;
     }
 }
 
-// The circle places of a stream's first 32 places, one in each column.
-fn first_places(d: usize, s: usize) -> [CirclePlace; 32]
-    requires { ⌜ (32 ≤ d) × (d ≤ longest) × (s < 3) ⌝ }
-    ensures { λ r. ⌜ r ≡ firstPlaces d s ⌝ }
+// Fills `out` with what the circle keeps for the stream's places from row `row` on, 32 places a row.
+fn gather_rows(circle: &[u8], firsts: [CirclePlace; 32], step: usize, row: usize, out: &mut [u8])
+    requires { ⌜ (step ≤ 2) × Along (length (now circle)) firsts step (32 * row) (length (now out)) ⌝ }
+    ensures { λ _. ⌜ now (out .exit) ≡ tabFrom (32 * row) (length (now (out .entry))) (keptBy (now (circle .entry)) firsts step) ⌝ }
 {
-    let none = CirclePlace(0);
-    let mut firsts = [none; 32];
-    let mut i = 0;
-    while i < 32 {
-        firsts[i] = place_in(d, StreamPlace(s, i));
-        i += 1;
+    let mut below = step * row;
+    let mut at = 0;
+    while 32 <= out.len() - at {
+        let end = at + 32;
+        gather_row(circle, firsts, below, 0, &mut out[at..end]);
+        at = end;
+        below += step;
     }
-    firsts
+    gather_row(circle, firsts, below, 0, &mut out[at..]);
 }
 
 // Fills `out` with what the circle keeps for the stream's places from `from` on. Place i lies i / 32 rows below its column's first.
 fn gather(circle: &[u8], firsts: [CirclePlace; 32], step: usize, from: usize, out: &mut [u8])
-    requires { ⌜ Along (length (now circle)) firsts step from (length (now out)) ⌝ }
+    requires { ⌜ (step ≤ 2) × Along (length (now circle)) firsts step from (length (now out)) ⌝ }
     ensures { λ _. ⌜ now (out .exit) ≡ tabFrom from (length (now (out .entry))) (keptBy (now (circle .entry)) firsts step) ⌝ }
 {
-    let mut i = from;
-    let mut k = 0;
-    while k < out.len() {
-        let first = firsts[i & 31];
-        out[k] = circle[first.0 + step * (i >> 5)];
-        i += 1;
-        k += 1;
+    let row = from / 32;
+    let column = from % 32;
+    let left = 32 - column;
+    if out.len() <= left {
+        gather_row(circle, firsts, step * row, column, out);
+        return;
     }
+    gather_row(circle, firsts, step * row, column, &mut out[..left]);
+    gather_rows(circle, firsts, step, row + 1, &mut out[left..]);
 }
 
 // Fills `out` with what the circle keeps for the places of stream s from `from` on, of streams of d places.
@@ -81,15 +100,27 @@ pub(crate) fn read_stream(circle: &[u8], d: usize, s: usize, from: usize, out: &
     gather(circle, first_places(d, s), step, from, out);
 }
 
-// How many data places of a code block of size k lack a bit, the first f being filler.
+// How many data places of a code block of size k lack a bit, the first f being filler: column by column, since a column's lie side by side.
 pub(crate) fn lacking_on(circle: &[u8], k: usize, f: usize) -> usize
     requires { ⌜ (f ≤ k) × Stretch (length (now circle)) (k + 4) 0 f (k - f) ⌝ }
     ensures { λ r. ⌜ r ≡ sumFrom (missingOn (now (circle .entry)) (k + 4)) f (k - f) ⌝ }
 {
-    let mut data = [0u8; 6144];
-    let n = k - f;
-    read_stream(circle, k + 4, 0, f, &mut data[..n]);
-    count_missing(&data[..n])
+    let p = columns();
+    let d = k + 4;
+    let rows = (d + 31) / 32;
+    let dummies = 32 * rows - d;
+    let mut n = 0;
+    let mut j = 0;
+    let mut c = 0;
+    while c < 32 {
+        let u = p[c] as usize;
+        let from = j + rows_before(dummies + f, u);
+        let to = j + rows_before(dummies + k, u);
+        n += count_few(&circle[from..to]) as usize;
+        j += rows;
+        c += 1;
+    }
+    n
 }
 
 // What Streams shows of a byte: the bit where one was heard, else 2.

@@ -4,12 +4,12 @@ use segmentation::Segments;
 use segmentation::block;
 use slots::Answer;
 ghost use mathlib.Core.Path.{_≡_};
-ghost use mathlib.Core.Bool.{true, cond, not};
+ghost use mathlib.Core.Bool.{true, cond};
 ghost use Prim.Native.Nat.{_+_, _≤_};
 ghost use lib.Dec.{eqb};
-ghost use lib.ListN.{length};
-ghost use Rattle.slots.specs.Reading.{lacking, heardSequence, wrongCheck};
-ghost use Rattle.reading.specs.Room.{roomFits, roomAnswer, releasedInto, roomOutput};
+ghost use lib.ListN.{length, take};
+ghost use Rattle.slots.specs.Reading.{lacking, heardSequence};
+ghost use Rattle.reading.specs.Room.{roomFits, roomAnswer, roomOutput};
 
 // The bytes that a room has for one code block.
 pub(crate) const PER_BLOCK: usize = 18528;
@@ -45,13 +45,16 @@ fn check_length(s: Segments) -> usize
     if s.blocks == 1 { 0 } else { 24 }
 }
 
-// Fills `out` with the sequence as it was heard: the block and its transport check.
-fn sequence(a: usize, room: &[u8], out: &mut [u8])
-    requires { ⌜ (roomFits a (length (now room)) ≡ true) × (length (now out) ≡ a + 24) ⌝ }
-    ensures { λ _. ⌜ now (out .exit) ≡ heardSequence 1 0 a (now (room .entry)) ⌝ }
+// Puts the sequence as it was heard, the block and its transport check, over the front of `b`, and tells how many data places lack a bit.
+// Each code block's check bits are read and counted too; the next code block is put over them.
+fn collect(a: usize, room: &[u8], b: &mut [u8]) -> usize
+    requires { ⌜ (roomFits a (length (now room)) ≡ true) × (a + 48 ≤ length (now b)) ⌝ }
+    ensures count { λ r. ⌜ r ≡ lacking 1 0 a (now (room .entry)) ⌝ }
+    ensures sequence { λ r. ⌜ take (a + 24) (now (b .exit)) ≡ heardSequence 1 0 a (now (room .entry)) ⌝ }
 {
     let s = segmentation::segments_for(a);
     let check = check_length(s);
+    let mut n = 0;
     let mut from = 0;
     let mut at = 0;
     let mut r = 0;
@@ -59,44 +62,62 @@ fn sequence(a: usize, room: &[u8], out: &mut [u8])
         let k = block::size_of(s, r);
         let f = block::filler_of(s, r);
         let to = from + PER_BLOCK;
-        let end = at + (k - check - f);
-        circle::read_stream(&room[from..to], k + 4, 0, f, &mut out[at..end]);
+        let end = at + (k - f);
+        circle::read_stream(&room[from..to], k + 4, 0, f, &mut b[at..end]);
+        n += circle::count_missing(&b[at..end]);
         from = to;
-        at = end;
+        at = end - check;
         r += 1;
     }
+    n
 }
 
-// Releases the block where its transport check is right, and tells whether it is. The sequence is put together in `b`, so that a
-// wrong one leaves `out` as it was.
-fn release(a: usize, room: &[u8], b: &mut [u8], out: &mut [u8]) -> bool
-    requires { ⌜ (roomFits a (length (now room)) ≡ true) × (length (now b) ≡ a + 24) × (a ≤ length (now out)) ⌝ }
-    ensures { λ r. ⌜ r ≡ not (wrongCheck 1 0 a (now (room .entry))) ⌝ }
-    ensures { λ r. ⌜ now (out .exit) ≡ releasedInto a (now (room .entry)) (now (out .entry)) ⌝ }
+// What Read answers for a room, and the block of `a` bits over the front of `out` where it is released. The sequence is put together in
+// `b`, so that a wrong one leaves `out` as it was.
+fn release(a: usize, room: &[u8], b: &mut [u8], out: &mut [u8]) -> Answer
+    requires { ⌜ (roomFits a (length (now room)) ≡ true) × (a + 48 ≤ length (now b)) × (a ≤ length (now out)) ⌝ }
+    ensures { λ r. ⌜ r ≡ roomAnswer a (now (room .entry)) ⌝ }
+    ensures { λ r. ⌜ now (out .exit) ≡ roomOutput a (now (room .entry)) (now (out .entry)) ⌝ }
 {
-    sequence(a, room, b);
-    if check_bits::crc24a(b) != 0 {
-        return false;
+    let lacking = collect(a, room, b);
+    if lacking != 0 {
+        return Answer::Lacking(lacking);
+    }
+    let end = a + 24;
+    if check_bits::crc24a(&b[..end]) != 0 {
+        return Answer::Refused(12);
     }
     bytes::copy(&b[..a], out);
-    true
+    Answer::Done
 }
 
-// What Read answers for a room, and the block of `a` bits over the front of `out` where it is released.
+// The same, with an array for the sequence of one code block, or of several.
 pub(crate) fn read_room(a: usize, room: &[u8], out: &mut [u8]) -> Answer
     requires { ⌜ (roomFits a (length (now room)) ≡ true) × (a ≤ length (now out)) ⌝ }
     ensures { λ r. ⌜ r ≡ roomAnswer a (now (room .entry)) ⌝ }
     ensures { λ r. ⌜ now (out .exit) ≡ roomOutput a (now (room .entry)) (now (out .entry)) ⌝ }
 {
-    let lacking = lacking_in(a, room);
-    if lacking != 0 {
-        return Answer::Lacking(lacking);
-    }
-    let mut b = [0u8; 30600];
-    let end = a + 24;
-    if release(a, room, &mut b[..end], out) {
-        Answer::Done
+    if a <= 6120 {
+        read_short(a, room, out)
     } else {
-        Answer::Refused(12)
+        read_long(a, room, out)
     }
+}
+
+fn read_short(a: usize, room: &[u8], out: &mut [u8]) -> Answer
+    requires { ⌜ (a ≤ 6120) × (roomFits a (length (now room)) ≡ true) × (a ≤ length (now out)) ⌝ }
+    ensures { λ r. ⌜ r ≡ roomAnswer a (now (room .entry)) ⌝ }
+    ensures { λ r. ⌜ now (out .exit) ≡ roomOutput a (now (room .entry)) (now (out .entry)) ⌝ }
+{
+    let mut b = [0u8; 6168];
+    release(a, room, &mut b, out)
+}
+
+fn read_long(a: usize, room: &[u8], out: &mut [u8]) -> Answer
+    requires { ⌜ (roomFits a (length (now room)) ≡ true) × (a ≤ length (now out)) ⌝ }
+    ensures { λ r. ⌜ r ≡ roomAnswer a (now (room .entry)) ⌝ }
+    ensures { λ r. ⌜ now (out .exit) ≡ roomOutput a (now (room .entry)) (now (out .entry)) ⌝ }
+{
+    let mut b = [0u8; 30624];
+    release(a, room, &mut b, out)
 }

@@ -15,10 +15,10 @@ use Rattle.laws.proofs.Parts.{length-mid, length-put}
 use Rattle.segmentation.specs.declared.Segments.{Segments}
 use Rattle.segmentation.specs.Segmentation.{blocks, sizeOf, fillerOf}
 use Rattle.segmentation.specs.Sizes.{badSize, segmentsFor}
-use Rattle.rate_matching.specs.SubBlocks.{rows}
+use Rattle.rate_matching.specs.SubBlocks.{rows, dummies}
 use Rattle.rate_matching.specs.Circle.{circleLength, startOf}
 use Rattle.rate_matching.specs.Walk.{sentPlaces, turn, turnAfterTurn}
-use Rattle.rate_matching.specs.Shape.{shape, Turnable}
+use Rattle.rate_matching.specs.Shape.{shape}
 use Rattle.codeword.specs.Shares.{share, sharesBefore}
 use Rattle.codeword.specs.Codeword.{blockRows}
 use Rattle.codeword.specs.Build.{badVersion, shareOf}
@@ -31,19 +31,19 @@ use Rattle.slots.specs.Reception.{blockPlaces, putBits, putBlocks, received}
 use Rattle.slots.proofs.PlaceBounds.{sent-below}
 use Rattle.reading.proofs.Blocks.{streams, filler-below}
 use Rattle.reception.specs.Parts.{putFrom, partAfter, roomAfter, Accepted}
+use Rattle.reception.specs.Along.{Walked}
 use Rattle.reception.proofs.Putting.{length-putFrom, putFrom-front, put-in, putBits-is}
 
 -- ---- the code blocks of a block of A bits, A in range
 
 module _ (A : ℕ) (admitted : badSize A ≡ false) where
-  -- which places of code block r hold a bit can be told
-  pub block-turnable : (r v : ℕ) → v ≤ 3 → Turnable (sizeOf (A + 24) r + 4) (fillerOf (A + 24) r) v perBlock
-  unfolding circleLength rows
-  block-turnable r v low = record {
-    least = streams A admitted r .least;
+  -- the bits of code block r can be put
+  pub block-walked : (r : ℕ) → Walked (sizeOf (A + 24) r + 4) (fillerOf (A + 24) r) perBlock
+  unfolding circleLength rows dummies
+  block-walked r = record {
     most = streams A admitted r .most;
     filler = omega (arith, filler-below A admitted r);
-    version = low;
+    padded = omega (arith, streams A admitted r .bytes);
     fits = omega (arith, streams A admitted r .most);
   }
 

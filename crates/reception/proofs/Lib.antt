@@ -1,6 +1,8 @@
 pub mod Meet
 pub mod Putting
-pub mod Turns
+pub mod Along
+pub mod Walking
+pub mod Rounds
 pub mod Blocks
 pub mod Slot
 pub mod Accepts

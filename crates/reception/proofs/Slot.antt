@@ -2,13 +2,12 @@
 -- Assumes nothing.
 use mathlib.Core.Path.{_≡_, refl, sym, _∙_, ap}
 use mathlib.Core.Bool.{false}
-use mathlib.Core.List.{List, _++_}
+use mathlib.Core.List.{List}
 use Prim.Native.Nat.{ℕ, zero, suc, _+_, _-_, _*_, _≤_, _<_}
 use native.Mathlib.Nat.{add-sub-cancel-left, mul-le-mul-right}
 use native.Mathlib.Omega.{arith}
 use lib.Arith.{digits-lt}
-use lib.ListN.{length, take, drop}
-use lib.Seq.{length-take-le, take-at, drop-at}
+use lib.ListN.{length, drop}
 use borrow.Author.Tests.{le-ltb}
 use borrow.Rule.Slice.PartMut.{midOf, putMid, put-same}
 use Rattle.laws.proofs.Parts.{length-mid}
@@ -22,7 +21,7 @@ use Rattle.slots.specs.Reception.{blockPlaces, putBits, putBlocks, received}
 use Rattle.slots.specs.Reading.{lacking}
 use Rattle.slots.proofs.RoomLaws.{Places, AllPlaces, length-putBits}
 use Rattle.slots.proofs.PlaceBounds.{sent-below}
-use Rattle.reading.proofs.Lent.{lacking-lent}
+use Rattle.reading.proofs.Lent.{mid-put, lacking-lent}
 use Rattle.reception.specs.Parts.{roomAfter, Accepted}
 use Rattle.reception.proofs.Putting.{put-in, putBits-is}
 
@@ -59,10 +58,6 @@ module _ (M slot a k : ℕ) (store : List ℕ) (starts : a ≡ roomStart M slot)
 
         bs : List ℕ
         bs = drop (sharesBefore (blocks B) Q N (length bits) r) bits
-
--- the part that came back, lent again
-mid-put : (a k : ℕ) (xs ys : List ℕ) → a ≤ length xs → length ys ≡ k → midOf a k (putMid a k xs ys) ≡ ys
-mid-put a k xs ys h e = ap (take k) (drop-at (take a xs) (ys ++ drop k (drop a xs)) a (length-take-le a xs h)) ∙ take-at ys (drop k (drop a xs)) k e
 
 -- the room that is lent as store[from .. from + long]
 module _ (M slot A Q N v : ℕ) (bits store : List ℕ) {from long : ℕ} (admitted : badSize A ≡ false) (few : blocks (A + 24) ≤ M) (version : v ≤ 3)

@@ -3,7 +3,7 @@
 use mathlib.Core.Path.{_≡_}
 use mathlib.Core.Bool.{false}
 use mathlib.Core.List.{List, [], _∷_}
-use Prim.Native.Nat.{ℕ, _+_, _*_, _≤_, _<_}
+use Prim.Native.Nat.{ℕ, _+_, _*_, _%_, _≤_}
 use lib.ListN.{length, drop, getD}
 use Rattle.segmentation.specs.Segmentation.{blocks}
 use Rattle.segmentation.specs.Sizes.{badSize}
@@ -21,10 +21,6 @@ unfoldable pub putFrom : ℕ → List ℕ → List ℕ → List ℕ → List ℕ
 putFrom base [] bits list = list
 putFrom base (j ∷ js) bits list = putFrom base js (drop 1 bits) (putBit list (base + j) (getD bits 0 0))
 
--- a list of n entries has each of these places
-abbrev pub Within : List ℕ → ℕ → Type 0
-Within places n = (i : ℕ) → i < length places → getD places i 0 < n
-
 -- the part of a room for a code block with D places a stream and F filler bits, after bits of version v
 unfoldable pub partAfter : ℕ → ℕ → ℕ → List ℕ → List ℕ → List ℕ
 partAfter D F v bits part = putFrom 0 (sentPlaces (shape D F) (startOf (rows D) v) (length bits)) bits part
@@ -39,3 +35,11 @@ pub record Accepted (A Q N v G n : ℕ) : Type 0 where
   pub allocation : badAllocation (blocks (A + 24)) Q N G ≡ false
   pub version : v ≤ 3
   pub fits : blocks (A + 24) * perBlock ≤ n
+
+-- bit r of e is where a turn begins after the first: not more than two turns are left from there on, and a whole one where r is not the second turn's begin
+pub record LastTurns (turn e r : ℕ) : Type 0 where
+  pub whole : r % turn ≡ 0
+  pub after : turn ≤ r
+  pub within : r ≤ e
+  pub few : e ≤ r + 2 * turn
+  pub full : (r ≡ turn → ⊥) → r + turn ≤ e

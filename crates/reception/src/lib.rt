@@ -1,4 +1,5 @@
 // The call Receive of 01.
+mod circle;
 mod parts;
 
 use refusals::or_else;

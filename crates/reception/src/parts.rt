@@ -1,55 +1,41 @@
-// The parts of Receive: the bits of a code block are put at the places of turn after turn, code block after code block.
+// The parts of Receive: the bits of a code block are put turn after turn, code block after code block.
+use crate::circle;
 ghost use mathlib.Core.Path.{_≡_};
 ghost use Prim.Native.Nat.{_≤_, _<_};
-ghost use lib.ListN.{length, take};
-ghost use Rattle.laws.specs.Lists.{tab};
-ghost use Rattle.rate_matching.specs.Walk.{turnAfterTurn};
-ghost use Rattle.rate_matching.specs.Shape.{Turnable};
-ghost use Rattle.reception.specs.Parts.{putFrom, Within, partAfter, roomAfter, Accepted};
+ghost use lib.ListN.{length};
+ghost use Rattle.slots.specs.State.{perBlock};
+ghost use Rattle.reception.specs.Parts.{partAfter, roomAfter, Accepted, LastTurns};
+ghost use Rattle.reception.specs.Along.{Walked};
 
 // The bytes that a room has for one code block, the largest circle.
 pub(crate) const PER_BLOCK: usize = 18528;
 
-// Puts the bits at the first of the places, one after the other.
-fn put_turn(places: &[u16], bits: &[u8], part: &mut [u8])
-    requires { ⌜ (length (now bits) ≤ length (now places)) × Within (now places) (length (now part)) ⌝ }
-    ensures { λ _. ⌜ now (part .exit)
-        ≡ putFrom 0 (take (length (now (bits .entry))) (now (places .entry))) (now (bits .entry)) (now (part .entry)) ⌝ }
+// Where the last turns of `e` bits begin, the first having been put: not more than two turns are left from there on, and a whole one
+// where turns are left out.
+fn last_turns(turn: usize, e: usize) -> usize
+    requires { ⌜ (0 < turn) × (turn ≤ e) × (turn ≤ perBlock) ⌝ }
+    ensures { λ r. ⌜ LastTurns turn e r ⌝ }
 {
-    let mut i = 0;
-    while i < bits.len() {
-        let at = places[i] as usize;
-        part[at] = bits[i];
-        i += 1;
+    if e <= 3 * turn {
+        turn
+    } else {
+        (e / turn - 1) * turn
     }
 }
 
-// Puts the bits at the places turn after turn; the last turn may be cut short.
-fn put_turns(places: &[u16], bits: &[u8], part: &mut [u8])
-    requires { ⌜ (0 < length (now places)) × Within (now places) (length (now part)) ⌝ }
-    ensures { λ _. ⌜ now (part .exit)
-        ≡ putFrom 0 (tab (length (now (bits .entry))) (turnAfterTurn (now (places .entry)))) (now (bits .entry)) (now (part .entry)) ⌝ }
-{
-    let n = places.len();
-    let mut i = 0;
-    let mut left = bits.len();
-    while n <= left {
-        let end = i + n;
-        put_turn(places, &bits[i..end], part);
-        i = end;
-        left -= n;
-    }
-    put_turn(places, &bits[i..], part);
-}
-
-// Puts the bits that redundancy version `version` sent of a code block with streams of d places, of which `filler` are filler.
+// Puts the bits that redundancy version `version` sent of a code block with streams of d places, of which `filler` are filler. A later
+// bit replaces an earlier one, so that of many turns only the first, which tells how long a turn is, and the last are put.
 fn put_block(d: usize, filler: usize, version: usize, bits: &[u8], part: &mut [u8])
-    requires { ⌜ Turnable d filler version (length (now part)) ⌝ }
+    requires { ⌜ Walked d filler (length (now part)) × (version ≤ 3) ⌝ }
     ensures { λ _. ⌜ now (part .exit) ≡ partAfter d filler version (now (bits .entry)) (now (part .entry)) ⌝ }
 {
-    let mut table = [0u16; PER_BLOCK];
-    let count = rate_matching::turn_places(d, filler, version, &mut table);
-    put_turns(&table[..count], bits, part);
+    let turn = circle::put_round(d, filler, version, bits, part);
+    if turn == bits.len() {
+        return;
+    }
+    let from = last_turns(turn, bits.len());
+    let to = from + circle::put_round(d, filler, version, &bits[from..], part);
+    circle::put_round(d, filler, version, &bits[to..], part);
 }
 
 // Puts a reception's bits in a room: each code block has its stretch of the bits and its part of the room.

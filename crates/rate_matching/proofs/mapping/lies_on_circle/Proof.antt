@@ -25,7 +25,7 @@ add-p c = omega arith
 
 plain-place-requires : tie.Need-plain-place-requires
 unfolding rows
-plain-place-requires c κs = omega arith
+plain-place-requires c κs = (c .before .before .before .pre .0, omega arith, omega arith)
 
 returns : tie.Need-returns
 unfolding placeOf placeNumber dummies
@@ -33,15 +33,15 @@ returns c = simp (c .plain-place .ensures .0, ← c .before .before .before .row
 
 plain-place-requires-2 : tie.Need-plain-place-requires-2
 unfolding rows
-plain-place-requires-2 c κs = omega arith
+plain-place-requires-2 c κs = (c .before .before .before .before .pre .0, omega arith, omega arith)
 
-mul-t11 : tie.Need-mul-t11
+mul-t12 : tie.Need-mul-t12
 unfolding rows
-mul-t11 c = omega arith
+mul-t12 c = omega arith
 
-add-t12 : tie.Need-add-t12
+add-t13 : tie.Need-add-t13
 unfolding rows
-add-t12 c = omega arith
+add-t13 c = omega arith
 
 returns-2 : tie.Need-returns-2
 unfolding placeOf placeNumber dummies
@@ -49,19 +49,19 @@ returns-2 c = simp (c .plain-place2 .ensures .0, ← c .before .before .before .
 
 shifted-place-requires : tie.Need-shifted-place-requires
 unfolding rows
-shifted-place-requires c κs = omega arith
+shifted-place-requires c κs = (c .before .before .before .before .pre .0, omega arith, omega arith)
 
-mul-t13 : tie.Need-mul-t13
+mul-t14 : tie.Need-mul-t14
 unfolding rows
-mul-t13 c = omega arith
-
-add-t14 : tie.Need-add-t14
-unfolding rows
-add-t14 c = omega arith
+mul-t14 c = omega arith
 
 add-t15 : tie.Need-add-t15
 unfolding rows
 add-t15 c = omega arith
+
+add-t16 : tie.Need-add-t16
+unfolding rows
+add-t16 c = omega arith
 
 returns-3 : tie.Need-returns-3
 unfolding placeOf placeNumber dummies
@@ -78,11 +78,11 @@ lies-on-circle-spec =
     plain-place-requires
     returns
     plain-place-requires-2
-    mul-t11
-    add-t12
+    mul-t12
+    add-t13
     returns-2
     shifted-place-requires
-    mul-t13
-    add-t14
+    mul-t14
     add-t15
+    add-t16
     returns-3)

@@ -11,16 +11,23 @@ returns : tie.Need-returns
 unfolding liesAt
 returns c = simp (lt-leb _ _ (c .if1 .taken))
 
+columns-requires : tie.Need-columns-requires
+columns-requires c κs = search needs
+
 lies-on-circle-requires : tie.Need-lies-on-circle-requires
 lies-on-circle-requires c κs = search needs
 
 returns-2 : tie.Need-returns-2
 unfolding liesAt
-returns-2 c = simp (c .lies-on-circle .ensures, le-leb _ _ (c .before .before .before .before .before .if1 .left), lt-ltb _ _ (c .before .before .before .if2 .taken), c .before .if3 .taken)
+returns-2 c =
+    simp (c .lies-on-circle .ensures, le-leb _ _ (c .before .before .before .before .before .before .before .if1 .left), lt-ltb _ _ (c .before .before .before .before .before .if2 .taken), c .before .before .before .if3 .taken)
 
 returns-3 : tie.Need-returns-3
 unfolding liesAt
-returns-3 c = ⊎-elim (λ t. simp (le-leb _ _ (c .before .before .if1 .left), lt-ltb _ _ (t .0 .taken), t .2 .left)) (λ t. simp (le-leb _ _ (c .before .before .if1 .left), le-ltb _ _ (t .left))) (c .if2 .came)
+returns-3 c =
+    ⊎-elim (λ t. simp (le-leb _ _ (c .before .before .if1 .left), lt-ltb _ _ (t .0 .taken), t .2 .left)) (λ t. simp (le-leb _ _ (c .before .before .if1 .left), le-ltb _ _ (t .left)))
+    (c .if2 .came)
 
 pub place-of-spec : {M : Type 1} → statement M
-place-of-spec = tie.close (tie.spec returns lies-on-circle-requires returns-2 returns-3)
+place-of-spec =
+    tie.close (tie.spec returns columns-requires lies-on-circle-requires returns-2 returns-3)

@@ -1,28 +1,42 @@
 -- `mapping::plain_place` meets its contract: the answer is below 32·R by the law on `plainPlace`.
 -- Assumes nothing.
 use borrow.Author.Needs.{needs}
-use mathlib.Core.Path.{ap}
-use Prim.Native.Nat.{ℕ, _+_, _*_, _/_}
+use mathlib.Core.Path.{_≡_, ap}
+use Prim.Native.Nat.{ℕ, _+_, _*_, _/_, _%_}
 use native.Mathlib.Omega.{arith}
+use denote.Ref.{now}
+use lib.ListN.{getD}
+use Rattle.rate_matching.specs.Columns.{column}
 use Rattle.rate_matching.specs.Places.{plainPlace}
+use Rattle.rate_matching.proofs.Columns.{table-at, table-below}
 use Rattle.rate_matching.proofs.Places.{place-lt}
 use Rattle.rate_matching.proofs.mapping.plain_place.Statement.{statement}
 use Rattle.rate_matching.proofs.mapping.plain_place.Tie as tie
 
-column-at-requires : tie.Need-column-at-requires
-column-at-requires c κs = search needs
+-- the table's entry is the column's
+entry : (c : tie.Start) → getD (now (c .args .table)) (c .args .p % 32) 0 ≡ column (c .args .p % 32)
+entry c = table-at (c .args .p % 32) (c .pre .0)
+
+element-copy-out-result : tie.Need-element-copy-out-result
+element-copy-out-result c = search needs
+
+cast-result : tie.Need-cast-result
+cast-result c = omega (arith, table-below (c .before .args .p % 32) (c .before .pre .0) (omega arith))
 
 mul-result : tie.Need-mul-result
 unfolding plainPlace
-mul-result c = rw (c .column-at .ensures) (omega (arith, place-lt _ _ (c .before .pre .1)))
+mul-result c = rw (entry (c .before)) (omega (arith, place-lt _ _ (c .before .pre .2)))
 
 add-result : tie.Need-add-result
 unfolding plainPlace
-add-result c = rw (c .column-at .ensures) (omega (arith, place-lt _ _ (c .before .pre .1)))
+add-result c = rw (entry (c .before)) (omega (arith, place-lt _ _ (c .before .pre .2)))
 
 returns : tie.Need-returns
 unfolding plainPlace
-returns c = let e = ap (λ (k : ℕ). k * c .before .args .rows + c .before .args .p / 32) (c .column-at .ensures) in (e, rw e (place-lt _ _ (c .before .pre .1)))
+returns c =
+    let e = ap (λ (k : ℕ). k * c .before .args .rows + c .before .args .p / 32) (entry (c .before)) in
+    (e, rw e (place-lt _ _ (c .before .pre .2)))
 
 pub plain-place-spec : {M : Type 1} → statement M
-plain-place-spec = tie.close (tie.spec column-at-requires mul-result add-result returns)
+plain-place-spec =
+    tie.close (tie.spec element-copy-out-result cast-result mul-result add-result returns)

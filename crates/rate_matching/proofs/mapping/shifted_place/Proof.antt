@@ -20,7 +20,7 @@ rem-plain-place : tie.Need-rem-plain-place
 rem-plain-place c = search needs
 
 plain-place-requires : tie.Need-plain-place-requires
-plain-place-requires c κs = (c .pre .0, mod-lt _ (omega arith))
+plain-place-requires c κs = (c .pre .0, c .pre .1, mod-lt _ (omega arith))
 
 returns : tie.Need-returns
 unfolding shiftedPlace

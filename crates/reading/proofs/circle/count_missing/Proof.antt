@@ -1,44 +1,87 @@
--- `circle::count_missing` meets its contract: the bytes passed are added up (`Sums`).
+-- `circle::count_missing` meets its contract: the bytes are added up part by part (`Lacking`).
 -- Assumes nothing.
-use Prim.Native.Nat.{_-_}
+use Prim.Native.Nat.{_+_, _-_, _≤_}
 use native.Mathlib.Omega.{arith}
-use lib.ListN.{length, getD}
-use Rattle.reading.specs.Circle.{missingAt}
-use Rattle.reading.proofs.Sums.{Summing, start, next, finish}
-use Rattle.reading.proofs.Bytes.{missing-le}
+use lib.ListN.{length}
+use Rattle.laws.proofs.Parts.{length-mid}
+use Rattle.reading.proofs.Lacking.{Counted, counted-start, part-few, counted-next}
 use Rattle.reading.proofs.circle.count_missing.Statement.{statement}
 use Rattle.reading.proofs.circle.count_missing.Tie as tie
 
 abbrev Inv-loop : tie.InvT-loop
-Inv-loop bytes n₀ i₀ n i = Summing (missingAt bytes) (length bytes) 1 i n
+Inv-loop bytes n₀ i₀ n i = Counted bytes n i
 
 abbrev μ-loop : tie.MeasureT-loop
 μ-loop bytes n₀ i₀ n i = length bytes - i
 
+-- the counts of a part, and of the last
+few : (c : tie.After-count-few Inv-loop μ-loop) → c .before .before .before .loop .n + c .count-few .result ≤ length (c .before .before .before .before .before .args .bytes .now)
+few c = part-few (c .before .before .before .loop .inv) (omega arith) (omega arith) (c .count-few .ensures)
+
+few-last : (c : tie.After-count-few2 Inv-loop μ-loop) → c .before .before .before .loop .n + c .count-few2 .result ≤ length (c .before .before .before .before .before .args .bytes .now)
+few-last c = part-few (c .before .before .before .loop .inv) (omega arith) (omega arith) (c .count-few2 .ensures)
+
 loop-holds : tie.Need-loop-holds Inv-loop μ-loop
-loop-holds c = start
+loop-holds c = counted-start
 
-shared-slice-read-missing : tie.Need-shared-slice-read-missing Inv-loop μ-loop
-shared-slice-read-missing c = omega arith
+sub-loop : tie.Need-sub-loop Inv-loop μ-loop
+sub-loop c = omega arith
 
-missing-requires : tie.Need-missing-requires Inv-loop μ-loop
-missing-requires c κs = tt
+add-end : tie.Need-add-end Inv-loop μ-loop
+add-end c = omega arith
+
+sub-count-few : tie.Need-sub-count-few Inv-loop μ-loop
+sub-count-few c = omega arith
+
+part-count-few-start : tie.Need-part-count-few-start Inv-loop μ-loop
+part-count-few-start c = omega arith
+
+part-count-few-end : tie.Need-part-count-few-end Inv-loop μ-loop
+part-count-few-end c = omega arith
+
+count-few-requires : tie.Need-count-few-requires Inv-loop μ-loop
+count-few-requires c κs =
+    let l = c .before .before .loop in
+    let bytes = c .before .before .before .before .args .bytes .now in
+    let lent = length-mid (l .i) (l .i + 192) bytes (part-count-few-end (c .before)) in
+    omega arith
+
+cast-n : tie.Need-cast-n Inv-loop μ-loop
+cast-n c = omega (arith, few c)
 
 add-n : tie.Need-add-n Inv-loop μ-loop
-add-n c = omega (arith, c .missing .ensures, missing-le (getD (c .before .before .before .before .before .args .bytes .now) (c .before .before .before .loop .i) 0))
-
-add-i : tie.Need-add-i Inv-loop μ-loop
-add-i c = omega arith
+add-n c = omega (arith, few c)
 
 loop-less : tie.Need-loop-less Inv-loop μ-loop
 loop-less c = omega arith
 
 loop-again : tie.Need-loop-again Inv-loop μ-loop
-unfolding missingAt
-loop-again c = next (omega arith) (c .missing .ensures) (rw (c .missing .ensures) (missing-le _)) (c .before .before .before .loop .inv)
+loop-again c = counted-next (c .before .before .before .loop .inv) (omega arith) (omega arith) (c .count-few .ensures)
+
+sub-count-few-2 : tie.Need-sub-count-few-2 Inv-loop μ-loop
+sub-count-few-2 c = omega arith
+
+part-count-few-start-2 : tie.Need-part-count-few-start-2 Inv-loop μ-loop
+part-count-few-start-2 c = omega arith
+
+part-count-few-end-2 : tie.Need-part-count-few-end-2 Inv-loop μ-loop
+part-count-few-end-2 c = omega arith
+
+count-few-requires-2 : tie.Need-count-few-requires-2 Inv-loop μ-loop
+count-few-requires-2 c κs =
+    let l = c .before .before .loop in
+    let bytes = c .before .before .before .before .args .bytes .now in
+    let lent = length-mid (l .i) (length bytes) bytes (omega arith) in
+    omega arith
+
+cast-result : tie.Need-cast-result Inv-loop μ-loop
+cast-result c = omega (arith, few-last c)
+
+add-result : tie.Need-add-result Inv-loop μ-loop
+add-result c = omega (arith, few-last c)
 
 returns : tie.Need-returns Inv-loop μ-loop
-returns c = finish (omega arith) (c .before .loop .inv)
+returns c = counted-next (c .before .before .before .loop .inv) (omega arith) (omega arith) (c .count-few2 .ensures) .told
 
 pub count-missing-spec : {M : Type 1} → statement M
 count-missing-spec =
@@ -47,10 +90,20 @@ count-missing-spec =
     Inv-loop
     μ-loop
     loop-holds
-    shared-slice-read-missing
-    missing-requires
+    sub-loop
+    add-end
+    sub-count-few
+    part-count-few-start
+    part-count-few-end
+    count-few-requires
+    cast-n
     add-n
-    add-i
     loop-less
     loop-again
+    sub-count-few-2
+    part-count-few-start-2
+    part-count-few-end-2
+    count-few-requires-2
+    cast-result
+    add-result
     returns)

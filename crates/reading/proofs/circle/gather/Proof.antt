@@ -1,85 +1,121 @@
--- `circle::gather` meets its contract: the column by a mask and the row by a shift give the place (`Rows`), one byte a turn (`Gathering`).
+-- `circle::gather` meets its contract: the rest of the first place's row, and the rows after it (`Gathering`).
 -- Assumes nothing.
-use mathlib.Core.Path.{ap}
-use Prim.Native.Nat.{ℕ, _+_, _-_, _*_, _/_, _<_}
+use mathlib.Core.Path.{_≡_, _∙_, ap}
+use mathlib.Core.List.{List, _++_}
+use Prim.Native.Nat.{ℕ, _+_, _-_, _*_, _/_, _%_, _≤_}
+use native.Mathlib.Nat.{mul-le-mul-right}
 use native.Mathlib.Omega.{arith}
-use lib.Bits.{bitAnd, mask-lt}
-use lib.ListN.{length, getD}
-use Rattle.reading.specs.Circle.{circlePlace, keptBy}
-use Rattle.reading.proofs.Rows.{place-masked}
-use Rattle.reading.proofs.Gathering.{Gathering, gathering-start, gathering-next, gathering-finish}
+use lib.ListN.{length, drop, length-drop}
+use lib.Seq.{length-take-le}
+use borrow.Author.Needs.{needs}
+use borrow.Rule.Slice.PartMut.{midOf}
+use Rattle.laws.specs.Lists.{tabFrom}
+use Rattle.laws.proofs.Parts.{front-count}
+use Rattle.rate_matching.proofs.MatcherRooms.{rest-lent, rest-back}
+use Rattle.reading.specs.Circle.{keptBelow, keptBy}
+use Rattle.reading.proofs.Gathering.{front-kept, front-along, rest-along, both-kept}
 use Rattle.reading.proofs.circle.gather.Statement.{statement}
 use Rattle.reading.proofs.circle.gather.Tie as tie
 
-abbrev Inv-loop : tie.InvT-loop
-Inv-loop circle step from out₀ firsts i₀ k₀ out i k = Gathering (keptBy circle firsts step) from out₀ out i k
+-- the rows before a place are few
+row-small : (c : tie.Start) → c .args .step * (c .args .from / 32) ≤ 2 * (c .args .from / 32)
+row-small c = mul-le-mul-right (c .args .from / 32) (c .pre .0)
 
-abbrev μ-loop : tie.MeasureT-loop
-μ-loop circle step from out₀ firsts i₀ k₀ out i k = length out₀ - k
+sub-left : tie.Need-sub-left
+sub-left c = search needs
 
--- the place of i lies on the circle
-lies : (c : tie.After-first Inv-loop μ-loop) → getD (c .before .before .before .args .t2) (bitAnd (c .before .before .loop .i) 31) (circlePlace 0) .0
-    + c .before .before .before .args .step * (c .before .before .loop .i / 32) < length (c .before .before .before .args .circle .now)
-lies c = let d = c .before .before in rw (place-masked (d .before .args .t2) (d .before .args .step) (d .loop .i)) (d .before .pre .places (d .loop .i) (omega arith) (omega arith))
+mul-gather-row : tie.Need-mul-gather-row
+mul-gather-row c = omega (arith, row-small (c .before .before .before))
 
-loop-holds : tie.Need-loop-holds Inv-loop μ-loop
-loop-holds c = gathering-start
+gather-row-requires : tie.Need-gather-row-requires
+gather-row-requires c κs = let e = c .before .before .before .before in front-along (e .args .circle .now) _ _ _ _ (omega arith) (omega arith) (e .pre .1)
 
-mul-first : tie.Need-mul-first Inv-loop μ-loop
-mul-first c = omega (arith, mask-lt (c .before .loop .i) 5)
+same-length : tie.Need-same-length
+same-length c = search needs
 
-array-copy-out-first : tie.Need-array-copy-out-first Inv-loop μ-loop
-array-copy-out-first c = mask-lt (c .before .loop .i) 5
+returns : tie.Need-returns
+returns c = c .before .before .gather-row .ensures ∙ front-kept _ _ _ _ _ (omega arith)
 
-mul-out : tie.Need-mul-out Inv-loop μ-loop
-mul-out c = omega (arith, lies c)
+mul-gather-row-2 : tie.Need-mul-gather-row-2
+mul-gather-row-2 c = omega (arith, row-small (c .before .before .before))
 
-add-out : tie.Need-add-out Inv-loop μ-loop
-add-out c = omega (arith, lies (c .before))
+slice-relend-prefix-gather-row : tie.Need-slice-relend-prefix-gather-row
+slice-relend-prefix-gather-row c = search needs
 
-shared-slice-read-out : tie.Need-shared-slice-read-out Inv-loop μ-loop
-shared-slice-read-out c = lies (c .before .before)
+slice-aggregate-gather-row : tie.Need-slice-aggregate-gather-row
+slice-aggregate-gather-row c = front-count _ _ (omega arith)
 
-slice-write-out : tie.Need-slice-write-out Inv-loop μ-loop
-slice-write-out c = omega arith
+gather-row-requires-2 : tie.Need-gather-row-requires-2
+gather-row-requires-2 c κs =
+    let e = c .before .before .before .before in
+    let left : 32 - e .args .from % 32 ≤ length (e .args .out .now) = omega arith in
+    rw (length-take-le (32 - e .args .from % 32) (e .args .out .now) left) (front-along (e .args .circle .now) _ _ _ _ (omega arith) left (e .pre .1))
 
-add-i : tie.Need-add-i Inv-loop μ-loop
-add-i c = omega arith
+-- the rest of the row came back whole
+row-back : (c : tie.After-gather-row2) → length (c .gather-row2 .last .1 .1 .1 .1 .0) ≡ 32 - c .before .before .before .before .before .args .from % 32
+row-back c =
+    let e = c .before .before .before .before .before in
+    c .gather-row2 .kept .1 .1 .1 .1 .0 ∙ length-take-le (32 - e .args .from % 32) (e .args .out .now) (omega arith)
 
-add-k : tie.Need-add-k Inv-loop μ-loop
-add-k c = omega arith
+-- the rows after it are lent
+rows-lent : (c : tie.After-gather-row2) → let e = c .before .before .before .before .before .args in
+    let left = 32 - e .from % 32 in
+    let lent = c .gather-row2 .last .1 .1 .1 .1 .0 ++ drop left (e .out .now) in
+    length (midOf left (length lent - left) lent) ≡ length (e .out .now) - left
+rows-lent c =
+    let e = c .before .before .before .before .before .args in
+    rest-lent (c .gather-row2 .last .1 .1 .1 .1 .0) (drop (32 - e .from % 32) (e .out .now)) (32 - e .from % 32) (row-back c) ∙ length-drop (32 - e .from % 32) (e .out .now)
 
-loop-less : tie.Need-loop-less Inv-loop μ-loop
-loop-less c = omega arith
+add-gather-rows : tie.Need-add-gather-rows
+add-gather-rows c = search needs
 
-loop-again : tie.Need-loop-again Inv-loop μ-loop
-unfolding keptBy
-loop-again c =
-    let turns = c .before .before .before .before in
-    gathering-next (omega arith) (ap (λ (j : ℕ). getD (turns .before .args .circle .now) j 0) (place-masked _ _ _)) (turns .loop .inv)
+sub-gather-rows : tie.Need-sub-gather-rows
+sub-gather-rows c = search needs
 
-same-length : tie.Need-same-length Inv-loop μ-loop
-same-length c = c .before .loop .inv .wrote .long
+part-gather-rows-start : tie.Need-part-gather-rows-start
+part-gather-rows-start c = search needs
 
-returns : tie.Need-returns Inv-loop μ-loop
-returns c = gathering-finish (omega arith) (c .before .loop .inv)
+part-gather-rows-end : tie.Need-part-gather-rows-end
+part-gather-rows-end c = search needs
+
+gather-rows-requires : tie.Need-gather-rows-requires
+gather-rows-requires c κs =
+    let e = c .before .before .before .before .before .before .before .before in
+    (e .pre .0, rw (rows-lent (c .before .before .before)) (rest-along (e .args .circle .now) _ _ _ (omega arith) (e .pre .1)))
+
+same-length-2 : tie.Need-same-length-2
+same-length-2 c = search needs
+
+returns-2 : tie.Need-returns-2
+returns-2 c =
+    let fronted = c .before .before .before .before .before .before in
+    let e = fronted .before .before .before .before .before in
+    let left = 32 - e .args .from % 32 in
+    let few : left ≤ length (e .args .out .now) = omega arith in
+    let rule = keptBelow (e .args .circle .now) (e .args .firsts) (e .args .step * (e .args .from / 32)) in
+    let rows = keptBy (e .args .circle .now) (e .args .firsts) (e .args .step) in
+    rest-back (fronted .gather-row2 .last .1 .1 .1 .1 .0) (drop left (e .args .out .now)) left (row-back fronted) (c .before .before .gather-rows .last .1 .1 .1 .1 .0)
+    ∙ both-kept _ _ _ _ (length (e .args .out .now)) few
+    (fronted .gather-row2 .ensures ∙ ap (λ (m : ℕ). tabFrom (e .args .from % 32) m rule) (length-take-le left (e .args .out .now) few))
+    (c .before .before .gather-rows .ensures ∙ ap (λ (m : ℕ). tabFrom (32 * (e .args .from / 32 + 1)) m rows) (rows-lent fronted))
 
 pub gather-spec : {M : Type 1} → statement M
 gather-spec =
     tie.close
     (tie.spec
-    Inv-loop
-    μ-loop
-    loop-holds
-    mul-first
-    array-copy-out-first
-    mul-out
-    add-out
-    shared-slice-read-out
-    slice-write-out
-    add-i
-    add-k
-    loop-less
-    loop-again
+    sub-left
+    mul-gather-row
+    gather-row-requires
     same-length
-    returns)
+    returns
+    mul-gather-row-2
+    slice-relend-prefix-gather-row
+    slice-aggregate-gather-row
+    gather-row-requires-2
+    add-gather-rows
+    sub-gather-rows
+    part-gather-rows-start
+    part-gather-rows-end
+    gather-rows-requires
+    same-length-2
+    returns-2)

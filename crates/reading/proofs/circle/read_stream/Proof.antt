@@ -1,11 +1,15 @@
 -- `circle::read_stream` meets its contract: what is gathered row by row is what the circle keeps for the stream's places (`Rows`).
 -- Assumes nothing.
 use mathlib.Core.Path.{_≡_, _∙_}
+use mathlib.Core.Bool.{Bool, true, false, cond}
 use mathlib.Core.Logic.{⊎-elim}
+use Prim.Native.Nat.{ℕ, _≤_}
+use native.Mathlib.Omega.{arith}
+use lib.Dec.{eqb}
 use borrow.Author.Tests.{eq-eqb, ne-eqb}
 use borrow.Author.Needs.{needs}
 use Rattle.reading.specs.Circle.{rowStep}
-use Rattle.reading.proofs.Rows.{along, kept-along}
+use Rattle.reading.proofs.Rows.{along, kept-along, firsts-there}
 use Rattle.reading.proofs.circle.read_stream.Statement.{statement}
 use Rattle.reading.proofs.circle.read_stream.Tie as tie
 
@@ -13,11 +17,21 @@ step-is : (c : tie.Joined1) → c .if1 .step ≡ rowStep (c .before .before .bef
 unfolding rowStep
 step-is c = ⊎-elim (λ w. rw (eq-eqb _ 0 (w .0 .taken)) (w .1)) (λ w. rw (ne-eqb _ 0 (w .0 .left)) (w .1)) (c .if1 .came)
 
+step-few : (s : ℕ) → rowStep s ≤ 2
+unfolding rowStep
+step-few s = go (eqb s 0)
+  where
+    go : (b : Bool) → cond b 1 2 ≤ 2
+    go true = omega arith
+    go false = omega arith
+
 first-places-requires : tie.Need-first-places-requires
 first-places-requires c κs = search needs
 
 gather-requires : tie.Need-gather-requires
-gather-requires c κs = rw (c .before .first-places .ensures, step-is (c .before .before)) (along (c .before .before .before .before .before .pre))
+gather-requires c κs =
+    let w = c .before .before .before .before .before .pre in
+    rw (c .before .first-places .ensures ∙ firsts-there w, step-is (c .before .before)) (step-few _, along w)
 
 same-length : tie.Need-same-length
 same-length c = search needs
@@ -26,7 +40,7 @@ returns : tie.Need-returns
 returns c =
     let found = c .before .before .before .before in
     let entry = found .before .before .before .before in
-    c .before .before .gather .ensures ∙ rw (found .first-places .ensures, step-is (found .before)) (kept-along (entry .args .circle .now) (entry .pre))
+    c .before .before .gather .ensures ∙ rw (found .first-places .ensures ∙ firsts-there (entry .pre), step-is (found .before)) (kept-along (entry .args .circle .now) (entry .pre))
 
 pub read-stream-spec : {M : Type 1} → statement M
 read-stream-spec = tie.close (tie.spec first-places-requires gather-requires same-length returns)

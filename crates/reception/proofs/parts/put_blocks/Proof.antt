@@ -9,7 +9,7 @@ use Rattle.laws.proofs.Parts.{length-mid}
 use Rattle.segmentation.specs.Segmentation.{blocks, sizeOf}
 use Rattle.codeword.specs.Build.{shareOf}
 use Rattle.reading.proofs.Blocks.{Block, block-of, blocks-few}
-use Rattle.reception.proofs.Blocks.{block-turnable, count-is, Blocks, blocks-start, blocks-next, blocks-finish, part-within, bits-within}
+use Rattle.reception.proofs.Blocks.{block-walked, count-is, Blocks, blocks-start, blocks-next, blocks-finish, part-within, bits-within}
 use Rattle.reception.proofs.parts.put_blocks.Statement.{statement}
 use Rattle.reception.proofs.parts.put_blocks.Tie as tie
 
@@ -56,7 +56,7 @@ size-of-requires : tie.Need-size-of-requires Inv-loop μ-loop
 size-of-requires c κs = tt
 
 add-d : tie.Need-add-d Inv-loop μ-loop
-add-d c = omega (arith, size c, block-turnable _ (entry (c .before) .pre .size) (c .before .before .loop .r) 0 (omega arith) .most)
+add-d c = omega (arith, size c, block-walked _ (entry (c .before) .pre .size) (c .before .before .loop .r) .most)
 
 filler-of-requires : tie.Need-filler-of-requires Inv-loop μ-loop
 filler-of-requires c κs = tt
@@ -94,7 +94,7 @@ put-block-requires c κs =
     let r = i .before .loop .r in
     let filled = c .before .before .before .filler-of .ensures ∙ block i .filled in
     rw (size (c .before .before .before .before), filled, length-mid _ _ (i .before .loop .room) (part-fits i), add-sub-cancel-left (i .before .loop .from) 18528)
-    (block-turnable _ (entry i .pre .size) r _ (entry i .pre .version))
+    (block-walked _ (entry i .pre .size) r, entry i .pre .version)
 
 add-r : tie.Need-add-r Inv-loop μ-loop
 add-r c =

@@ -1,0 +1,78 @@
+-- `circle::gather_row` meets its contract: one byte a turn (`Gathering`).
+-- Assumes nothing.
+use mathlib.Core.Path.{refl}
+use Prim.Native.Nat.{_+_, _-_, _<_}
+use native.Mathlib.Omega.{arith}
+use lib.ListN.{length, getD}
+use Rattle.rate_matching.specs.Places.{circlePlace}
+use Rattle.reading.specs.Circle.{keptBelow}
+use Rattle.reading.proofs.Gathering.{Gathering, gathering-start, gathering-next, gathering-finish}
+use Rattle.reading.proofs.circle.gather_row.Statement.{statement}
+use Rattle.reading.proofs.circle.gather_row.Tie as tie
+
+abbrev Inv-loop : tie.InvT-loop
+Inv-loop circle below from out₀ firsts k₀ out k = Gathering (keptBelow circle firsts below) from out₀ out k
+
+abbrev μ-loop : tie.MeasureT-loop
+μ-loop circle below from out₀ firsts k₀ out k = length out₀ - k
+
+-- the place lies on the circle
+lies : (c : tie.In-loop Inv-loop μ-loop) → let e = c .before .before .args in
+    getD (e .t2) (e .from + c .before .loop .k) (circlePlace 0) .0 + e .below < length (e .circle .now)
+lies c = c .before .before .pre .places (c .before .before .args .from + c .before .loop .k) (omega arith) (omega arith)
+
+loop-holds : tie.Need-loop-holds Inv-loop μ-loop
+loop-holds c = gathering-start
+
+add-first : tie.Need-add-first Inv-loop μ-loop
+add-first c = omega arith
+
+mul-first : tie.Need-mul-first Inv-loop μ-loop
+mul-first c = omega arith
+
+array-copy-out-first : tie.Need-array-copy-out-first Inv-loop μ-loop
+array-copy-out-first c = omega arith
+
+add-out : tie.Need-add-out Inv-loop μ-loop
+add-out c = omega (arith, lies (c .before .before))
+
+shared-slice-read-out : tie.Need-shared-slice-read-out Inv-loop μ-loop
+shared-slice-read-out c = lies (c .before .before .before)
+
+slice-write-out : tie.Need-slice-write-out Inv-loop μ-loop
+slice-write-out c = omega arith
+
+add-k : tie.Need-add-k Inv-loop μ-loop
+add-k c = omega arith
+
+loop-less : tie.Need-loop-less Inv-loop μ-loop
+loop-less c = omega arith
+
+loop-again : tie.Need-loop-again Inv-loop μ-loop
+unfolding keptBelow
+loop-again c = gathering-next (omega arith) refl (c .before .before .before .before .loop .inv)
+
+same-length : tie.Need-same-length Inv-loop μ-loop
+same-length c = c .before .loop .inv .wrote .long
+
+returns : tie.Need-returns Inv-loop μ-loop
+returns c = gathering-finish (omega arith) (c .before .loop .inv)
+
+pub gather-row-spec : {M : Type 1} → statement M
+gather-row-spec =
+    tie.close
+    (tie.spec
+    Inv-loop
+    μ-loop
+    loop-holds
+    add-first
+    mul-first
+    array-copy-out-first
+    add-out
+    shared-slice-read-out
+    slice-write-out
+    add-k
+    loop-less
+    loop-again
+    same-length
+    returns)

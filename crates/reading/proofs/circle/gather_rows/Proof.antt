@@ -1,0 +1,97 @@
+-- `circle::gather_rows` meets its contract: a row a turn, and the begin of one at the end (`Gathering`).
+-- Assumes nothing.
+use Prim.Native.Nat.{_+_, _-_, _/_}
+use native.Mathlib.Nat.{mul-le-mul-right}
+use native.Mathlib.Omega.{arith}
+use lib.ListN.{length}
+use Rattle.reading.proofs.Gathering.{Rowing, rowing-start, next-along, row-lent, last-lent, last-back, rowing-next, rowing-last}
+use Rattle.reading.proofs.circle.gather_rows.Statement.{statement}
+use Rattle.reading.proofs.circle.gather_rows.Tie as tie
+
+abbrev Inv-loop : tie.InvT-loop
+Inv-loop circle firsts step row out₀ below₀ at₀ out below at = Rowing circle firsts step row out₀ out below at
+
+abbrev μ-loop : tie.MeasureT-loop
+μ-loop circle firsts step row out₀ below₀ at₀ out below at = length out₀ - at
+
+mul-below : tie.Need-mul-below Inv-loop μ-loop
+mul-below c = omega (arith, mul-le-mul-right (c .before .before .args .row) (c .before .before .pre .0))
+
+loop-holds : tie.Need-loop-holds Inv-loop μ-loop
+loop-holds c = rowing-start
+
+sub-loop : tie.Need-sub-loop Inv-loop μ-loop
+sub-loop c = omega arith
+
+add-end : tie.Need-add-end Inv-loop μ-loop
+add-end c = omega arith
+
+sub-gather-row : tie.Need-sub-gather-row Inv-loop μ-loop
+sub-gather-row c = omega arith
+
+part-gather-row-start : tie.Need-part-gather-row-start Inv-loop μ-loop
+part-gather-row-start c = omega arith
+
+part-gather-row-end : tie.Need-part-gather-row-end Inv-loop μ-loop
+part-gather-row-end c = omega arith
+
+gather-row-requires : tie.Need-gather-row-requires Inv-loop μ-loop
+gather-row-requires c κs =
+    let l = c .before .before .loop in
+    rw (row-lent (l .inv) (omega arith)) (next-along (l .inv) 32 (omega arith) (omega (arith, l .inv .wrote .long)) (c .before .before .before .before .before .pre .1))
+
+add-below : tie.Need-add-below Inv-loop μ-loop
+add-below c =
+    let l = c .before .before .before .before .before in
+    let e = l .before .before .before in
+    omega (arith, l .loop .inv .rows, mul-le-mul-right (e .args .row + l .loop .at / 32) (e .pre .0))
+
+loop-less : tie.Need-loop-less Inv-loop μ-loop
+loop-less c = omega arith
+
+loop-again : tie.Need-loop-again Inv-loop μ-loop
+loop-again c = rowing-next (c .before .before .before .before .before .loop .inv) (omega arith) (c .before .before .gather-row .ensures)
+
+sub-gather-row-2 : tie.Need-sub-gather-row-2 Inv-loop μ-loop
+sub-gather-row-2 c = omega arith
+
+part-gather-row-start-2 : tie.Need-part-gather-row-start-2 Inv-loop μ-loop
+part-gather-row-start-2 c = omega arith
+
+part-gather-row-end-2 : tie.Need-part-gather-row-end-2 Inv-loop μ-loop
+part-gather-row-end-2 c = omega arith
+
+gather-row-requires-2 : tie.Need-gather-row-requires-2 Inv-loop μ-loop
+gather-row-requires-2 c κs =
+    let l = c .before .before .loop in
+    rw (last-lent (l .inv)) (next-along (l .inv) _ (omega (arith, l .inv .wrote .long)) (omega (arith, l .inv .wrote .long)) (c .before .before .before .before .before .pre .1))
+
+same-length : tie.Need-same-length Inv-loop μ-loop
+same-length c = last-back (c .before .before .before .before .before .loop .inv) (c .before .before .gather-row2 .last .1 .1 .1 .1 .0) (c .before .before .gather-row2 .kept .1 .1 .1 .1 .0)
+
+returns : tie.Need-returns Inv-loop μ-loop
+returns c = rowing-last (c .before .before .before .before .before .loop .inv) (omega arith) (c .before .before .gather-row2 .ensures)
+
+pub gather-rows-spec : {M : Type 1} → statement M
+gather-rows-spec =
+    tie.close
+    (tie.spec
+    Inv-loop
+    μ-loop
+    mul-below
+    loop-holds
+    sub-loop
+    add-end
+    sub-gather-row
+    part-gather-row-start
+    part-gather-row-end
+    gather-row-requires
+    add-below
+    loop-less
+    loop-again
+    sub-gather-row-2
+    part-gather-row-start-2
+    part-gather-row-end-2
+    gather-row-requires-2
+    same-length
+    returns)

@@ -1,0 +1,153 @@
+// The bits of a code block put along its circle, run by run: the places of a column that hold a bit lie side by side.
+use rate_matching::rows_before;
+use rate_matching::table::columns;
+ghost use mathlib.Core.Path.{_≡_};
+ghost use Prim.Native.Nat.{_+_, _-_, _*_, _≤_};
+ghost use lib.ListN.{length};
+ghost use Rattle.laws.specs.Lists.{tab, tabFrom};
+ghost use Rattle.rate_matching.specs.SubBlocks.{rows, rowsBefore};
+ghost use Rattle.rate_matching.specs.Circle.{startOf};
+ghost use Rattle.rate_matching.specs.Walk.{itself, turn};
+ghost use Rattle.rate_matching.specs.Shape.{shape, bitPlaces, second, pairPlaces, lastPlace};
+ghost use Rattle.reception.specs.Along.{Put, Walked, Column};
+
+// Puts the bits from `at` on over the front of a run, as many as there are of both, and tells where they end.
+fn put_run(bits: &[u8], at: usize, run: &mut [u8]) -> usize
+    requires { ⌜ at ≤ length (now bits) ⌝ }
+    ensures { λ r. ⌜ Put (tab (length (now (run .entry))) itself) (now (bits .entry)) at (now (run .entry)) (now (run .exit)) r ⌝ }
+{
+    let left = bits.len() - at;
+    let n = if left < run.len() { left } else { run.len() };
+    let end = at + n;
+    bytes::copy(&bits[at..end], run);
+    end
+}
+
+// Puts bits in the columns of stream 0 from column `from` to column `to`.
+fn put_columns(
+    d: usize,
+    filler: usize,
+    from: usize,
+    to: usize,
+    bits: &[u8],
+    at: usize,
+    part: &mut [u8],
+) -> usize
+    requires { ⌜ Walked d filler (length (now part)) × (from ≤ to) × (to ≤ 32) × (at ≤ length (now bits)) ⌝ }
+    ensures { λ r. ⌜ Put (bitPlaces (shape d filler) (from * rows d) (to * rows d))
+        (now (bits .entry)) at (now (part .entry)) (now (part .exit)) r ⌝ }
+{
+    let p = columns();
+    let rows = (d + 31) / 32;
+    let absent = 32 * rows - d + filler;
+    let mut i = at;
+    let mut j = from * rows;
+    let mut c = from;
+    while c < to {
+        let start = j + rows_before(absent, p[c] as usize);
+        let end = j + rows;
+        i = put_run(bits, i, &mut part[start..end]);
+        j = end;
+        c += 1;
+    }
+    i
+}
+
+// Puts bits in the places of stream 2 alone, from row `from` to row `to` of a column of streams 1 and 2.
+fn put_alone(from: usize, to: usize, bits: &[u8], at: usize, part: &mut [u8]) -> usize
+    requires { ⌜ (from ≤ to) × (2 * to ≤ length (now part)) × (at ≤ length (now bits)) ⌝ }
+    ensures { λ r. ⌜ Put (tabFrom from (to - from) second) (now (bits .entry)) at (now (part .entry)) (now (part .exit)) r ⌝ }
+{
+    let mut i = at;
+    let mut q = from;
+    while q < to {
+        let start = 2 * q + 1;
+        let end = start + 1;
+        i = put_run(bits, i, &mut part[start..end]);
+        q += 1;
+    }
+    i
+}
+
+// Puts bits in a column of streams 1 and 2, which is the whole of `part`. Its last place is a dummy where the column is the last of all,
+// 31: the shift brings it there.
+fn put_pair(
+    rows: usize,
+    column: usize,
+    dummies: usize,
+    absent: usize,
+    bits: &[u8],
+    at: usize,
+    part: &mut [u8],
+) -> usize
+    requires { ⌜ Column rows column dummies absent (length (now part)) × (at ≤ length (now bits)) ⌝ }
+    ensures { λ r. ⌜ Put (pairPlaces (rowsBefore dummies (column + 1)) (rowsBefore absent column) (lastPlace rows column))
+        (now (bits .entry)) at (now (part .entry)) (now (part .exit)) r ⌝ }
+{
+    let first = rows_before(absent, column);
+    let i = put_alone(rows_before(dummies, column + 1), first, bits, at, part);
+    let start = 2 * first;
+    let last = if column == 31 { 2 * rows - 1 } else { 2 * rows };
+    put_run(bits, i, &mut part[start..last])
+}
+
+// Puts bits in the columns of streams 1 and 2 from column `from` to column `to`.
+fn put_pairs(
+    d: usize,
+    filler: usize,
+    from: usize,
+    to: usize,
+    bits: &[u8],
+    at: usize,
+    part: &mut [u8],
+) -> usize
+    requires { ⌜ Walked d filler (length (now part)) × (from ≤ to) × (to ≤ 32) × (at ≤ length (now bits)) ⌝ }
+    ensures { λ r. ⌜ Put (bitPlaces (shape d filler) (32 * rows d + from * (2 * rows d)) (32 * rows d + to * (2 * rows d)))
+        (now (bits .entry)) at (now (part .entry)) (now (part .exit)) r ⌝ }
+{
+    let p = columns();
+    let rows = (d + 31) / 32;
+    let dummies = 32 * rows - d;
+    let mut i = at;
+    let mut j = 32 * rows + from * (2 * rows);
+    let mut c = from;
+    while c < to {
+        let end = j + 2 * rows;
+        i = put_pair(
+            rows,
+            p[c] as usize,
+            dummies,
+            dummies + filler,
+            bits,
+            i,
+            &mut part[j..end],
+        );
+        j = end;
+        c += 1;
+    }
+    i
+}
+
+// Puts the bits of one turn of redundancy version `version`, or as many as there are, and tells how many.
+pub(crate) fn put_round(
+    d: usize,
+    filler: usize,
+    version: usize,
+    bits: &[u8],
+    part: &mut [u8],
+) -> usize
+    requires { ⌜ Walked d filler (length (now part)) × (version ≤ 3) ⌝ }
+    ensures { λ r. ⌜ Put (turn (shape d filler) (startOf (rows d) version)) (now (bits .entry)) 0 (now (part .entry)) (now (part .exit)) r ⌝ }
+{
+    if bits.len() == 0 {
+        return 0;
+    }
+    // the version starts at the head of a column: of stream 0, or past its 32 of streams 1 and 2
+    let start = 24 * version + 2;
+    let s = if start < 32 { start } else { 32 };
+    let p = (start - s) / 2;
+    let first = put_columns(d, filler, s, 32, bits, 0, part);
+    let second = put_pairs(d, filler, p, 32, bits, first, part);
+    let third = put_columns(d, filler, 0, s, bits, second, part);
+    put_pairs(d, filler, 0, p, bits, third, part)
+}
