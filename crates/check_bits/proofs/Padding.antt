@@ -1,54 +1,21 @@
--- Bits as a number, gathered one by one, and zeros in front of them, which change no remainder.
+-- Zeros in front of bits, which change no remainder: the first bits, fewer than 24, are taken as the lowest of 24, in one stride.
 -- Assumes nothing.
-use mathlib.Core.Path.{_≡_, refl, sym, _∙_, ap, ap₂}
-use mathlib.Core.List.{List, [], _∷_, _++_}
-use Prim.Native.Nat.{ℕ, zero, suc, _+_, _-_, _*_, _/_, _%_, _^_, _≤_, _<_}
-use native.Mathlib.Nat.{pow-suc, zero-mul, zero-div, div-eq-of-lt, lt-of-lt-of-le}
-use native.Mathlib.Numerals.{add-one}
+use mathlib.Core.Path.{_≡_, refl, sym, _∙_, ap, subst}
+use mathlib.Core.List.{List}
+use Prim.Native.Nat.{ℕ, zero, suc, _+_, _-_, _/_, _%_, _^_, _≤_, _<_}
+use native.Mathlib.Nat.{zero-mul, zero-div, div-eq-of-lt, div-lt-iff-lt-mul, lt-of-lt-of-le}
 use native.Mathlib.Omega.{arith}
 use lib.Dec.{lit<}
-use lib.ListN.{length, getD, take, drop, take-append-drop}
-use lib.Pow.{pow-mono}
-use lib.Seq.{take-suc, take-length, length-take-le}
+use lib.ListN.{length, take, drop, take-append-drop}
+use lib.Pow.{pow-add, pow-mono, pow-pos}
+use lib.Seq.{take-at, take-take}
 use Rattle.laws.specs.Bits.{bitsOf}
-use Rattle.laws.proofs.Bits.{bitsOf-split, bitsOf-join}
-use Rattle.check_bits.specs.CheckBits.{crcStep, crcFrom}
-use Rattle.check_bits.specs.Stride.{IsTable, IsNumber, entries}
+use Rattle.laws.proofs.Bits.{bitsOf-split, length-bitsOf}
+use Rattle.check_bits.specs.CheckBits.{crc, crcStep, crcFrom}
+use Rattle.check_bits.specs.Stride.{IsTable, entries}
 use Rattle.check_bits.proofs.Register.{crcFrom-lt, crcFrom-append}
 use Rattle.check_bits.proofs.Running.{Running}
 use Rattle.check_bits.proofs.Stride.{stride-first}
-
--- ---- bits as a number
-
-one-bit : (b : ℕ) → b < 2 → bitsOf 1 b ≡ b ∷ []
-unfolding bitsOf
-one-bit b h = ap (λ (x : ℕ). x ∷ []) (let e : b / 1 % 2 ≡ b = omega arith in e)
-
-module _ {bits : List ℕ} where
-  pub none-yet : IsNumber 0 bits 0
-  unfolding bitsOf
-  none-yet = record { small = lit< tt; told = refl }
-
-  pub number-lt : {i v : ℕ} → i < 24 → IsNumber i bits v → v < 2 ^ 24
-  number-lt {i} h w = lt-of-lt-of-le (w .small) (pow-mono (let l : i ≤ 24 = omega arith in l))
-
-  pub one-more-bit : {i v : ℕ} → i < length bits → getD bits i 0 < 2 → IsNumber i bits v → IsNumber (i + 1) bits (2 * v + getD bits i 0)
-  one-more-bit {i} {v} h l w = record {
-    small = rw (add-one, pow-suc) (omega (arith, w .small));
-    told = ap (λ (n : ℕ). take n bits) (add-one i) ∙ take-suc bits i 0 h ∙ ap₂ _++_ (w .told) (sym (one-bit b l))
-        ∙ sym (bitsOf-join i 1 v b l) ∙ ap (λ (x : ℕ). bitsOf (i + 1) x) turned;
-  }
-    where
-      b : ℕ
-      b = getD bits i 0
-
-      turned : v * 2 ^ 1 + b ≡ 2 * v + b
-      turned = omega arith
-
-  pub all-bits : {i v : ℕ} → i ≤ length bits → length bits ≤ i → IsNumber i bits v → IsNumber (length bits) bits v
-  all-bits {i} h l w = let e : i ≡ length bits = omega arith in rw e at w
-
--- ---- zeros in front
 
 nothing : (g d : ℕ) → crcFrom 24 g 0 (bitsOf d 0) ≡ 0
 unfolding crcFrom crcStep bitsOf
@@ -58,32 +25,41 @@ nothing g (suc d) = rw (zero-div, zero-mul) (nothing g d)
 padded : (g d k v : ℕ) → v < 2 ^ k → crcFrom 24 g 0 (bitsOf (d + k) v) ≡ crcFrom 24 g 0 (bitsOf k v)
 padded g d k v h = rw (bitsOf-split d k v, div-eq-of-lt h, crcFrom-append 24 g 0 (bitsOf d 0) (bitsOf k v), nothing g d)
 
--- the bits by which the length is over a multiple of 24, in one stride
-pub led : {g : ℕ} {t : List ℕ} (bits : List ℕ) {s v : ℕ} → IsTable 24 g t → s ≡ entries t v → v < 2 ^ 24
-    → (v < 2 ^ 24 → IsNumber (length (take (length bits % 24) bits)) (take (length bits % 24) bits) v) → Running g 0 bits s (length bits % 24)
-led {g} {t} bits {s} {v} w e hv number = rw (e, ← whole) record {
-  small = crcFrom-lt 24 g 0 (take k bits) (lit< tt);
-  told = sym (crcFrom-append 24 g 0 (take k bits) (drop k bits)) ∙ ap (crcFrom 24 g 0) (take-append-drop k bits);
-}
+-- the first k bits of 24 that are those of x, in one stride
+pub led : {g : ℕ} {t : List ℕ} (bits : List ℕ) (k : ℕ) {x : ℕ} → IsTable 24 g t → k < 24 → x < 2 ^ 24
+    → (x < 2 ^ 24 → take 24 (drop 0 bits) ≡ bitsOf 24 x) → entries t (x / 2 ^ (24 - k)) ≡ crc 24 g (take k bits)
+unfolding crc
+led {g} {t} bits k {x} w few small told =
+    sym (stride-first w below)
+    ∙ ap (λ (n : ℕ). crcFrom 24 g 0 (bitsOf n v)) (sym sum)
+    ∙ padded g (24 - k) k v low
+    ∙ ap (crcFrom 24 g 0) (sym front)
   where
-    k : ℕ
-    k = length bits % 24
+    v : ℕ
+    v = x / 2 ^ (24 - k)
 
-    n : IsNumber (length (take k bits)) (take k bits) v
-    n = number hv
+    sum : 24 - k + k ≡ 24
+    sum = omega arith
 
-    long : length (take k bits) ≡ k
-    long = length-take-le k bits (omega arith)
+    turned : k + (24 - k) ≡ 24
+    turned = omega arith
 
-    bits-are : take k bits ≡ bitsOf k v
-    bits-are = sym (take-length (take k bits)) ∙ n .told ∙ ap (λ (j : ℕ). bitsOf j v) long
+    low : v < 2 ^ k
+    low = div-lt-iff-lt-mul (pow-pos (24 - k)) .1 (subst (λ (n : ℕ). x < n) (ap (λ (n : ℕ). 2 ^ n) (sym turned) ∙ pow-add 2 k (24 - k)) small)
 
-    filled : 24 - k + k ≡ 24
-    filled = omega arith
+    below : v < 2 ^ 24
+    below = lt-of-lt-of-le low (pow-mono (let h : k ≤ 24 = omega arith in h))
 
-    whole : crcFrom 24 g 0 (take k bits) ≡ entries t v
-    whole =
-        ap (crcFrom 24 g 0) bits-are
-        ∙ sym (padded g (24 - k) k v (rw long at (n .small)))
-        ∙ ap (λ (j : ℕ). crcFrom 24 g 0 (bitsOf j v)) filled
-        ∙ stride-first w hv
+    front : take k bits ≡ bitsOf k v
+    front =
+        sym (take-take k 24 bits (omega arith))
+        ∙ ap (take k) (told small ∙ ap (λ (n : ℕ). bitsOf n x) (sym turned) ∙ bitsOf-split k (24 - k) x)
+        ∙ take-at (bitsOf k v) (bitsOf (24 - k) x) k (length-bitsOf k v)
+
+-- the bits after those by which the length is over a multiple of 24 go on from their remainder
+pub gone : {g s : ℕ} (bits : List ℕ) → s ≡ crc 24 g (take (length bits % 24) bits) → Running g 0 bits s (length bits % 24)
+unfolding crc
+gone {g} bits e = rw e record {
+  small = crcFrom-lt 24 g 0 (take (length bits % 24) bits) (lit< tt);
+  told = sym (crcFrom-append 24 g 0 (take (length bits % 24) bits) (drop (length bits % 24) bits)) ∙ ap (crcFrom 24 g 0) (take-append-drop (length bits % 24) bits);
+}

@@ -6,58 +6,49 @@ ghost use Prim.Native.Nat.{_+_, _%_, _^_, _≤_, _<_};
 ghost use lib.ListN.{length, getD, take, drop};
 ghost use Rattle.laws.specs.Bits.{bitsOf};
 ghost use Rattle.check_bits.specs.CheckBits.{crc, crcFrom, gCRC24A, gCRC24B};
-ghost use Rattle.check_bits.specs.Stride.{IsTable, IsNumber, entries, wordOf, lowest};
+ghost use Rattle.check_bits.specs.Stride.{IsTable, entries, wordOf, lowest};
 ghost use Rattle.check_bits.specs.Put.{putCheckBits};
 
-// The transport check of `bits`.
+// The transport check of `bits`. The bits by which the length is over a multiple of 24 go first, the others follow in strides; where they are
+// too few for a stride of 48, its table is not made.
 pub fn crc24a(bits: &[u8]) -> u32
     ensures { λ r. ⌜ r ≡ crc 24 gCRC24A (now (bits .entry)) ⌝ }
 {
     let near = table::table_a();
+    let k = bits.len() % 24;
+    let s = leading(0x864CFB, &near, k, bits);
+    if bits.len() < 48 {
+        return last_stride(0x864CFB, &near, s, &bits[k..]);
+    }
     let far = table::table_a_48();
-    by_table(0x864CFB, &near, &far, bits)
+    strides(0x864CFB, &near, &far, s, &bits[k..])
 }
 
-// The check of a code block's `bits`.
+// The check of a code block's `bits`, in the same way; a code block that has one is long.
 pub fn crc24b(bits: &[u8]) -> u32
     ensures { λ r. ⌜ r ≡ crc 24 gCRC24B (now (bits .entry)) ⌝ }
 {
     let near = table::table_b();
-    let far = table::table_b_48();
-    by_table(0x800063, &near, &far, bits)
-}
-
-// The remainder of `bits`. Zeros in front change none, so the bits by which the length is over a multiple of 24 go first, as the lowest of
-// 24; the others follow in strides.
-fn by_table(generator: u32, near: &[u32; 96], far: &[u32; 96], bits: &[u8]) -> u32
-    requires { ⌜ IsTable 24 generator (now near) ⌝ }
-    requires { ⌜ IsTable 48 generator (now far) ⌝ }
-    ensures { λ r. ⌜ r ≡ crc 24 generator (now (bits .entry)) ⌝ }
-{
     let k = bits.len() % 24;
-    let v = leading(&bits[..k]);
-    if 0xFF_FFFF < v {
-        return one_by_one(generator, 0, bits);
-    }
-    let s = passed(near, v);
-    strides(generator, near, far, s, &bits[k..])
+    let s = leading(0x800063, &near, k, bits);
+    let far = table::table_b_48();
+    strides(0x800063, &near, &far, s, &bits[k..])
 }
 
-// Fewer than 24 bits as a number, the first highest; 2 to the 24 where a byte is neither 0 nor 1.
-fn leading(bits: &[u8]) -> u32
-    requires { ⌜ length (now bits) < 24 ⌝ }
-    ensures { λ r. ⌜ (r < 2 ^ 24 → IsNumber (length (now (bits .entry))) (now (bits .entry)) r) ⌝ }
+// The remainder of the first `k` bits. Zeros in front change none, so they go as the lowest of 24, in one stride.
+fn leading(generator: u32, near: &[u32; 96], k: usize, bits: &[u8]) -> u32
+    requires { ⌜ IsTable 24 generator (now near) ⌝ }
+    requires { ⌜ (k < 24) × (k ≤ length (now bits)) ⌝ }
+    ensures { λ r. ⌜ r ≡ crc 24 generator (take k (now (bits .entry))) ⌝ }
 {
-    let mut v: u32 = 0;
-    let mut i = 0;
-    while i < bits.len() {
-        if 1 < bits[i] {
-            return 0x100_0000;
-        }
-        v = 2 * v + (bits[i] as u32);
-        i += 1;
+    if bits.len() < 24 {
+        return one_by_one(generator, 0, &bits[..k]);
     }
-    v
+    let x = gathered(bits, 0);
+    if 0xFF_FFFF < x {
+        return one_by_one(generator, 0, &bits[..k]);
+    }
+    passed(near, x >> (24 - k))
 }
 
 // The register after `bits`, from the register `from` on: 48 bits a turn, as long as each byte is 0 or 1. By linearity the register goes on

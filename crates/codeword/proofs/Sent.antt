@@ -7,7 +7,8 @@ use Prim.Native.Nat.{ℕ, _+_, _-_, _≤_, _<_}
 use native.Mathlib.Decide.{decLt}
 use native.Mathlib.Omega.{arith}
 use lib.Dec.{eqb, ltb}
-use lib.ListN.{length}
+use lib.ListN.{length, take, drop, length-append, length-drop}
+use lib.Seq.{length-take-le}
 use borrow.Author.Tests.{lt-ltb, eq-eqb}
 use Rattle.laws.specs.Bits.{bitsOf}
 use Rattle.laws.proofs.Bits.{bitsOf-bits}
@@ -22,14 +23,14 @@ use Rattle.segmentation.proofs.Segmentation.{in-range, large-of, short-is, shor
 use Rattle.segmentation.proofs.CodeBlocks.{filler-within, length-codeBlock}
 use Rattle.segmentation.proofs.Payload.{with-bits}
 use Rattle.turbo.specs.Streams.{stream0, stream1, stream2}
-use Rattle.turbo.specs.Encode.{fit}
-use Rattle.turbo.proofs.Encodable.{true-encodable}
+use Rattle.turbo.specs.Encode.{blockIn, fit}
+use Rattle.turbo.proofs.Encodable.{true-encodable, block-put}
 use Rattle.laws.proofs.AreBits.{append-bits}
 use Rattle.rate_matching.specs.Matcher.{matchedInto}
 use Rattle.rate_matching.proofs.Alike.{Filled}
 use Rattle.rate_matching.proofs.MatcherBlock.{Matchable, matched-selected}
 use Rattle.codeword.specs.Codeword.{blockCircle, blockRows, sentBits}
-use Rattle.codeword.specs.Sending.{Sending, Roomy}
+use Rattle.codeword.specs.Sending.{Sending}
 use Rattle.codeword.proofs.Accepted.{given-bits}
 use Rattle.codeword.proofs.Data.{block-filled}
 
@@ -63,10 +64,31 @@ module _ {a : List ℕ} {s : Segments} {r v : ℕ} (h : Sending a s r v) where
   ])
 
   -- the code block's bits
-  pub coded : (x : ℕ) (c₀ c : List ℕ) → length c₀ ≡ sizeOf (length a + 24) r → c ≡ codeBlockInto a x r c₀ → c ≡ codeBlock (a ++ bitsOf 24 x) r
+  coded : (x : ℕ) (c₀ c : List ℕ) → length c₀ ≡ sizeOf (length a + 24) r → c ≡ codeBlockInto a x r c₀ → c ≡ codeBlock (a ++ bitsOf 24 x) r
   unfolding codeBlockInto fitsBlock
   coded x c₀ c room e =
       e ∙ simp (h .size, lt-ltb r (blocks (length a + 24)) (h .below), eq-eqb (length c₀) (sizeOf (length a + 24) r) room)
+
+  -- stream 0's room after they were put at its front
+  pub record Fronted (x : ℕ) (d0 : List ℕ) : Type 0 where
+    pub bits : blockIn d0 ≡ codeBlock (a ++ bitsOf 24 x) r
+    pub long : length d0 ≡ sizeOf (length a + 24) r + 4
+
+  pub fronted : (x : ℕ) (d0 : List ℕ) {part : List ℕ} → length d0 ≡ sizeOf (length a + 24) r + 4 → part ≡ codeBlockInto a x r (take (length d0 - 4) d0)
+      → Fronted x (part ++ drop (length d0 - 4) d0)
+  fronted x d0 {part} room e = record {
+    bits = ap (λ (k : ℕ). blockIn (part ++ drop k d0)) (sym count) ∙ block-put part d0 (omega (arith, count)) ∙ is;
+    long = omega (arith, length-append part (drop (length d0 - 4) d0), length-drop (length d0 - 4) d0, count);
+  }
+    where
+      front : length (take (length d0 - 4) d0) ≡ sizeOf (length a + 24) r
+      front = omega (arith, length-take-le (length d0 - 4) d0 (omega arith))
+
+      is : part ≡ codeBlock (a ++ bitsOf 24 x) r
+      is = coded x (take (length d0 - 4) d0) part front e
+
+      count : length part ≡ length d0 - 4
+      count = omega (arith, ap length is, length-codeBlock (length a + 24) high (a ++ bitsOf 24 x) (with-bits a x) r (h .below))
 
   module _ (x : ℕ) (c : List ℕ) (c-is : c ≡ codeBlock (a ++ bitsOf 24 x) r) where
     c-long : length c ≡ sizeOf (length a + 24) r
@@ -78,17 +100,22 @@ module _ {a : List ℕ} {s : Segments} {r v : ℕ} (h : Sending a s r v) where
     -- the encoder takes it
     pub encoded : {row F : ℕ} → row ≡ rowOf (length a + 24) r → F ≡ fillerOf (length a + 24) r → (d0 d1 d2 : List ℕ)
         → length d0 ≡ sizeOf (length a + 24) r + 4 → length d1 ≡ sizeOf (length a + 24) r + 4 → length d2 ≡ sizeOf (length a + 24) r + 4
-        → fit row F c d0 d1 d2 ≡ true
+        → fit row F d0 d1 d2 ≡ true
     encoded {row} {F} row-is F-is d0 d1 d2 l0 l1 l2 =
-        true-encodable row F (length c) (length d0) (length d1) (length d2)
+        true-encodable row F (length d0) (length d1) (length d2)
         (record {
           below = rw row-is (row-below (length a + 24) high r);
-          size = c-long ∙ size-row (length a + 24) high r ∙ ap sizeAt (sym row-is);
-          filler = rw F-is fills;
-          long0 = l0 ∙ ap (λ (k : ℕ). k + 4) (sym c-long);
-          long1 = l1 ∙ ap (λ (k : ℕ). k + 4) (sym c-long);
-          long2 = l2 ∙ ap (λ (k : ℕ). k + 4) (sym c-long);
+          filler = rw (F-is, ← size) (omega (arith, fills, c-long));
+          long0 = l0 ∙ places;
+          long1 = l1 ∙ places;
+          long2 = l2 ∙ places;
         })
+      where
+        size : sizeOf (length a + 24) r ≡ sizeAt row
+        size = size-row (length a + 24) high r ∙ ap sizeAt (sym row-is)
+
+        places : sizeOf (length a + 24) r + 4 ≡ sizeAt row + 4
+        places = ap (λ (k : ℕ). k + 4) size
 
     -- its streams are those of a code block
     matches : Matchable (sizeOf (length a + 24) r + 4) (sizeOf (length a + 24) r + 4) (sizeOf (length a + 24) r + 4) (fillerOf (length a + 24) r) v

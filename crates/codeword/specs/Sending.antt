@@ -25,16 +25,14 @@ pub record Sending (a : List ℕ) (s : Segments) (r v : ℕ) : Type 0 where
   pub version : v ≤ 3
   pub bits : badBits a ≡ false
 
--- rooms of at least the lengths that a code block of K bits and its three streams need
-pub record Spacious (K c d0 d1 d2 : ℕ) : Type 0 where
-  pub bits : K ≤ c
+-- rooms of at least the length that each stream of a code block of K bits needs
+pub record Spacious (K d0 d1 d2 : ℕ) : Type 0 where
   pub first : K + 4 ≤ d0
   pub second : K + 4 ≤ d1
   pub third : K + 4 ≤ d2
 
--- rooms for a code block of K bits and for its three streams
-pub record Roomy (K c d0 d1 d2 : ℕ) : Type 0 where
-  pub bits : c ≡ K
+-- rooms for the three streams of a code block of K bits
+pub record Roomy (K d0 d1 d2 : ℕ) : Type 0 where
   pub first : d0 ≡ K + 4
   pub second : d1 ≡ K + 4
   pub third : d2 ≡ K + 4

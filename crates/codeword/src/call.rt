@@ -69,22 +69,10 @@ fn write_short(block: &[u8], q: usize, n: usize, version: usize, s: Segments, ou
     requires { ⌜ s .long ≤ 128 ⌝ }
     ensures { λ r. ⌜ now (out .exit) ≡ codeword (now (block .entry)) q n version (length (now (out .entry))) ⌝ }
 {
-    let mut c = [0u8; 128];
     let mut d0 = [0u8; 132];
     let mut d1 = [0u8; 132];
     let mut d2 = [0u8; 132];
-    write_in(
-        block,
-        q,
-        n,
-        version,
-        s,
-        &mut c,
-        &mut d0,
-        &mut d1,
-        &mut d2,
-        out,
-    );
+    write_in(block, q, n, version, s, &mut d0, &mut d1, &mut d2, out);
 }
 
 // The same with rooms for a K+ of at most 1,024.
@@ -94,22 +82,10 @@ fn write_middle(block: &[u8], q: usize, n: usize, version: usize, s: Segments, o
     requires { ⌜ s .long ≤ 1024 ⌝ }
     ensures { λ r. ⌜ now (out .exit) ≡ codeword (now (block .entry)) q n version (length (now (out .entry))) ⌝ }
 {
-    let mut c = [0u8; 1024];
     let mut d0 = [0u8; 1028];
     let mut d1 = [0u8; 1028];
     let mut d2 = [0u8; 1028];
-    write_in(
-        block,
-        q,
-        n,
-        version,
-        s,
-        &mut c,
-        &mut d0,
-        &mut d1,
-        &mut d2,
-        out,
-    );
+    write_in(block, q, n, version, s, &mut d0, &mut d1, &mut d2, out);
 }
 
 // The same with rooms for every K+.
@@ -118,22 +94,10 @@ fn write_long(block: &[u8], q: usize, n: usize, version: usize, s: Segments, out
     requires { ⌜ s ≡ segmentsOf (length (now block) + 24) ⌝ }
     ensures { λ r. ⌜ now (out .exit) ≡ codeword (now (block .entry)) q n version (length (now (out .entry))) ⌝ }
 {
-    let mut c = [0u8; 6144];
     let mut d0 = [0u8; 6148];
     let mut d1 = [0u8; 6148];
     let mut d2 = [0u8; 6148];
-    write_in(
-        block,
-        q,
-        n,
-        version,
-        s,
-        &mut c,
-        &mut d0,
-        &mut d1,
-        &mut d2,
-        out,
-    );
+    write_in(block, q, n, version, s, &mut d0, &mut d1, &mut d2, out);
 }
 
 // The same in lent rooms: each code block is written straight into its own stretch of the codeword.
@@ -143,7 +107,6 @@ fn write_in(
     n: usize,
     version: usize,
     s: Segments,
-    c: &mut [u8],
     d0: &mut [u8],
     d1: &mut [u8],
     d2: &mut [u8],
@@ -151,7 +114,7 @@ fn write_in(
 )
     requires { ⌜ Accepted (now block) q n version (length (now out)) ⌝ }
     requires { ⌜ s ≡ segmentsOf (length (now block) + 24) ⌝ }
-    requires { ⌜ Spacious (s .long) (length (now c)) (length (now d0)) (length (now d1)) (length (now d2)) ⌝ }
+    requires { ⌜ Spacious (s .long) (length (now d0)) (length (now d1)) (length (now d2)) ⌝ }
     ensures { λ r. ⌜ now (out .exit) ≡ codeword (now (block .entry)) q n version (length (now (out .entry))) ⌝ }
 {
     let remainder = check_bits::crc24a(block);
@@ -166,7 +129,6 @@ fn write_in(
             s,
             r,
             version,
-            c,
             d0,
             d1,
             d2,
@@ -184,25 +146,22 @@ fn send_within(
     s: Segments,
     r: usize,
     version: usize,
-    c: &mut [u8],
     d0: &mut [u8],
     d1: &mut [u8],
     d2: &mut [u8],
     stretch: &mut [u8],
 )
     requires { ⌜ Sending (now block) s r version ⌝ }
-    requires { ⌜ Spacious (sizeOf (length (now block) + 24) r) (length (now c)) (length (now d0)) (length (now d1)) (length (now d2)) ⌝ }
+    requires { ⌜ Spacious (sizeOf (length (now block) + 24) r) (length (now d0)) (length (now d1)) (length (now d2)) ⌝ }
     ensures { λ _. ⌜ now (stretch .exit) ≡ sentBits (now (block .entry) ++ bitsOf 24 remainder) version r (length (now (stretch .entry))) ⌝ }
 {
-    let k = segmentation::block::size_of(s, r);
-    let d = k + 4;
+    let d = segmentation::block::size_of(s, r) + 4;
     send_in(
         block,
         remainder,
         s,
         r,
         version,
-        &mut c[..k],
         &mut d0[..d],
         &mut d1[..d],
         &mut d2[..d],
@@ -210,26 +169,26 @@ fn send_within(
     );
 }
 
-// The same in lent rooms of the right lengths: one for the code block's K bits, and three for its streams of K + 4 places.
+// The same in lent rooms of the right lengths, K + 4 places for each of the three streams. The code block's bits are put where stream 0 has them.
 fn send_in(
     block: &[u8],
     remainder: u32,
     s: Segments,
     r: usize,
     version: usize,
-    c: &mut [u8],
     d0: &mut [u8],
     d1: &mut [u8],
     d2: &mut [u8],
     stretch: &mut [u8],
 )
     requires { ⌜ Sending (now block) s r version ⌝ }
-    requires { ⌜ Roomy (sizeOf (length (now block) + 24) r) (length (now c)) (length (now d0)) (length (now d1)) (length (now d2)) ⌝ }
+    requires { ⌜ Roomy (sizeOf (length (now block) + 24) r) (length (now d0)) (length (now d1)) (length (now d2)) ⌝ }
     ensures { λ _. ⌜ now (stretch .exit) ≡ sentBits (now (block .entry) ++ bitsOf 24 remainder) version r (length (now (stretch .entry))) ⌝ }
 {
-    segmentation::block::code_block(block, remainder, r, c);
+    let k = d0.len() - 4;
+    segmentation::block::code_block(block, remainder, r, &mut d0[..k]);
     let row = segmentation::block::row_of(s, r);
     let filler = segmentation::block::filler_of(s, r);
-    turbo::encode(row, filler, c, d0, d1, d2);
+    turbo::encode(row, filler, d0, d1, d2);
     rate_matching::rate_match(d0, d1, d2, filler, version, stretch);
 }

@@ -3,11 +3,12 @@
 use mathlib.Core.Path.{_≡_, sym, _∙_, ap, ap₂}
 use mathlib.Core.List.{List}
 use Prim.Native.Nat.{ℕ, zero, suc, _+_, _*_, _/_, _%_, _^_, _≤_, _<_}
-use native.Mathlib.Nat.{add-mul-mod-self-left, add-zero, div-add-mod', mod-add-mod, mod-lt, mul-mod-left}
+use native.Mathlib.Nat.{add-mul-mod-self-left, add-zero, div-add-mod', mod-add-mod, mod-lt}
 use native.Mathlib.Omega.{arith}
-use lib.ListN.{length, getD}
+use lib.ListN.{length, getD, take}
+use lib.Seq.{length-take-le}
 use Rattle.laws.specs.Lists.{tab}
-use Rattle.laws.proofs.Tab.{tab-ext, length-tab, getD-tab}
+use Rattle.laws.proofs.Tab.{tab-ext, length-tab, getD-tab, take-tab}
 use Rattle.interleaver.specs.Place.{quadratic}
 use Rattle.interleaver.specs.Into.{bitBy, bitsBy}
 use Rattle.interleaver.specs.Quarters.{Bits, joined, onFrom, four, fours, digit, spreadOver, Quartered, Countable}
@@ -96,13 +97,6 @@ spread-is {c} {y} {out} {f1} {f2} r k e told = ap (λ (n : ℕ). tab n (spreadOv
             quarter : length c / 4 ≡ length y
             quarter = omega arith
 
--- a quarter of it
-pub quarter-even : {c out : List ℕ} (n : ℕ) → Quartered c out → length c ≡ 4 * n → n % 2 ≡ 0
-quarter-even {c} n r e = let two : n ≡ length c / 8 * 2 = omega (arith, r .eights) in rw two (mul-mod-left (length c / 8) 2)
-
-pub quarter-most : {c out : List ℕ} (n : ℕ) → Quartered c out → length c ≡ 4 * n → n ≤ 1536
-quarter-most n r e = omega (arith, r .most)
-
 -- the same of the lists w and y, as they were left
 module _ {c w out : List ℕ} {f1 f2 : ℕ} (r : Quartered c out) (k : Countable (length c) f1 f2) (joint : w ≡ fours c) where
   size : length w ≡ length c
@@ -111,15 +105,26 @@ module _ {c w out : List ℕ} {f1 f2 : ℕ} (r : Quartered c out) (k : Countable
   pub countable : Countable (length w) f1 f2
   countable = rw size k
 
-  pub found-spread : (n : ℕ) {y : List ℕ} → length c ≡ 4 * n → y ≡ tab n (bitBy (length w) f1 f2 w)
-      → tab (4 * length y) (spreadOver f1 y) ≡ bitsBy (length c) f1 f2 c
-  found-spread n {y} e s = spread-is r k (rw long e) told
+  -- a quarter of them, of which some more may have been found
+  pub found-spread : (n : ℕ) {y : List ℕ} → length c ≤ 4 * n → y ≡ tab n (bitBy (length w) f1 f2 w)
+      → tab (4 * length (take (length c / 4) y)) (spreadOver f1 (take (length c / 4) y)) ≡ bitsBy (length c) f1 f2 c
+  found-spread n {y} e s = spread-is r k (rw long (omega (arith, r .eights))) told
     where
-      long : length y ≡ n
-      long = ap length s ∙ length-tab n (bitBy (length w) f1 f2 w)
+      q : ℕ
+      q = length c / 4
 
-      told : y ≡ tab (length y) (bitBy (length c) f1 f2 (fours c))
+      quarter : take q y ≡ tab q (bitBy (length w) f1 f2 w)
+      quarter = ap (take q) s ∙ take-tab q n (bitBy (length w) f1 f2 w) (omega arith)
+
+      long : length (take q y) ≡ q
+      long = ap length quarter ∙ length-tab q (bitBy (length w) f1 f2 w)
+
+      told : take q y ≡ tab (length (take q y)) (bitBy (length c) f1 f2 (fours c))
       told =
-          s
-          ∙ ap (λ (l : List ℕ). tab n (bitBy (length l) f1 f2 l)) joint
+          quarter
+          ∙ ap (λ (l : List ℕ). tab q (bitBy (length l) f1 f2 l)) joint
           ∙ ap₂ (λ (m K : ℕ). tab m (bitBy K f1 f2 (fours c))) (sym long) (length-fours c)
+
+  -- and that there are as many
+  pub quarter-found : (n : ℕ) (y : List ℕ) → length c ≤ 4 * n → length y ≡ n → (length c / 4 ≤ length y) × (length c ≡ 4 * length (take (length c / 4) y))
+  quarter-found n y e l = (omega arith, omega (arith, r .eights, length-take-le (length c / 4) y (omega arith)))

@@ -23,29 +23,30 @@ pub(crate) fn all_bits(c: &[u8]) -> bool
     seen < 2
 }
 
-// The interleaved bits of `c` over `out`, with a room of a quarter's length.
+// The interleaved bits of `c` over `out`, with a room of a quarter's length, or two more, so that it is found four at a time.
 pub(crate) fn interleave_bits(f1: usize, f2: usize, c: &[u8], out: &mut [u8])
     requires { ⌜ Quartered (now c) (now out) × Countable (length (now c)) f1 f2 ⌝ }
     ensures { λ _. ⌜ now (out .exit) ≡ bitsBy (length (now (c .entry))) f1 f2 (now (c .entry)) ⌝ }
 {
-    let q = c.len() / 4;
-    if q <= 64 {
+    let n = (c.len() / 4 + 3) / 4 * 4;
+    if n <= 64 {
         let mut y = [0u8; 64];
-        by_fours(f1, f2, c, &mut y[..q], out);
+        by_fours(f1, f2, c, &mut y[..n], out);
     } else {
         let mut y = [0u8; 1536];
-        by_fours(f1, f2, c, &mut y[..q], out);
+        by_fours(f1, f2, c, &mut y[..n], out);
     }
 }
 
 // The same in a lent room `y`. The joined bits stand in `out` until they are found.
 fn by_fours(f1: usize, f2: usize, c: &[u8], y: &mut [u8], out: &mut [u8])
-    requires { ⌜ Quartered (now c) (now out) × Countable (length (now c)) f1 f2 × (length (now c) ≡ 4 * length (now y)) ⌝ }
+    requires { ⌜ Quartered (now c) (now out) × Countable (length (now c)) f1 f2 × (length (now c) ≤ 4 * length (now y)) × (length (now y) % 4 ≡ 0) × (length (now y) ≤ 1536) ⌝ }
     ensures { λ _. ⌜ now (out .exit) ≡ bitsBy (length (now (c .entry))) f1 f2 (now (c .entry)) ⌝ }
 {
     join_all(c, out);
     find(f1, f2, out, y);
-    spread_all(f1, y, out);
+    let q = c.len() / 4;
+    spread_all(f1, &y[..q], out);
 }
 
 // At each place the bits there and one, two and three quarters on, joined.
@@ -80,30 +81,44 @@ fn join(c: &[u8], a: usize, b: usize, d: usize, e: usize, part: &mut [u8])
     }
 }
 
-// The entries of `w` at Π(0), Π(1), .., two a turn, so that neither waits for the other: p is Π(i) and r is Π(i + 1), and g and h are what
-// takes them back, modulo K, to Π(i + 2) and Π(i + 3). Each shrinks by 8·f2.
+// The entries of `w` at Π(0), Π(1), .., four a turn, so that none waits for another: p0 to p3 are Π(i) to Π(i + 3), and g0 to g3 are what takes
+// them back, modulo K, to Π(i + 4) to Π(i + 7). Each shrinks by 32·f2.
 fn find(f1: usize, f2: usize, w: &[u8], y: &mut [u8])
-    requires { ⌜ Countable (length (now w)) f1 f2 × (length (now y) % 2 ≡ 0) × (length (now y) ≤ 1536) ⌝ }
+    requires { ⌜ Countable (length (now w)) f1 f2 × (length (now y) % 4 ≡ 0) × (length (now y) ≤ 1536) ⌝ }
     ensures { λ _. ⌜ now (y .exit) ≡ tab (length (now (y .entry))) (bitBy (length (now (w .entry))) f1 f2 (now (w .entry))) ⌝ }
 {
     let k = w.len();
     let two = plus(f2, f2, k);
     let four = plus(two, two, k);
-    let step = plus(four, four, k);
-    let way = plus(f1, f1, k);
-    let mut g = k - plus(way, four, k);
-    let mut h = k - plus(way, step, k);
-    let mut p = 0;
-    let mut r = plus(f1, f2, k);
+    let eight = plus(four, four, k);
+    let sixteen = plus(eight, eight, k);
+    let step = plus(sixteen, sixteen, k);
+    let twice = plus(f1, f1, k);
+    let way = plus(plus(twice, twice, k), sixteen, k);
+    let next = plus(way, eight, k);
+    let mut g0 = k - way;
+    let mut g1 = k - next;
+    let mut g2 = k - plus(way, sixteen, k);
+    let mut g3 = k - plus(next, sixteen, k);
+    let mut p0 = 0;
+    let mut p1 = plus(f1, f2, k);
+    let mut p2 = plus(twice, four, k);
+    let mut p3 = plus(plus(p1, p2, k), four, k);
     let mut i = 0;
     while i < y.len() {
-        y[i] = w[p];
-        y[i + 1] = w[r];
-        p = back(p, g, k);
-        r = back(r, h, k);
-        g = back(g, step, k);
-        h = back(h, step, k);
-        i += 2;
+        y[i] = w[p0];
+        y[i + 1] = w[p1];
+        y[i + 2] = w[p2];
+        y[i + 3] = w[p3];
+        p0 = back(p0, g0, k);
+        p1 = back(p1, g1, k);
+        p2 = back(p2, g2, k);
+        p3 = back(p3, g3, k);
+        g0 = back(g0, step, k);
+        g1 = back(g1, step, k);
+        g2 = back(g2, step, k);
+        g3 = back(g3, step, k);
+        i += 4;
     }
 }
 

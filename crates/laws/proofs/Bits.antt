@@ -22,9 +22,6 @@ xor-parity a b = omega (arith, xor-add-and a b)
 pub xor-bit-lt : (a b : ℕ) → a < 2 → b < 2 → bitXor a b < 2
 xor-bit-lt a b h l = xor-lt 1 a b h l
 
-pub xor-bit : (a b : ℕ) → a < 2 → b < 2 → bitXor a b ≡ (a + b) % 2
-xor-bit a b h l = omega (arith, xor-parity a b, xor-bit-lt a b h l)
-
 by-halves : (x y : ℕ) → x / 2 ≡ y / 2 → x % 2 ≡ y % 2 → x ≡ y
 by-halves x y e f = omega arith
 

@@ -2,7 +2,7 @@
 -- Assumes nothing.
 use mathlib.Core.Path.{_≡_, refl, ap, ap₂}
 use mathlib.Core.Bool.{Bool, true, false}
-use mathlib.Core.List.{List, [], _∷_, _++_, map}
+use mathlib.Core.List.{List, [], _∷_, _++_}
 use Prim.Native.Nat.{ℕ, zero, suc, _≤_, _<_}
 use native.Mathlib.Nat.{not-suc-le-zero, le-of-suc-le-suc}
 use native.Mathlib.Omega.{arith}
@@ -50,15 +50,6 @@ keep-passes p (x ∷ xs) i d h = go (p x) refl (keep p xs) (λ j l. keep-passes 
     go true e l f zero h = e
     go true e l f (suc i) h = f i (le-of-suc-le-suc h)
     go false e l f i h = f i h
-
-pub keep-map : (p : ℕ → Bool) (f : ℕ → ℕ) (xs : List ℕ) → keep p (map f xs) ≡ map f (keep (λ (x : ℕ). p (f x)) xs)
-unfolding keep
-keep-map p f [] = refl
-keep-map p f (x ∷ xs) = go (p (f x)) (keep (λ (y : ℕ). p (f y)) xs) (keep-map p f xs)
-  where
-    go : (b : Bool) {l : List ℕ} (r : List ℕ) → l ≡ map f r → picked b (f x) l ≡ map f (picked b x r)
-    go true r e = ap (λ (l : List ℕ). f x ∷ l) e
-    go false r e = e
 
 -- two tests that agree on the list's entries
 pub keep-ext : (p q : ℕ → Bool) (xs : List ℕ) → ((i : ℕ) → i < length xs → p (getD xs i 0) ≡ q (getD xs i 0)) → keep p xs ≡ keep q xs

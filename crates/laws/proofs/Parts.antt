@@ -3,12 +3,12 @@
 -- In a Proof file: `returns c = put-as _ _ _ (c … .CALLEE .ensures) (omega arith) ∙ ..`, then `put-is`, `length-mid` or `length-put`; a
 -- `Need-slice-aggregate` of `&mut s[..b]` or `&s[..b]` is `front-count _ _ (omega arith)`.
 -- Assumes nothing.
-use mathlib.Core.Path.{_≡_, sym, _∙_, ap}
-use mathlib.Core.List.{List, _++_}
+use mathlib.Core.Path.{_≡_, sym, _∙_, ap, ap₂}
+use mathlib.Core.List.{List, _++_, append-nil}
 use Prim.Native.Nat.{ℕ, _+_, _-_, _≤_, _<_}
 use native.Mathlib.Omega.{arith}
-use lib.ListN.{length, getD, take, drop, List·getD-append}
-use lib.Seq.{length-take-le, getD-take, getD-drop, getD-append-add}
+use lib.ListN.{length, getD, take, drop, replicate, length-append, length-replicate, List·getD-append}
+use lib.Seq.{length-take-le, take-at, drop-length, getD-take, getD-drop, getD-append-add}
 use borrow.Rule.Slice.PartMut.{midOf, putMid, same-len-mid, mid-len, post-is, drop-put}
 
 module _ {A : Type 0} where
@@ -23,6 +23,10 @@ module _ {A : Type 0} where
   -- the count of a front part
   pub front-count : (b : ℕ) (xs : List A) → b ≤ length xs → b ≡ length (take b xs)
   front-count b xs h = sym (length-take-le b xs h)
+
+  -- and that of a fresh room of N entries
+  pub fresh-count : (x : A) (N b : ℕ) → b ≤ N → b ≡ length (take b (replicate N x))
+  fresh-count x N b h = front-count b (replicate N x) (rw (length-replicate N x) h)
 
   -- ---- the whole, when the part is back
 
@@ -56,3 +60,21 @@ module _ {A : Type 0} where
     where
       place : i ≡ b + (i - b)
       place = omega arith
+
+  -- ---- the front came back as `first`, and the rest is lent
+
+  module _ (first rest : List A) (n : ℕ) (e : length first ≡ n) where
+    fits : n ≤ length (first ++ rest)
+    fits = omega (arith, length-append first rest)
+
+    pub rest-lent : length (midOf n (length (first ++ rest) - n) (first ++ rest)) ≡ length rest
+    rest-lent = length-mid n (length (first ++ rest)) (first ++ rest) (omega arith) ∙ left
+      where
+        left : length (first ++ rest) - n ≡ length rest
+        left = omega (arith, length-append first rest)
+
+    pub rest-back : (second : List A) → putMid n (length (first ++ rest) - n) (first ++ rest) second ≡ first ++ second
+    rest-back second =
+        put-is n (length (first ++ rest)) (first ++ rest) second fits
+        ∙ ap₂ (λ (a b : List A). a ++ (second ++ b)) (take-at first rest n e) (drop-length (first ++ rest))
+        ∙ ap (λ (l : List A). first ++ l) (append-nil second)

@@ -1,14 +1,14 @@
--- Laws of lists given by a rule on the index (`tabFrom`, `tab`): length, entries, joining, one entry more at either end.
+-- Laws of lists given by a rule on the index (`tabFrom`, `tab`): length, entries, joining, front.
 -- In a loop that writes f i at place i: `tab-rest` is what is to come at the start, `rest-more` one turn, `rest-none` the end.
 -- Assumes nothing.
 use mathlib.Core.Path.{_≡_, refl, sym, _∙_, ap}
 use mathlib.Core.List.{List, [], _∷_, _++_, map}
 use Prim.Native.Nat.{ℕ, zero, suc, _+_, _-_, _≤_, _<_}
-use native.Mathlib.Nat.{add-zero, zero-add, add-suc, suc-add, add-comm}
+use native.Mathlib.Nat.{add-zero, zero-add, add-suc, suc-add}
 use native.Mathlib.Numerals.{add-one}
 use native.Mathlib.Omega.{arith}
-use lib.ListN.{length, getD}
-use lib.Seq.{ext-getD}
+use lib.ListN.{length, getD, take}
+use lib.Seq.{ext-getD, take-at}
 use Rattle.laws.specs.Lists.{tab, tabFrom}
 
 pub length-tabFrom : (i n : ℕ) (f : ℕ → ℕ) → length (tabFrom i n f) ≡ n
@@ -54,6 +54,16 @@ pub length-tab : (n : ℕ) (f : ℕ → ℕ) → length (tab n f) ≡ n
 unfolding tab
 length-tab n f = length-tabFrom 0 n f
 
+pub take-tab : (m n : ℕ) (f : ℕ → ℕ) → m ≤ n → take m (tab n f) ≡ tab m f
+unfolding tab
+take-tab m n f h =
+    ap (λ (k : ℕ). take m (tabFrom 0 k f)) sum
+    ∙ ap (take m) (tabFrom-split 0 m (n - m) f)
+    ∙ take-at (tabFrom 0 m f) (tabFrom (0 + m) (n - m) f) m (length-tabFrom 0 m f)
+  where
+    sum : n ≡ m + (n - m)
+    sum = omega arith
+
 pub getD-tab : (n : ℕ) (f : ℕ → ℕ) (i d : ℕ) → i < n → getD (tab n f) i d ≡ f i
 unfolding tab
 getD-tab n f i d h = getD-tabFrom 0 n f i d h ∙ ap f (zero-add i)
@@ -67,26 +77,9 @@ pub tab-split : (m n : ℕ) (f : ℕ → ℕ) → tab (m + n) f ≡ tab m f ++ t
 unfolding tab
 tab-split m n f = tabFrom-split 0 m n f ∙ ap (λ (l : List ℕ). tabFrom 0 m f ++ l) (ap (λ (k : ℕ). tabFrom k n f) (zero-add m ∙ sym (add-zero m)) ∙ tabFrom-shift m 0 n f)
 
--- one entry more at the end
-pub tab-more : (n : ℕ) (f : ℕ → ℕ) → tab (n + 1) f ≡ tab n f ++ (f n ∷ [])
-unfolding tab tabFrom
-tab-more n f = tabFrom-split 0 n 1 f ∙ ap (λ (k : ℕ). tabFrom 0 n f ++ (f k ∷ [])) (zero-add n)
-
--- one entry more at the front
-pub tab-front : (n : ℕ) (f : ℕ → ℕ) → tab (n + 1) f ≡ f 0 ∷ tab n (λ (k : ℕ). f (k + 1))
-unfolding tab tabFrom
-tab-front n f =
-    ap (λ (k : ℕ). tabFrom 0 k f) (add-one n)
-    ∙ ap (λ (l : List ℕ). f 0 ∷ l) (tabFrom-shift 1 0 n f ∙ tabFrom-ext 0 n (λ (k : ℕ). f (1 + k)) (λ (k : ℕ). f (k + 1)) (λ k a b. ap f (add-comm 1 k)))
-
 pub map-tab : (n : ℕ) (f g : ℕ → ℕ) → map g (tab n f) ≡ tab n (λ (k : ℕ). g (f k))
 unfolding tab
 map-tab n f g = map-tabFrom 0 n f g
-
--- a list by its own entries
-pub tab-getD : (l : List ℕ) → tab (length l) (λ (i : ℕ). getD l i 0) ≡ l
-tab-getD l = ext-getD 0 (tab (length l) (λ (i : ℕ). getD l i 0)) l (length-tab (length l) (λ (i : ℕ). getD l i 0))
-    (λ i h. getD-tab (length l) (λ (k : ℕ). getD l k 0) i 0 (rw length-tab at h))
 
 -- a list whose entries follow a rule
 pub tab-of : (l : List ℕ) (n : ℕ) (f : ℕ → ℕ) → length l ≡ n → ((i : ℕ) → i < n → getD l i 0 ≡ f i) → l ≡ tab n f

@@ -5,8 +5,6 @@ pub mod Circle
 pub mod Kept
 pub mod Walk
 pub mod MatcherRooms
-pub mod MatcherPadded
-pub mod MatcherColumns
 pub mod MatcherTurns
 pub mod ShapeTurn
 pub mod ShapeColumns

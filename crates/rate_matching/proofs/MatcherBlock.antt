@@ -14,9 +14,8 @@ use Rattle.rate_matching.specs.Circle.{circleLength, circle, startOf}
 use Rattle.rate_matching.specs.Places.{longest}
 use Rattle.rate_matching.specs.Walk.{onCircle, turn, turnAfterTurn, sentPlaces, selected}
 use Rattle.rate_matching.specs.Shape.{shape}
-use Rattle.rate_matching.specs.Units.{unitsFrom, unitStart, startUnit, Fitting, PutTo}
+use Rattle.rate_matching.specs.Units.{unitsFrom, unitStart, startUnit, Fitting, Holds, ringRoom, PutTo}
 use Rattle.rate_matching.specs.Matcher.{matchable, sentOf, matchedInto}
-use Rattle.rate_matching.proofs.Circle.{start-lt}
 use Rattle.rate_matching.proofs.Walk.{sent-map}
 use Rattle.rate_matching.proofs.ShapeTurn.{turn-some}
 use Rattle.rate_matching.proofs.Alike.{Filled, shape-filled, same-sent}
@@ -63,11 +62,6 @@ matchable-is {D} {D1} {D2} m =
       le-leb _ _ (m .version),
     )
 
--- a place with the number of a version's start lies on a circle of m entries
-pub begun : (R v : ℕ) {at m : ℕ} → 0 < R → v ≤ 3 → at ≡ startOf R v → 96 * R ≡ m → at ≤ m
-unfolding circleLength
-begun R v p h e l = omega (arith, start-lt R v p h)
-
 -- ---- nothing to send, and nothing that can be sent
 
 pub nothing-is : (d0 d1 d2 : List ℕ) (F v : ℕ) (out : List ℕ) → length out ≡ 0 → out ≡ matchedInto d0 d1 d2 F v out
@@ -85,30 +79,35 @@ refused-is d0 d1 d2 F v out t = rw t
 
 -- ---- the room for the ring
 
--- streams of at most R rows
-pub room-fits : (R D : ℕ) → D ≤ 32 * R → 96 * rows D ≤ 96 * R
-unfolding rows
-room-fits R D h = omega arith
+-- a ring with as many places as `ringRoom` tells
+pub room-holds : (R E : ℕ) {m : ℕ} → ringRoom R E ≤ m → Holds R E (circleLength R) m
+unfolding ringRoom
+room-holds R E {m} h = record { fits = go (ltb (E + 2 * R) (circleLength R)) refl h }
+  where
+    go : (t : Bool) → ltb (E + 2 * R) (circleLength R) ≡ t → cond t (E + 2 * R) (circleLength R) ≤ m → m < E + 2 * R → circleLength R ≤ m
+    go true t a l = absurd (omega arith)
+    go false t a l = a
+
+-- or with those of the largest circle
+pub longest-holds : (D E : ℕ) → D ≤ longest → Holds (rows D) E (circleLength (rows D)) 18528
+unfolding rows circleLength
+longest-holds D E h = record { fits = λ l. omega arith }
 
 pub unit-below : (v : ℕ) {s : ℕ} → v ≤ 3 → s ≡ startUnit v → s ≤ 64
 unit-below v h e = rw e (start-below v h)
 
 module _ (R v : ℕ) {s : ℕ} (h : v ≤ 3) (e : s ≡ startUnit v) where
   -- the units up to the start and those from it on are the whole circle
-  whole : unitStart R 64 - unitStart R s + (unitStart R s - unitStart R 0) ≡ 96 * R
-  unfolding circleLength
+  whole : unitStart R 64 - unitStart R s + (unitStart R s - unitStart R 0) ≡ circleLength R
   whole = omega (arith, starts-rise R s 64 (unit-below v h e), unit-last R, low-start R 0 (omega arith))
 
-  pub first-room : {m : ℕ} → 96 * R ≤ m → 0 + (unitStart R 64 - unitStart R s) ≤ m
-  first-room l = omega (arith, whole)
+  module _ {most m : ℕ} (l : Holds R most (circleLength R) m) where
+    pub first-room : Holds R most (0 + (unitStart R 64 - unitStart R s)) m
+    first-room = record { fits = λ g. omega (arith, whole, l .fits g) }
 
-  module _ {most : ℕ} {xs ring₀ ring₁ : List ℕ} {n : ℕ} (l : 96 * R ≤ length ring₀) (p : PutTo most xs (unitStart R 64 - unitStart R s) ring₀ 0 ring₁ n)
-      (k : length ring₁ ≡ length ring₀) where
-    pub second-room : n + (unitStart R s - unitStart R 0) ≤ length ring₁
-    second-room = omega (arith, whole, p .within)
-
-    pub ring-ends : {ys ring₂ : List ℕ} {r : ℕ} → PutTo most ys (unitStart R s - unitStart R 0) ring₁ n ring₂ r → length ring₂ ≡ length ring₁ → r ≤ length ring₂
-    ring-ends q j = omega (arith, whole, p .within, q .within)
+    pub second-room : {xs ring₀ ring₁ : List ℕ} {n k : ℕ} → PutTo most xs (unitStart R 64 - unitStart R s) ring₀ 0 ring₁ n → k ≡ m
+        → Holds R most (n + (unitStart R s - unitStart R 0)) k
+    second-room p e = rw e record { fits = λ g. omega (arith, whole, p .within, l .fits g) }
 
 -- ---- the stages put together
 

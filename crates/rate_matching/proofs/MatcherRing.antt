@@ -1,4 +1,4 @@
--- Laws of the matcher's ring: the bits of columns and of units put into it one after another, until there are as many as are sent.
+-- Laws of the matcher's loops and of its ring: the bits of columns and of units put into it one after another, until there are as many as are sent.
 -- Assumes nothing.
 use mathlib.Core.Path.{_≡_, refl, sym, _∙_, ap, subst}
 use mathlib.Core.Bool.{Bool, true, false, cond, _&&_, and-eq-true-iff}
@@ -21,11 +21,20 @@ use Rattle.laws.proofs.Tab.{length-tab, tab-ext, tab-rest, rest-more}
 use Rattle.laws.proofs.Writing.{Writing, start, same, push}
 use Rattle.rate_matching.specs.Walk.{turnAfterTurn}
 use Rattle.rate_matching.specs.Columns.{columnTable, column}
-use Rattle.rate_matching.specs.SubBlocks.{rows, dummies}
-use Rattle.rate_matching.specs.Units.{everyRow, pairRow, firstRow, columnBits, pairBits, unitBits, unitsFrom, unitStart, Laid, Fitting, Put, PutTo}
+use Rattle.rate_matching.specs.SubBlocks.{rows, dummies, rowsBefore}
+use Rattle.rate_matching.specs.Units.{everyRow, pairRow, columnBits, pairBits, unitBits, unitsFrom, unitStart, Laid, Fitting, Holds, Put, PutTo}
 use Rattle.rate_matching.proofs.Columns.{column-rule}
 use Rattle.rate_matching.proofs.Places.{dummies-lt, dummies-add}
 use Rattle.rate_matching.proofs.Units.{some-dummies, low-next, high-next, starts-rise}
+
+-- ---- a column: place `at` is row q
+
+pub column-next : (y : List ℕ) (from : ℕ) {part₀ part : List ℕ} {at q : ℕ} → at ≡ from + 32 * q → q < length part → length part ≡ length part₀
+    → Writing part₀ part q (tabFrom q (length part₀ - q) (everyRow y from)) (tab (length part₀) (everyRow y from))
+    → Writing part₀ (set part q (getD y at 0)) (q + 1) (tabFrom (q + 1) (length part₀ - (q + 1)) (everyRow y from)) (tab (length part₀) (everyRow y from))
+unfolding everyRow
+column-next y from {part₀} {part} {at} {q} e h l w =
+    push h (same (rest-more q (length part₀) (everyRow y from) (omega arith) ∙ ap (λ (a : ℕ). getD y a 0 ∷ tabFrom (q + 1) (length part₀ - (q + 1)) (everyRow y from)) (sym e)) w)
 
 -- ---- two columns by turns: k entries are written, k even
 
@@ -117,8 +126,8 @@ pub record Rowed (D F p R dm e f : ℕ) : Type 0 where
   pub filler : F < D
   pub column : p < 32
 
-pub rowed : {D F p e f : ℕ} → Laid D F p → e ≡ firstRow (dummies D - 1) p → f ≡ firstRow (dummies D + F) p → Rowed D F p (rows D) (dummies D) e f
-unfolding firstRow
+pub rowed : {D F p e f : ℕ} → Laid D F p → e ≡ rowsBefore (dummies D) (p + 1) → f ≡ rowsBefore (dummies D + F) p → Rowed D F p (rows D) (dummies D) e f
+unfolding rowsBefore
 rowed {D} {F} {p} {e} {f} l a b = record {
   some = some-dummies D (l .some);
   sum = dummies-add D;
@@ -167,7 +176,7 @@ module _ {D F p R dm e f : ℕ} (r : Rowed D F p R dm e f) (n : ℕ) (ring : Lis
           × (p + 32 * f - dm + 32 * (length (midOf (n + (f - e)) (n + (f - e) + (2 * (R - f) - p / 31) - (n + (f - e))) (putMid n (n + (f - e) - n) ring part)) / 2) ≤ D2 + 30)
       pairs-ask a = rw lent (omega (arith, r .sum, r .high, r .behind, r .column, r .last), omega (arith, a, r .sum, r .high, r .behind, r .column, r .last))
 
-module _ {D F p n e f : ℕ} (ring : List ℕ) (l : Laid D F p) (a : e ≡ firstRow (dummies D - 1) p) (b : f ≡ firstRow (dummies D + F) p) where
+module _ {D F p n e f : ℕ} (ring : List ℕ) (l : Laid D F p) (a : e ≡ rowsBefore (dummies D) (p + 1)) (b : f ≡ rowsBefore (dummies D + F) p) where
   pub put-column : (d part : List ℕ) → n + rows D ≤ length ring
       → part ≡ tab (length (midOf n (n + (rows D - f) - n) ring)) (everyRow d (p + 32 * f - dummies D))
       → Put (columnBits D d F p) ring n (putMid n (n + (rows D - f) - n) ring part) (n + (rows D - f))
@@ -183,7 +192,7 @@ module _ {D F p n e f : ℕ} (ring : List ℕ) (l : Laid D F p) (a : e ≡ first
       → Put (pairBits D d1 d2 F p) ring n (putMid (n + (f - e)) (n + (f - e) + (2 * (rows D - f) - p / 31) - (n + (f - e))) (putMid n (n + (f - e) - n) ring part) pairs) (n + (f - e) + (2 * (rows D - f) - p / 31))
   unfolding pairBits
   put-pairs d1 d2 part pairs h s t =
-      subst (λ (g : ℕ). Put (tab (g - firstRow (dummies D - 1) p) (everyRow d2 (p + 1 + 32 * firstRow (dummies D - 1) p - dummies D)) ++ tab (2 * (rows D - g) - p / 31) (pairRow d1 d2 (p + 32 * g - dummies D))) ring n all end) b
+      subst (λ (g : ℕ). Put (tab (g - rowsBefore (dummies D) (p + 1)) (everyRow d2 (p + 1 + 32 * rowsBefore (dummies D) (p + 1) - dummies D)) ++ tab (2 * (rows D - g) - p / 31) (pairRow d1 d2 (p + 32 * g - dummies D))) ring n all end) b
       (subst (λ (g : ℕ). Put (tab (f - g) (everyRow d2 (p + 1 + 32 * g - dummies D)) ++ tab (2 * (rows D - f) - p / 31) (pairRow d1 d2 (p + 32 * f - dummies D))) ring n all end) a
       (put-join (put-part n mid ring (f - e) (everyRow d2 (p + 1 + 32 * e - dummies D)) refl (omega (arith, r)) s)
       (put-part mid end (putMid n (mid - n) ring part) (2 * (rows D - f) - p / 31) (pairRow d1 d2 (p + 32 * f - dummies D)) refl long t)))
@@ -246,10 +255,10 @@ unit-few D F u d0 d1 d2 l = go (ltb u 32) refl
     p = column (u % 32)
 
     e : ℕ
-    e = firstRow (dummies D - 1) p
+    e = rowsBefore (dummies D) (p + 1)
 
     f : ℕ
-    f = firstRow (dummies D + F) p
+    f = rowsBefore (dummies D + F) p
 
     go : (t : Bool) → ltb u 32 ≡ t → length (cond t (columnBits D d0 F p) (pairBits D d1 d2 F p)) ≤ unitStart (rows D) (u + 1) - unitStart (rows D) u
     go true t = omega (arith, low-next (rows D) u (ltb-true u 32 t), length-tab (rows D - f) (everyRow d0 (p + 32 * f - dummies D)))
@@ -258,6 +267,13 @@ unit-few D F u d0 d1 d2 l = go (ltb u 32) refl
         let m : ℕ = 2 * (rows D - f) - p / 31 in
         omega (arith, r .alone, r .high, high-next (rows D) u (ltb-false u 32 t), length-append (tab (f - e) (everyRow d2 (p + 1 + 32 * e - dummies D))) (tab m (pairRow d1 d2 (p + 32 * f - dummies D))), length-tab (f - e) (everyRow d2 (p + 1 + 32 * e - dummies D)), length-tab m (pairRow d1 d2 (p + 32 * f - dummies D)))
 
+pub unit-most : (R u : ℕ) → unitStart R (u + 1) - unitStart R u ≤ 2 * R
+unit-most R u = go (ltb u 32) refl
+  where
+    go : (t : Bool) → ltb u 32 ≡ t → unitStart R (u + 1) - unitStart R u ≤ 2 * R
+    go true t = omega (arith, low-next R u (ltb-true u 32 t))
+    go false t = omega (arith, high-next R u (ltb-false u 32 t))
+
 -- ---- unit after unit
 
 -- the units from `from` to u are put, up to place end
@@ -265,25 +281,40 @@ pub record Filling (D : ℕ) (d0 d1 d2 : List ℕ) (F from to : ℕ) (ring₀ : 
   pub long : length ring ≡ length ring₀
   pub passed : (from ≤ u) × (u ≤ to)
   pub within : end + unitStart (rows D) from ≤ n + unitStart (rows D) u
+  pub inside : end ≤ length ring
   pub told : take end ring ++ unitsFrom D d0 d1 d2 F u (to - u) ≡ take n ring₀ ++ unitsFrom D d0 d1 d2 F from (to - from)
 
 module _ {D : ℕ} {d0 d1 d2 : List ℕ} {F from to : ℕ} {ring₀ : List ℕ} {n : ℕ} where
-  pub filling-start : from ≤ to → Filling D d0 d1 d2 F from to ring₀ n ring₀ n from
-  filling-start h = record { long = refl; passed = (omega arith, h); within = omega arith; told = refl }
+  pub filling-start : from ≤ to → n ≤ length ring₀ → Filling D d0 d1 d2 F from to ring₀ n ring₀ n from
+  filling-start h l = record { long = refl; passed = (omega arith, h); within = omega arith; inside = l; told = refl }
 
   module _ {ring : List ℕ} {end u : ℕ} (f : Filling D d0 d1 d2 F from to ring₀ n ring end u) where
     -- there is room for the next unit
-    pub filling-room : u < to → n + (unitStart (rows D) to - unitStart (rows D) from) ≤ length ring₀
+    pub filling-room : {most : ℕ} → u < to → end < most → Holds (rows D) most (n + (unitStart (rows D) to - unitStart (rows D) from)) (length ring₀)
         → end + (unitStart (rows D) (u + 1) - unitStart (rows D) u) ≤ length ring
-    filling-room h l = omega (arith, f .within, f .long, starts-rise (rows D) u (u + 1) (omega arith), starts-rise (rows D) (u + 1) to (omega arith), starts-rise (rows D) from u (f .passed .0))
+    filling-room {most} h below r = go (ltb (length ring₀) (most + 2 * rows D)) refl
+      where
+        go : (t : Bool) → ltb (length ring₀) (most + 2 * rows D) ≡ t → end + (unitStart (rows D) (u + 1) - unitStart (rows D) u) ≤ length ring
+        go true t =
+            omega (
+              arith,
+              r .fits (ltb-true (length ring₀) (most + 2 * rows D) t),
+              f .within,
+              f .long,
+              starts-rise (rows D) u (u + 1) (omega arith),
+              starts-rise (rows D) (u + 1) to (omega arith),
+              starts-rise (rows D) from u (f .passed .0),
+            )
+        go false t = omega (arith, ltb-false (length ring₀) (most + 2 * rows D) t, f .long, unit-most (rows D) u)
 
     pub filling-next : {ring′ : List ℕ} {r : ℕ} → u < to → length (unitBits D d0 d1 d2 F u) ≤ unitStart (rows D) (u + 1) - unitStart (rows D) u
-        → length ring′ ≡ length ring → Put (unitBits D d0 d1 d2 F u) ring end ring′ r → Filling D d0 d1 d2 F from to ring₀ n ring′ r (u + 1)
+        → end + (unitStart (rows D) (u + 1) - unitStart (rows D) u) ≤ length ring → length ring′ ≡ length ring → Put (unitBits D d0 d1 d2 F u) ring end ring′ r → Filling D d0 d1 d2 F from to ring₀ n ring′ r (u + 1)
     unfolding unitsFrom
-    filling-next {ring′} {r} h few l p = record {
+    filling-next {ring′} {r} h few room l p = record {
       long = l ∙ f .long;
       passed = (omega (arith, f .passed .0), omega arith);
       within = omega (arith, f .within, p .ends, starts-rise (rows D) u (u + 1) (omega arith));
+      inside = omega (arith, p .ends);
       told = ap (λ (x : List ℕ). x ++ unitsFrom D d0 d1 d2 F (u + 1) (to - (u + 1))) (p .told)
           ∙ append-assoc (take end ring) (unitBits D d0 d1 d2 F u) (unitsFrom D d0 d1 d2 F (u + 1) (to - (u + 1)))
           ∙ ap (λ (x : List ℕ). take end ring ++ x) (sym next)
@@ -295,9 +326,6 @@ module _ {D : ℕ} {d0 d1 d2 : List ℕ} {F from to : ℕ} {ring₀ : List ℕ} 
             let one : to - u ≡ suc (to - (u + 1)) = omega arith in
             ap (unitsFrom D d0 d1 d2 F u) one ∙ ap (λ (k : ℕ). unitBits D d0 d1 d2 F u ++ unitsFrom D d0 d1 d2 F k (to - (u + 1))) (sym (add-one u))
 
-    ends : n + (unitStart (rows D) to - unitStart (rows D) from) ≤ length ring₀ → end ≤ length ring
-    ends l = omega (arith, f .within, f .long, starts-rise (rows D) u to (f .passed .1))
-
     reached : end ≤ n + (unitStart (rows D) to - unitStart (rows D) from)
     reached = omega (arith, f .within, starts-rise (rows D) u to (f .passed .1), starts-rise (rows D) from u (f .passed .0))
 
@@ -307,31 +335,33 @@ module _ {D : ℕ} {d0 d1 d2 : List ℕ} {F from to : ℕ} {ring₀ : List ℕ} 
     unfolding unitsFrom
     filling-all most h = record {
       within = reached;
+      inside = f .inside;
       told = ap (take most) (sym (append-nil (take end ring)) ∙ ap (λ (k : ℕ). take end ring ++ unitsFrom D d0 d1 d2 F u k) none ∙ f .told);
     }
       where
         none : 0 ≡ to - u
         none = omega arith
 
-    filling-enough : (most : ℕ) → most ≤ end → n + (unitStart (rows D) to - unitStart (rows D) from) ≤ length ring₀
+    filling-enough : (most : ℕ) → most ≤ end
         → PutTo most (unitsFrom D d0 d1 d2 F from (to - from)) (unitStart (rows D) to - unitStart (rows D) from) ring₀ n ring end
-    filling-enough most h l = record {
+    filling-enough most h = record {
       within = reached;
-      told = sym (take-append-le most (take end ring) (unitsFrom D d0 d1 d2 F u (to - u)) (omega (arith, length-take-le end ring (ends l)))) ∙ ap (take most) (f .told);
+      inside = f .inside;
+      told = sym (take-append-le most (take end ring) (unitsFrom D d0 d1 d2 F u (to - u)) (omega (arith, length-take-le end ring (f .inside)))) ∙ ap (take most) (f .told);
     }
 
     -- by the loop's test
-    pub filling-goes : (most : ℕ) → (ltb u to && ltb end most) ≡ true → u < to
-    filling-goes most t = ltb-true u to (and-eq-true-iff (ltb u to) (ltb end most) .0 t .0)
+    pub filling-goes : (most : ℕ) → (ltb u to && ltb end most) ≡ true → (u < to) × (end < most)
+    filling-goes most t = let both = and-eq-true-iff (ltb u to) (ltb end most) .0 t in (ltb-true u to (both .0), ltb-true end most (both .1))
 
-    pub filling-ends : (most : ℕ) → (ltb u to && ltb end most) ≡ false → n + (unitStart (rows D) to - unitStart (rows D) from) ≤ length ring₀
+    pub filling-ends : (most : ℕ) → (ltb u to && ltb end most) ≡ false
         → PutTo most (unitsFrom D d0 d1 d2 F from (to - from)) (unitStart (rows D) to - unitStart (rows D) from) ring₀ n ring end
-    filling-ends most t l = go (ltb u to) refl (ltb end most) refl t
+    filling-ends most t = go (ltb u to) refl (ltb end most) refl t
       where
         go : (a : Bool) → ltb u to ≡ a → (b : Bool) → ltb end most ≡ b → (a && b) ≡ false
             → PutTo most (unitsFrom D d0 d1 d2 F from (to - from)) (unitStart (rows D) to - unitStart (rows D) from) ring₀ n ring end
         go false e b g t = filling-all most (ltb-false u to e)
-        go true e false g t = filling-enough most (ltb-false end most g) l
+        go true e false g t = filling-enough most (ltb-false end most g)
         go true e true g t = let z : _≡_ {A = ℕ} 0 1 = cc in absurd (omega arith)
 
 -- ---- as many as are sent

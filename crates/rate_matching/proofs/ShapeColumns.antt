@@ -11,14 +11,13 @@ use lib.Dec.{eqb, ltb}
 use lib.ListN.{length, getD, drop, replicate, length-replicate, getD-replicate, List·getD-append}
 use lib.Seq.{getD-append-add, getD-drop}
 use borrow.Author.Tests.{ltb-true, ltb-false, eqb-true, eqb-false}
-use Rattle.laws.specs.Lists.{tab, tabFrom, keep}
+use Rattle.laws.specs.Lists.{tabFrom, keep}
 use Rattle.laws.proofs.Tab.{length-tabFrom, getD-tabFrom, tabFrom-split, tabFrom-shift, map-tabFrom}
 use Rattle.laws.proofs.Keep.{keep-append, keep-all, keep-none}
 use Rattle.turbo.specs.Streams.{NULL, withoutFiller}
 use Rattle.rate_matching.specs.Columns.{column}
 use Rattle.rate_matching.specs.SubBlocks.{rows, dummies, readPlain, readShifted, rowsBefore}
-use Rattle.rate_matching.specs.Circle.{circle, circleLength}
-use Rattle.rate_matching.specs.Places.{heldY, heldAt, streamOf, entryOf}
+use Rattle.rate_matching.specs.Places.{heldY, streamOf, entryOf}
 use Rattle.rate_matching.specs.Walk.{onCircle, isBit, holdsBit, itself}
 use Rattle.rate_matching.specs.Shape.{blank, shape, bitPlaces, second, pairPlaces, lastPlace}
 use Rattle.rate_matching.proofs.Columns.{column-rule}
@@ -295,29 +294,13 @@ module _ (D F : ℕ) (few : F ≤ D) where
 
       ends : Ends
       unfolding last lastPlace rowsBefore second
-      ends = go (eqb (column c) 31) refl
-        where
-          go : (b : Bool) → eqb (column c) 31 ≡ b → Ends
-          go true t =
-              let is : last ≡ 2 * rows D - 1 = rw t in
-              let e : column c ≡ 31 = eqb-true (column c) 31 t in
-              record {
-                all = omega arith;
-                after = omega (arith, dummies-add D);
-                whole = λ q h. omega arith;
-                within = λ q h. omega arith;
-                behind = λ q h r. omega arith;
-              }
-          go false t =
-              let is : last ≡ 2 * rows D = rw t in
-              let e = eqb-false (column c) 31 t in
-              record {
-                all = omega arith;
-                after = omega (arith, first-few);
-                whole = λ q h. omega arith;
-                within = λ q h. omega (arith, column-small);
-                behind = λ q h r. omega arith;
-              }
+      ends = record {
+        all = omega arith;
+        after = omega (arith, dummies-add D, column-small);
+        whole = λ q h. omega (arith, column-small);
+        within = λ q h. omega (arith, column-small);
+        behind = λ q h r. omega (arith, column-small);
+      }
 
       none-above : (i : ℕ) → i < pairsFrom + 2 * aloneOf - pairsFrom → holdsBit (shape D F) (pairsFrom + i) ≡ false
       unfolding second

@@ -1,12 +1,11 @@
--- The rate matcher of one code block, clauses 5.1.4.1.1 and 5.1.4.1.2: what it writes, and the stages on the way to the circle.
+-- The rate matcher of one code block, clause 5.1.4.1: what it writes.
 -- Assumes nothing.
 use mathlib.Core.Bool.{Bool, cond, _&&_}
-use mathlib.Core.List.{List, [], _∷_, _++_, map}
-use Prim.Native.Nat.{ℕ, _+_, _*_, _%_}
+use mathlib.Core.List.{List, map}
+use Prim.Native.Nat.{ℕ, _%_}
 use lib.Dec.{leb, ltb, eqb}
-use lib.ListN.{length, getD}
-use Rattle.laws.specs.Lists.{tab}
-use Rattle.rate_matching.specs.SubBlocks.{rows, padded, readPlain}
+use lib.ListN.{length}
+use Rattle.rate_matching.specs.SubBlocks.{rows}
 use Rattle.rate_matching.specs.Circle.{circle, startOf}
 use Rattle.rate_matching.specs.Places.{longest}
 use Rattle.rate_matching.specs.Walk.{onCircle, sentPlaces}
@@ -24,18 +23,3 @@ sentOf d0 d1 d2 F v E = map (onCircle (circle d0 d1 d2)) (sentPlaces (shape (len
 unfoldable pub matchedInto : List ℕ → List ℕ → List ℕ → ℕ → ℕ → List ℕ → List ℕ
 matchedInto d0 d1 d2 F v out =
     cond (matchable (length d0) (length d1) (length d2) F v) (sentOf d0 d1 d2 F v (length out)) out
-
--- y with y_0 once more behind it
-unfoldable pub wrapped : List ℕ → List ℕ
-wrapped d = padded d ++ (getD (padded d) 0 0 ∷ [])
-
--- the entry k of the reading column by column, each taken `shift` places further
-unfoldable pub readFrom : List ℕ → ℕ → ℕ → ℕ → ℕ
-readFrom y shift R k = getD y (readPlain R k + shift) 0
-
-unfoldable pub columnsFrom : List ℕ → ℕ → ℕ → List ℕ
-columnsFrom y shift R = tab (32 * R) (readFrom y shift R)
-
--- v of a stream: by the plain rule for shift 0, by the shifted rule for shift 1
-unfoldable pub interleavedFrom : ℕ → List ℕ → List ℕ
-interleavedFrom shift d = columnsFrom (wrapped d) shift (rows (length d))

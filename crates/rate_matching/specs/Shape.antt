@@ -1,9 +1,7 @@
 -- The shape of a code block's circle: which places hold a bit, the same for every block, and how they lie in its columns (clauses 5.1.4.1.1 and 5.1.4.1.2).
 -- Assumes nothing.
-use mathlib.Core.Bool.{cond}
 use mathlib.Core.List.{List, _++_}
-use Prim.Native.Nat.{ℕ, _+_, _-_, _*_}
-use lib.Dec.{eqb}
+use Prim.Native.Nat.{ℕ, _+_, _-_, _*_, _/_}
 use lib.ListN.{replicate}
 use Rattle.laws.specs.Lists.{tabFrom, keep}
 use Rattle.turbo.specs.Streams.{withoutFiller}
@@ -30,6 +28,6 @@ second q = 2 * q + 1
 unfoldable pub pairPlaces : ℕ → ℕ → ℕ → List ℕ
 pairPlaces alone first last = tabFrom alone (first - alone) second ++ tabFrom (2 * first) (last - 2 * first) itself
 
--- where the bits of a column of streams 1 and 2 of R rows end, u being its original position: the last place of all is the dummy that the shift brings there
+-- where the bits of a column of streams 1 and 2 of R rows end, u being its original position: the last place of column 31 is the dummy that the shift brings there
 unfoldable pub lastPlace : ℕ → ℕ → ℕ
-lastPlace R u = cond (eqb u 31) (2 * R - 1) (2 * R)
+lastPlace R u = 2 * R - u / 31

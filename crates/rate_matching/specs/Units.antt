@@ -8,7 +8,8 @@ use lib.Dec.{ltb, eqb}
 use lib.ListN.{length, getD, take}
 use Rattle.laws.specs.Lists.{tab}
 use Rattle.rate_matching.specs.Columns.{column}
-use Rattle.rate_matching.specs.SubBlocks.{rows, dummies}
+use Rattle.rate_matching.specs.SubBlocks.{rows, dummies, rowsBefore}
+use Rattle.rate_matching.specs.Circle.{circleLength}
 use Rattle.rate_matching.specs.Places.{longest}
 
 -- row q of a column that begins at a place
@@ -19,21 +20,17 @@ everyRow d from q = getD d (from + 32 * q) 0
 unfoldable pub pairRow : List ℕ → List ℕ → ℕ → ℕ → ℕ
 pairRow d1 d2 from k = cond (eqb (k % 2) 0) (everyRow d1 from (k / 2)) (everyRow d2 (from + 1) (k / 2))
 
--- the first row of column p of y that lies behind `absent` places
-unfoldable pub firstRow : ℕ → ℕ → ℕ
-firstRow absent p = (absent + (31 - p)) / 32
-
 -- the bits of column p of a stream of D places whose first F are absent: they begin behind the dummies and the filler
 unfoldable pub columnBits : ℕ → List ℕ → ℕ → ℕ → List ℕ
 columnBits D d F p =
-    tab (rows D - firstRow (dummies D + F) p) (everyRow d (p + 32 * firstRow (dummies D + F) p - dummies D))
+    tab (rows D - rowsBefore (dummies D + F) p) (everyRow d (p + 32 * rowsBefore (dummies D + F) p - dummies D))
 
 -- the bits of column p of d(1), whose first F places are absent, and of d(2), read one further, by turns: d(2) alone first, then both;
 -- in column 31 the last place wraps to a dummy
 unfoldable pub pairBits : ℕ → List ℕ → List ℕ → ℕ → ℕ → List ℕ
 pairBits D d1 d2 F p =
-    tab (firstRow (dummies D + F) p - firstRow (dummies D - 1) p) (everyRow d2 (p + 1 + 32 * firstRow (dummies D - 1) p - dummies D))
-    ++ tab (2 * (rows D - firstRow (dummies D + F) p) - p / 31) (pairRow d1 d2 (p + 32 * firstRow (dummies D + F) p - dummies D))
+    tab (rowsBefore (dummies D + F) p - rowsBefore (dummies D) (p + 1)) (everyRow d2 (p + 1 + 32 * rowsBefore (dummies D) (p + 1) - dummies D))
+    ++ tab (2 * (rows D - rowsBefore (dummies D + F) p) - p / 31) (pairRow d1 d2 (p + 32 * rowsBefore (dummies D + F) p - dummies D))
 
 -- the bits of unit u
 unfoldable pub unitBits : ℕ → List ℕ → List ℕ → List ℕ → ℕ → ℕ → List ℕ
@@ -67,6 +64,15 @@ pub record Fitting (D D1 D2 F : ℕ) : Type 0 where
   pub most : D ≤ longest
   pub filler : F < D
 
+-- a ring of `room` places is long enough for units that need no more than `need`: all of them fit, or each that begins before place `most`, as none
+-- has more than 2·R places
+pub record Holds (R most need room : ℕ) : Type 0 where
+  pub fits : room < most + 2 * R → need ≤ room
+
+-- the places of a ring that is long enough for E bits: at most those of the circle
+unfoldable pub ringRoom : ℕ → ℕ → ℕ
+ringRoom R E = cond (ltb (E + 2 * R) (circleLength R)) (E + 2 * R) (circleLength R)
+
 -- the bits stand in the ring from place n to place r, before them what stood there
 pub record Put (bits ring : List ℕ) (n : ℕ) (ring′ : List ℕ) (r : ℕ) : Type 0 where
   pub ends : r ≡ n + length bits
@@ -75,4 +81,5 @@ pub record Put (bits ring : List ℕ) (n : ℕ) (ring′ : List ℕ) (r : ℕ) :
 -- the bits, of which there are at most `size`, stand there as far as the first `most` entries of the ring go
 pub record PutTo (most : ℕ) (bits : List ℕ) (size : ℕ) (ring : List ℕ) (n : ℕ) (ring′ : List ℕ) (r : ℕ) : Type 0 where
   pub within : r ≤ n + size
+  pub inside : r ≤ length ring′
   pub told : take most (take r ring′) ≡ take most (take n ring ++ bits)

@@ -9,7 +9,7 @@ use lib.ListN.{length, getD, set}
 use borrow.Rule.Slice.PartMut.{midOf, putMid}
 use Rattle.laws.specs.Lists.{tabFrom}
 use Rattle.laws.proofs.Parts.{length-mid, length-put}
-use Rattle.laws.proofs.Tab.{length-tabFrom, tabFrom-split, tabFrom-shift, tabFrom-ext, rest-more, rest-none}
+use Rattle.laws.proofs.Tab.{length-tabFrom, tabFrom-split, tabFrom-shift, tabFrom-ext}
 use Rattle.laws.proofs.Writing.{Writing, start, same, push, pushPart, finish-all}
 use Rattle.rate_matching.specs.declared.CirclePlace.{CirclePlace}
 use Rattle.rate_matching.specs.Places.{circlePlace}

@@ -2,7 +2,7 @@
 -- Assumes nothing.
 use mathlib.Core.Path.{_≡_, refl, sym, _∙_, ap, ap₂, subst}
 use mathlib.Core.List.{List, [], _∷_, _++_, map}
-use Prim.Native.Nat.{ℕ, zero, suc, _+_, _-_, _*_, _≤_, _<_, min}
+use Prim.Native.Nat.{ℕ, zero, suc, _+_, _-_, _≤_, _<_, min}
 use native.Mathlib.Nat.{add-zero, zero-add, add-sub-cancel-left}
 use native.Mathlib.Decide.{decLe}
 use native.Mathlib.Omega.{arith}
@@ -17,7 +17,7 @@ use Rattle.slots.specs.Room.{putBit}
 use Rattle.reception.specs.Parts.{putFrom}
 use Rattle.reception.specs.Along.{putAlong, Put}
 use Rattle.reception.proofs.Meet.{put-is}
-use Rattle.reception.proofs.Putting.{length-putFrom, putFrom-append, put-in}
+use Rattle.reception.proofs.Putting.{length-putFrom, put-in}
 
 -- ---- one bit after another
 

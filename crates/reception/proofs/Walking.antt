@@ -2,33 +2,30 @@
 -- Assumes nothing.
 use mathlib.Core.Path.{_≡_, refl, sym, _∙_, ap, ap₂}
 use mathlib.Core.Logic.{_⊎_, ⊎-elim}
-use mathlib.Core.Bool.{Bool, true, false, cond}
 use mathlib.Core.List.{List, [], _∷_, _++_, append-assoc, append-nil, map}
 use Prim.Native.Nat.{ℕ, _+_, _-_, _*_, _/_, _≤_, _<_}
 use native.Mathlib.Nat.{mul-le-mul-right, add-sub-cancel-left}
 use native.Mathlib.Decide.{decLt, ℕ-discrete}
 use native.Mathlib.Omega.{arith}
-use lib.Dec.{eqb}
 use lib.ListN.{length, getD, length-append, List·getD-append}
 use lib.Seq.{getD-append-add}
-use borrow.Author.Tests.{eqb-true}
 use borrow.Rule.Slice.PartMut.{midOf, putMid}
 use Rattle.laws.specs.Lists.{tab, tabFrom}
 use Rattle.laws.proofs.Parts.{length-mid}
 use Rattle.laws.proofs.Tab.{length-tabFrom, getD-tabFrom, tabFrom-split}
-use Rattle.rate_matching.specs.Columns.{columnTable, column}
+use Rattle.rate_matching.specs.Columns.{column}
 use Rattle.rate_matching.specs.SubBlocks.{rows, dummies, rowsBefore}
 use Rattle.rate_matching.specs.Circle.{circleLength, startOf}
 use Rattle.rate_matching.specs.Walk.{itself, turn}
 use Rattle.rate_matching.specs.Shape.{shape, bitPlaces, second, pairPlaces, lastPlace}
-use Rattle.rate_matching.proofs.Columns.{column-rule, table-at}
+use Rattle.rate_matching.proofs.Columns.{column-rule}
 use Rattle.rate_matching.proofs.Places.{dummies-add}
 use Rattle.rate_matching.proofs.Circle.{start-is}
 use Rattle.rate_matching.proofs.ShapeTurn.{bitPlaces-none, turn-parts, length-shape, turn-some, turn-few}
 use Rattle.rate_matching.proofs.ShapeColumns.{bitPlaces-split, first-few, column-places, pair-places}
 use Rattle.slots.specs.State.{perBlock}
 use Rattle.reception.specs.Along.{Put, Walked, Column}
-use Rattle.reception.proofs.Along.{put-append, put-as, put-long, put-within, put-none, put-lent, run-lent}
+use Rattle.reception.proofs.Along.{put-append, put-as, put-long, put-none, put-lent, run-lent}
 
 -- a list that is as long has the circle's places too
 pub walked-still : {D F n m : ℕ} → Walked D F n → m ≡ n → Walked D F m
@@ -156,11 +153,7 @@ module _ {R u N absent long : ℕ} (w : Column R u N absent long) where
   -- the last place is past the rows above
   pub last-in : {last : ℕ} → last ≡ lastPlace R u → (2 * rowsBefore absent u ≤ last) × (last ≤ long)
   unfolding rowsBefore lastPlace
-  last-in {last} e = go (eqb u 31) refl e
-    where
-      go : (b : Bool) → eqb u 31 ≡ b → last ≡ cond b (2 * R - 1) (2 * R) → (2 * ((absent - u + 31) / 32) ≤ last) × (last ≤ long)
-      go true t l = (omega (arith, w .less, eqb-true u 31 t), omega (arith, w .fits))
-      go false t l = (omega (arith, w .less), omega (arith, w .fits))
+  last-in e = (omega (arith, w .less, w .position), omega (arith, w .fits))
 
   -- its places lie in it
   pub pair-inside : (k : ℕ) → let places = pairPlaces (rowsBefore N (u + 1)) (rowsBefore absent u) (lastPlace R u) in k < length places → getD places k 0 < 2 * R

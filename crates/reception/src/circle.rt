@@ -87,7 +87,7 @@ fn put_pair(
     let first = rows_before(absent, column);
     let i = put_alone(rows_before(dummies, column + 1), first, bits, at, part);
     let start = 2 * first;
-    let last = if column == 31 { 2 * rows - 1 } else { 2 * rows };
+    let last = 2 * rows - column / 31;
     put_run(bits, i, &mut part[start..last])
 }
 

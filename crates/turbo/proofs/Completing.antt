@@ -6,7 +6,7 @@ use Prim.Native.Nat.{ℕ, _+_, _-_, _≤_, _<_}
 use native.Mathlib.Nat.{le-refl}
 use native.Mathlib.Omega.{arith}
 use borrow.Rule.Slice.PartMut.{midOf, putMid}
-use lib.ListN.{length, take, drop, drop-of-length-le}
+use lib.ListN.{length, take, drop}
 use lib.Seq.{drop-length, length-take-le, take-at}
 use Rattle.interleaver.specs.Table.{rowCount, sizeAt}
 use Rattle.interleaver.specs.Place.{interleaved}
@@ -17,7 +17,7 @@ use Rattle.laws.proofs.Parts.{put-as, length-mid}
 use Rattle.turbo.specs.declared.Tail.{Tail}
 use Rattle.turbo.specs.Encoder.{start, parities}
 use Rattle.turbo.specs.Streams.{withoutFiller, firstEnd, secondEnd, stream0, stream1, stream2}
-use Rattle.turbo.specs.Encode.{tailOf, completed}
+use Rattle.turbo.specs.Encode.{blockIn, tailOf, completed}
 use Rattle.turbo.proofs.Encoder.{length-parities}
 use Rattle.turbo.proofs.Streams.{withoutFiller-none, withoutFiller-append}
 
@@ -48,11 +48,13 @@ completed-is F d bits rest tail e n =
 
 -- ---- the three streams
 
-module _ (row : ℕ) (c rest : List ℕ) {d : List ℕ} {t u : Tail} (first : t ≡ tailOf (firstEnd c)) (second : u ≡ tailOf (secondEnd row c)) (long : length d ≡ length c + 4) where
-  pub stream0-is : (F : ℕ) → d ≡ c ++ rest → completed F d (t .x0 ∷ t .z1 ∷ u .x0 ∷ u .z1 ∷ []) ≡ stream0 row F c
-  unfolding stream0 tailOf
-  stream0-is F e = rw (first, second) (completed-is F d c rest _ e long)
+-- the code block's bits stand at the front of stream 0's room as they are
+pub stream0-is : (row : ℕ) (d0 : List ℕ) {t u : Tail} → t ≡ tailOf (firstEnd (blockIn d0)) → u ≡ tailOf (secondEnd row (blockIn d0)) → (F : ℕ)
+    → completed F d0 (t .x0 ∷ t .z1 ∷ u .x0 ∷ u .z1 ∷ []) ≡ stream0 row F (blockIn d0)
+unfolding stream0 tailOf completed blockIn
+stream0-is row d0 first second F = rw (first, second)
 
+module _ (row : ℕ) (c rest : List ℕ) {d : List ℕ} {t u : Tail} (first : t ≡ tailOf (firstEnd c)) (second : u ≡ tailOf (secondEnd row c)) (long : length d ≡ length c + 4) where
   pub stream1-is : (F : ℕ) → d ≡ parities start c ++ rest → completed F d (t .z0 ∷ t .x2 ∷ u .z0 ∷ u .x2 ∷ []) ≡ stream1 row F c
   unfolding stream1 tailOf
   stream1-is F e = rw (first, second) (completed-is F d (parities start c) rest _ e (rw length-parities long))

@@ -12,23 +12,26 @@ use Rattle.turbo.specs.declared.Tail.{Tail}
 use Rattle.turbo.specs.Encoder.{xTail, zTail}
 use Rattle.turbo.specs.Streams.{withoutFiller}
 
--- K is the size at the row, F filler bits are within it, and the three streams have D = K + 4 places
-unfoldable pub encodable : ℕ → ℕ → ℕ → ℕ → ℕ → ℕ → Bool
-encodable row F K D0 D1 D2 =
-    ltb row rowCount && eqb K (sizeAt row) && leb F K && eqb D0 (K + 4) && eqb D1 (K + 4) && eqb D2 (K + 4)
+-- the code block that stands at the front of stream 0's room, which has four places more for the tail
+unfoldable pub blockIn : List ℕ → List ℕ
+blockIn d0 = take (length d0 - 4) d0
+
+-- the row has a size K, F filler bits are within it, and the three streams have D = K + 4 places
+unfoldable pub encodable : ℕ → ℕ → ℕ → ℕ → ℕ → Bool
+encodable row F D0 D1 D2 =
+    ltb row rowCount && (leb F (sizeAt row) && eqb D0 (sizeAt row + 4) && eqb D1 (sizeAt row + 4) && eqb D2 (sizeAt row + 4))
 
 -- the same as facts
-pub record Encodable (row F K D0 D1 D2 : ℕ) : Type 0 where
+pub record Encodable (row F D0 D1 D2 : ℕ) : Type 0 where
   pub below : row < rowCount
-  pub size : K ≡ sizeAt row
-  pub filler : F ≤ K
-  pub long0 : D0 ≡ K + 4
-  pub long1 : D1 ≡ K + 4
-  pub long2 : D2 ≡ K + 4
+  pub filler : F ≤ sizeAt row
+  pub long0 : D0 ≡ sizeAt row + 4
+  pub long1 : D1 ≡ sizeAt row + 4
+  pub long2 : D2 ≡ sizeAt row + 4
 
 -- the same of the lists that are lent to a call
-abbrev pub fit : ℕ → ℕ → List ℕ → List ℕ → List ℕ → List ℕ → Bool
-fit row F c d0 d1 d2 = encodable row F (length c) (length d0) (length d1) (length d2)
+abbrev pub fit : ℕ → ℕ → List ℕ → List ℕ → List ℕ → Bool
+fit row F d0 d1 d2 = encodable row F (length d0) (length d1) (length d2)
 
 -- the six tail bits of an encoder, from the registers after the K input bits
 unfoldable pub tailOf : Registers → Tail

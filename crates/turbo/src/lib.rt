@@ -6,13 +6,13 @@ use interleaver::table;
 ghost use mathlib.Core.Path.{_≡_};
 ghost use mathlib.Core.Bool.{cond};
 ghost use mathlib.Core.List.{_++_};
-ghost use Prim.Native.Nat.{_+_, _≤_, _<_, _^_};
+ghost use Prim.Native.Nat.{_+_, _≤_, _<_};
 ghost use lib.ListN.{length, drop};
 ghost use Rattle.interleaver.specs.Table.{rowCount, sizeAt};
 ghost use Rattle.interleaver.specs.Place.{interleaved};
 ghost use Rattle.turbo.specs.Encoder.{start, parities};
 ghost use Rattle.turbo.specs.Streams.{withoutFiller, firstEnd, secondEnd, stream0, stream1, stream2};
-ghost use Rattle.turbo.specs.Encode.{encodable, fit, Encodable, tailOf, completed};
+ghost use Rattle.turbo.specs.Encode.{blockIn, encodable, fit, Encodable, tailOf, completed};
 
 // <NULL>: no bit stands here. A bit is 0 or 1.
 pub const NULL: u8 = 2;
@@ -40,18 +40,16 @@ pub struct Tails {
     pub second: Tail,
 }
 
-// Whether a code block of `k` bits is one of the row's, with its filler in it, and the streams have the lengths for it.
-fn is_encodable(row: usize, filler: usize, k: usize, n0: usize, n1: usize, n2: usize) -> bool
-    requires { ⌜ k < 2 ^ 63 ⌝ }
-    ensures { λ r. ⌜ r ≡ encodable row filler k n0 n1 n2 ⌝ }
+// Whether rooms of these lengths are for the streams of a code block of the row's size, and its filler is within it.
+fn is_encodable(row: usize, filler: usize, n0: usize, n1: usize, n2: usize) -> bool
+    ensures { λ r. ⌜ r ≡ encodable row filler n0 n1 n2 ⌝ }
 {
+    if row >= table::ROWS {
+        return false;
+    }
+    let k = table::size_at(row);
     let n = k + 4;
-    (row < table::ROWS)
-        & (k == table::size_at(row))
-        & (filler <= k)
-        & (n0 == n)
-        & (n1 == n)
-        & (n2 == n)
+    (filler <= k) & (n0 == n) & (n1 == n) & (n2 == n)
 }
 
 // The tail from the registers after the last bit. The input is the feedback, so a zero enters at each of the three steps.
@@ -108,14 +106,14 @@ fn encode_parities(row: usize, c: &[u8], d1: &mut [u8], d2: &mut [u8]) -> Tails
 }
 
 // The three streams, where all lengths are right. Filler is absent from streams 0 and 1; stream 2 holds a bit at every place.
-fn encode_streams(row: usize, filler: usize, c: &[u8], d0: &mut [u8], d1: &mut [u8], d2: &mut [u8])
-    requires { ⌜ Encodable row filler (length (now c)) (length (now d0)) (length (now d1)) (length (now d2)) ⌝ }
-    ensures first { λ r. ⌜ now (d0 .exit) ≡ stream0 row filler (now (c .entry)) ⌝ }
-    ensures second { λ r. ⌜ now (d1 .exit) ≡ stream1 row filler (now (c .entry)) ⌝ }
-    ensures third { λ r. ⌜ now (d2 .exit) ≡ stream2 row (now (c .entry)) ⌝ }
+fn encode_streams(row: usize, filler: usize, d0: &mut [u8], d1: &mut [u8], d2: &mut [u8])
+    requires { ⌜ Encodable row filler (length (now d0)) (length (now d1)) (length (now d2)) ⌝ }
+    ensures first { λ r. ⌜ now (d0 .exit) ≡ stream0 row filler (blockIn (now (d0 .entry))) ⌝ }
+    ensures second { λ r. ⌜ now (d1 .exit) ≡ stream1 row filler (blockIn (now (d0 .entry))) ⌝ }
+    ensures third { λ r. ⌜ now (d2 .exit) ≡ stream2 row (blockIn (now (d0 .entry))) ⌝ }
 {
-    bytes::copy(c, d0);
-    let tails = encode_parities(row, c, d1, d2);
+    let k = d0.len() - 4;
+    let tails = encode_parities(row, &d0[..k], d1, d2);
     let first = tails.first;
     let second = tails.second;
     complete(d0, filler, [first.x0, first.z1, second.x0, second.z1]);
@@ -123,23 +121,23 @@ fn encode_streams(row: usize, filler: usize, c: &[u8], d0: &mut [u8], d1: &mut [
     complete(d2, 0, [first.x1, first.z2, second.x1, second.z2]);
 }
 
-// Writes the three streams of a code block `c` of a row's size whose first `filler` bits are filler. Writes nothing where there
-// is no such row or a length is another one.
-pub fn encode(row: usize, filler: usize, c: &[u8], d0: &mut [u8], d1: &mut [u8], d2: &mut [u8])
+// Writes the three streams of the code block of a row's size that stands at the front of `d0`, whose first `filler` bits are filler; stream 0
+// has the block's bits in place, so none is moved. Writes nothing where there is no such row or a length is another one.
+pub fn encode(row: usize, filler: usize, d0: &mut [u8], d1: &mut [u8], d2: &mut [u8])
     ensures first { λ r. ⌜ now (d0 .exit) ≡
-        cond (fit row filler (now (c .entry)) (now (d0 .entry)) (now (d1 .entry)) (now (d2 .entry)))
-        (stream0 row filler (now (c .entry)))
+        cond (fit row filler (now (d0 .entry)) (now (d1 .entry)) (now (d2 .entry)))
+        (stream0 row filler (blockIn (now (d0 .entry))))
         (now (d0 .entry)) ⌝ }
     ensures second { λ r. ⌜ now (d1 .exit) ≡
-        cond (fit row filler (now (c .entry)) (now (d0 .entry)) (now (d1 .entry)) (now (d2 .entry)))
-        (stream1 row filler (now (c .entry)))
+        cond (fit row filler (now (d0 .entry)) (now (d1 .entry)) (now (d2 .entry)))
+        (stream1 row filler (blockIn (now (d0 .entry))))
         (now (d1 .entry)) ⌝ }
     ensures third { λ r. ⌜ now (d2 .exit) ≡
-        cond (fit row filler (now (c .entry)) (now (d0 .entry)) (now (d1 .entry)) (now (d2 .entry)))
-        (stream2 row (now (c .entry)))
+        cond (fit row filler (now (d0 .entry)) (now (d1 .entry)) (now (d2 .entry)))
+        (stream2 row (blockIn (now (d0 .entry))))
         (now (d2 .entry)) ⌝ }
 {
-    if is_encodable(row, filler, c.len(), d0.len(), d1.len(), d2.len()) {
-        encode_streams(row, filler, c, d0, d1, d2);
+    if is_encodable(row, filler, d0.len(), d1.len(), d2.len()) {
+        encode_streams(row, filler, d0, d1, d2);
     }
 }

@@ -1,67 +1,68 @@
--- `check_bits::leading` meets its contract. The loop's invariant: `v` is the number that the first `i` bits are.
+-- `check_bits::leading` meets its contract: the first of 24 gathered bits in one stride, or one by one where there are no 24.
 -- Assumes nothing.
-use Prim.Native.Nat.{_^_, _≤_, _-_}
-use native.Mathlib.Nat.{lt-irrefl}
+use mathlib.Core.Path.{_∙_}
 use native.Mathlib.Omega.{arith}
-use lib.ListN.{length}
-use Rattle.check_bits.specs.Stride.{IsNumber}
-use Rattle.check_bits.proofs.Padding.{none-yet, number-lt, one-more-bit, all-bits}
+use borrow.Author.Needs.{needs}
+use Rattle.laws.proofs.Parts.{front-count}
+use Rattle.check_bits.specs.CheckBits.{crc}
+use Rattle.check_bits.proofs.Padding.{led}
 use Rattle.check_bits.proofs.leading.Statement.{statement}
 use Rattle.check_bits.proofs.leading.Tie as tie
 
-abbrev Inv-loop : tie.InvT-loop
-Inv-loop bits v₀ i₀ v i = (i ≤ length bits) × IsNumber i bits v
+slice-aggregate-one-by-one : tie.Need-slice-aggregate-one-by-one
+slice-aggregate-one-by-one c = front-count _ _ (omega arith)
 
-abbrev μ-loop : tie.MeasureT-loop
-μ-loop bits v₀ i₀ v i = length bits - i
+one-by-one-requires : tie.Need-one-by-one-requires
+one-by-one-requires c κs = search needs
 
-loop-holds : tie.Need-loop-holds Inv-loop μ-loop
-loop-holds c = (omega arith, none-yet)
+returns : tie.Need-returns
+unfolding crc
+returns c = c .one-by-one .ensures
 
-shared-slice-read-if1 : tie.Need-shared-slice-read-if1 Inv-loop μ-loop
-shared-slice-read-if1 c = omega arith
+gathered-requires : tie.Need-gathered-requires
+gathered-requires c κs = search needs
 
-returns : tie.Need-returns Inv-loop μ-loop
-returns c l = absurd (lt-irrefl (2 ^ 24) l)
+slice-aggregate-one-by-one-2 : tie.Need-slice-aggregate-one-by-one-2
+slice-aggregate-one-by-one-2 c = front-count _ _ (omega arith)
 
-mul-v : tie.Need-mul-v Inv-loop μ-loop
-mul-v c = let l = number-lt (omega arith) (c .before .before .before .loop .inv .1) in omega (arith, l)
+one-by-one-requires-2 : tie.Need-one-by-one-requires-2
+one-by-one-requires-2 c κs = search needs
 
-shared-slice-read-v : tie.Need-shared-slice-read-v Inv-loop μ-loop
-shared-slice-read-v c = omega arith
+returns-2 : tie.Need-returns-2
+unfolding crc
+returns-2 c = c .one-by-one2 .ensures
 
-cast-v : tie.Need-cast-v Inv-loop μ-loop
-cast-v c = omega arith
+sub-passed : tie.Need-sub-passed
+sub-passed c = search needs
 
-add-v : tie.Need-add-v Inv-loop μ-loop
-add-v c = let l = number-lt (omega arith) (c .before .before .before .before .loop .inv .1) in omega (arith, l)
+cast-passed : tie.Need-cast-passed
+cast-passed c = search needs
 
-add-i : tie.Need-add-i Inv-loop μ-loop
-add-i c = omega arith
+shr-passed : tie.Need-shr-passed
+shr-passed c = search needs
 
-loop-less : tie.Need-loop-less Inv-loop μ-loop
-loop-less c = omega arith
+passed-requires : tie.Need-passed-requires
+passed-requires c κs = search needs
 
-loop-again : tie.Need-loop-again Inv-loop μ-loop
-loop-again c = (omega arith, one-more-bit (omega arith) (omega arith) (c .before .before .before .before .loop .inv .1))
-
-returns-2 : tie.Need-returns-2 Inv-loop μ-loop
-returns-2 c l = all-bits (omega arith) (omega arith) (c .before .loop .inv .1)
+returns-3 : tie.Need-returns-3
+returns-3 c =
+    let looked = c .before .before in
+    let start = looked .before .before .before in
+    c .passed .ensures ∙ led (start .args .bits .now) (start .args .k) (start .pre .0) (start .pre .1 .0) (omega arith) (looked .gathered .ensures)
 
 pub leading-spec : {M : Type 1} → statement M
 leading-spec =
     tie.close
     (tie.spec
-    Inv-loop
-    μ-loop
-    loop-holds
-    shared-slice-read-if1
+    slice-aggregate-one-by-one
+    one-by-one-requires
     returns
-    mul-v
-    shared-slice-read-v
-    cast-v
-    add-v
-    add-i
-    loop-less
-    loop-again
-    returns-2)
+    gathered-requires
+    slice-aggregate-one-by-one-2
+    one-by-one-requires-2
+    returns-2
+    sub-passed
+    cast-passed
+    shr-passed
+    passed-requires
+    returns-3)

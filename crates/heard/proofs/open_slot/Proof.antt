@@ -1,7 +1,6 @@
 -- `open_slot` meets its contract: the eight heads are those of a new state, the first one open.
 -- Assumes nothing.
 use mathlib.Core.Path.{refl}
-use lib.ListN.{set, replicate}
 use Rattle.slots.specs.State.{closedHead, newState}
 use Rattle.slots.specs.Calls.{withHead}
 use Rattle.heard.specs.Slot.{openSlot}

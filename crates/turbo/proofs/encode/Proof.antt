@@ -13,13 +13,13 @@ is-encodable-requires c κs = search needs
 
 -- what the test's outcome says of the arguments
 tested : (c : tie.After-is-encodable) (b : Bool) → c .is-encodable .result ≡ b
-    → let start = c .before .before .before .before .before in fit (start .args .row) (start .args .filler) (start .args .c .now) (start .args .d0 .now) (start .args .d1 .now) (start .args .d2 .now) ≡ b
+    → let start = c .before .before .before .before in fit (start .args .row) (start .args .filler) (start .args .d0 .now) (start .args .d1 .now) (start .args .d2 .now) ≡ b
 tested c b e = sym (c .is-encodable .ensures) ∙ e
 
 encode-streams-requires : tie.Need-encode-streams-requires
 encode-streams-requires c κs =
     let into = c .before .before .before in
-    encodable-true _ _ _ _ _ _ (tested (into .before) true (into .if1 .taken))
+    encodable-true _ _ _ _ _ (tested (into .before) true (into .if1 .taken))
 
 same-length : tie.Need-same-length
 same-length c = search needs

@@ -1,13 +1,25 @@
 -- `send_in` meets its contract: segmentation, encoder and rate matcher do what they promise one after the other, and the law of a sent code block joins them.
 -- Assumes nothing.
 use borrow.Author.Needs.{needs}
-use mathlib.Core.Path.{_≡_, sym, _∙_, ap}
-use lib.ListN.{length}
+use mathlib.Core.List.{_++_}
+use Prim.Native.Nat.{_-_}
+use native.Mathlib.Omega.{arith}
+use lib.ListN.{length, drop}
 use denote.Ref.{now}
-use Rattle.codeword.specs.Sending.{Sending, Roomy}
-use Rattle.codeword.proofs.Sent.{row-told, filler-told, coded, encoded, sent-is}
+use Rattle.laws.proofs.Parts.{front-count}
+use Rattle.turbo.specs.Encode.{blockIn}
+use Rattle.codeword.proofs.Sent.{row-told, filler-told, fronted, encoded, sent-is}
 use Rattle.codeword.proofs.call.send_in.Statement.{statement}
 use Rattle.codeword.proofs.call.send_in.Tie as tie
+
+sub-k : tie.Need-sub-k
+sub-k c = search needs
+
+slice-relend-prefix-code-block : tie.Need-slice-relend-prefix-code-block
+slice-relend-prefix-code-block c = search needs
+
+slice-aggregate-code-block : tie.Need-slice-aggregate-code-block
+slice-aggregate-code-block c = front-count _ _ (omega arith)
 
 code-block-requires : tie.Need-code-block-requires
 code-block-requires c κs = search needs
@@ -36,22 +48,22 @@ same-length-3 c = search needs
 same-length-4 : tie.Need-same-length-4
 same-length-4 c = search needs
 
-same-length-5 : tie.Need-same-length-5
-same-length-5 c = search needs
-
 returns : tie.Need-returns
 returns c =
     let matched = c .before .before in
     let streams = matched .before .before .before .before .before .before .before .before .before .before .before in
-    let filled = streams .before .before .before .before .before in
+    let filled = streams .before .before .before .before in
     let block = filled .before .before .before .before in
-    let start = block .before .before .before .before .before .before .before .before in
+    let start = block .before .before .before .before .before .before .before in
     let rooms = start .pre .1 in
-    let bits = coded (start .pre .0) _ _ _ (rooms .bits) (block .code-block .ensures) in
+    let x = start .args .remainder in
+    let empty = now (start .args .d0) in
+    let d0 = block .code-block .last .1 .1 .1 .0 ++ drop (length empty - 4) empty in
+    let room = fronted (start .pre .0) x empty (rooms .first) (block .code-block .ensures) in
     let row = row-told (start .pre .0) (filled .before .row-of .ensures) in
     let filler = filler-told (start .pre .0) (filled .filler-of .ensures) in
-    let fits = encoded (start .pre .0) _ _ bits row filler (now (start .args .d0)) (now (start .args .d1)) (now (start .args .d2)) (rooms .first) (rooms .second) (rooms .third) in
-    sent-is (start .pre .0) _ _ bits row filler
+    let fits = encoded (start .pre .0) x (blockIn d0) (room .bits) row filler d0 (now (start .args .d1)) (now (start .args .d2)) (room .long) (rooms .second) (rooms .third) in
+    sent-is (start .pre .0) x (blockIn d0) (room .bits) row filler
     (rw fits at (streams .encode .ensures .0))
     (rw fits at (streams .encode .ensures .1 .0))
     (rw fits at (streams .encode .ensures .1 .1))
@@ -62,6 +74,9 @@ pub send-in-spec : {M : Type 1} → statement M
 send-in-spec =
     tie.close
     (tie.spec
+    sub-k
+    slice-relend-prefix-code-block
+    slice-aggregate-code-block
     code-block-requires
     row-of-requires
     filler-of-requires
@@ -71,5 +86,4 @@ send-in-spec =
     same-length-2
     same-length-3
     same-length-4
-    same-length-5
     returns)

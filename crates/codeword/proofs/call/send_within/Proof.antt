@@ -15,54 +15,44 @@ use Rattle.codeword.proofs.call.send_within.Tie as tie
 
 -- K of the code block
 size-is : (c : tie.After-size-of)
-    → c .size-of .result ≡ sizeOf (length (now (c .before .before .before .before .before .before .before .args .block)) + 24) (c .before .before .before .before .before .before .before .args .r)
-size-is c = size-told (c .before .before .before .before .before .before .before .pre .0) (c .size-of .ensures)
+    → c .size-of .result ≡ sizeOf (length (now (c .before .before .before .before .before .before .args .block)) + 24) (c .before .before .before .before .before .before .args .r)
+size-is c = size-told (c .before .before .before .before .before .before .pre .0) (c .size-of .ensures)
 
--- the code block's bits fit their room, and a stream fits a room of its length
-bits-fit : (c : tie.After-size-of) → c .size-of .result ≤ length (c .before .before .before .before .before .before .before .args .c .now)
-bits-fit c = omega (arith, size-is c, c .before .before .before .before .before .before .before .pre .1 .bits)
-
-stream-fits : (c : tie.After-size-of) {n : ℕ} → sizeOf (length (now (c .before .before .before .before .before .before .before .args .block)) + 24) (c .before .before .before .before .before .before .before .args .r) + 4 ≤ n → c .size-of .result + 4 ≤ n
+-- a stream fits a room of its length
+stream-fits : (c : tie.After-size-of) {n : ℕ} → sizeOf (length (now (c .before .before .before .before .before .before .args .block)) + 24) (c .before .before .before .before .before .before .args .r) + 4 ≤ n → c .size-of .result + 4 ≤ n
 stream-fits c h = omega (arith, size-is c)
 
 size-of-requires : tie.Need-size-of-requires
 size-of-requires c κs = search needs
 
 add-d : tie.Need-add-d
-add-d c = omega (arith, size-is c, size-most-told (c .before .before .before .before .before .before .before .pre .0))
+add-d c = omega (arith, size-is c, size-most-told (c .before .before .before .before .before .before .pre .0))
 
 slice-relend-prefix-send-in : tie.Need-slice-relend-prefix-send-in
-slice-relend-prefix-send-in c = bits-fit c
+slice-relend-prefix-send-in c = stream-fits c (c .before .before .before .before .before .before .pre .1 .first)
 
 slice-aggregate-send-in : tie.Need-slice-aggregate-send-in
-slice-aggregate-send-in c = front-count _ _ (bits-fit (c .before))
+slice-aggregate-send-in c = front-count _ _ (stream-fits (c .before) (c .before .before .before .before .before .before .before .pre .1 .first))
 
 slice-relend-prefix-send-in-2 : tie.Need-slice-relend-prefix-send-in-2
-slice-relend-prefix-send-in-2 c = stream-fits (c .before) (c .before .before .before .before .before .before .before .before .pre .1 .first)
+slice-relend-prefix-send-in-2 c = stream-fits (c .before) (c .before .before .before .before .before .before .before .pre .1 .second)
 
 slice-aggregate-send-in-2 : tie.Need-slice-aggregate-send-in-2
-slice-aggregate-send-in-2 c = front-count _ _ (stream-fits (c .before .before) (c .before .before .before .before .before .before .before .before .before .pre .1 .first))
+slice-aggregate-send-in-2 c = front-count _ _ (stream-fits (c .before .before) (c .before .before .before .before .before .before .before .before .pre .1 .second))
 
 slice-relend-prefix-send-in-3 : tie.Need-slice-relend-prefix-send-in-3
-slice-relend-prefix-send-in-3 c = stream-fits (c .before .before) (c .before .before .before .before .before .before .before .before .before .pre .1 .second)
+slice-relend-prefix-send-in-3 c = stream-fits (c .before .before) (c .before .before .before .before .before .before .before .before .pre .1 .third)
 
 slice-aggregate-send-in-3 : tie.Need-slice-aggregate-send-in-3
-slice-aggregate-send-in-3 c = front-count _ _ (stream-fits (c .before .before .before) (c .before .before .before .before .before .before .before .before .before .before .pre .1 .second))
-
-slice-relend-prefix-send-in-4 : tie.Need-slice-relend-prefix-send-in-4
-slice-relend-prefix-send-in-4 c = stream-fits (c .before .before .before) (c .before .before .before .before .before .before .before .before .before .before .pre .1 .third)
-
-slice-aggregate-send-in-4 : tie.Need-slice-aggregate-send-in-4
-slice-aggregate-send-in-4 c = front-count _ _ (stream-fits (c .before .before .before .before) (c .before .before .before .before .before .before .before .before .before .before .before .pre .1 .third))
+slice-aggregate-send-in-3 c = front-count _ _ (stream-fits (c .before .before .before) (c .before .before .before .before .before .before .before .before .before .pre .1 .third))
 
 send-in-requires : tie.Need-send-in-requires
 send-in-requires c κs =
-    let k = c .before .before .before .before .before in
-    let start = k .before .before .before .before .before .before .before in
+    let k = c .before .before .before .before in
+    let start = k .before .before .before .before .before .before in
     let places = ap (λ (n : ℕ). n + 4) (size-is k) in (
       start .pre .0,
       record {
-        bits = length-take-le _ _ (bits-fit k) ∙ size-is k;
         first = length-take-le _ _ (stream-fits k (start .pre .1 .first)) ∙ places;
         second = length-take-le _ _ (stream-fits k (start .pre .1 .second)) ∙ places;
         third = length-take-le _ _ (stream-fits k (start .pre .1 .third)) ∙ places;
@@ -81,9 +71,6 @@ same-length-3 c = search needs
 same-length-4 : tie.Need-same-length-4
 same-length-4 c = search needs
 
-same-length-5 : tie.Need-same-length-5
-same-length-5 c = search needs
-
 returns : tie.Need-returns
 returns c = search needs
 
@@ -99,12 +86,9 @@ send-within-spec =
     slice-aggregate-send-in-2
     slice-relend-prefix-send-in-3
     slice-aggregate-send-in-3
-    slice-relend-prefix-send-in-4
-    slice-aggregate-send-in-4
     send-in-requires
     same-length
     same-length-2
     same-length-3
     same-length-4
-    same-length-5
     returns)

@@ -13,18 +13,18 @@ use Rattle.codeword.proofs.call.write_in.Statement.{statement}
 use Rattle.codeword.proofs.call.write_in.Tie as tie
 
 abbrev Inv-loop : tie.InvT-loop
-Inv-loop block q n version s c₀ d0₀ d1₀ d2₀ out₀ remainder g at₀ r₀ c d0 d1 d2 out at r =
-    Stretching block q n version out₀ s (s .blocks) remainder g out at r × Lent (s .long) c₀ d0₀ d1₀ d2₀ c d0 d1 d2
+Inv-loop block q n version s d0₀ d1₀ d2₀ out₀ remainder g at₀ r₀ d0 d1 d2 out at r =
+    Stretching block q n version out₀ s (s .blocks) remainder g out at r × Lent (s .long) d0₀ d1₀ d2₀ d0 d1 d2
 
 abbrev μ-loop : tie.MeasureT-loop
-μ-loop block q n version s c₀ d0₀ d1₀ d2₀ out₀ remainder g at₀ r₀ c d0 d1 d2 out at r = s .blocks - r
+μ-loop block q n version s d0₀ d1₀ d2₀ out₀ remainder g at₀ r₀ d0 d1 d2 out at r = s .blocks - r
 
 crc24a-requires : tie.Need-crc24a-requires Inv-loop μ-loop
 crc24a-requires c κs = search needs
 
 loop-holds : tie.Need-loop-holds Inv-loop μ-loop
 loop-holds c =
-    let given = c .before .before .before .before .before .before .before .pre in
+    let given = c .before .before .before .before .before .before .pre in
     (start (given .0) (given .1 .0) (count-told _ (given .1 .0)) (c .crc24a .ensures) (search needs), lent (given .1 .1))
 
 share-of-requires : tie.Need-share-of-requires Inv-loop μ-loop
@@ -41,31 +41,30 @@ part-send-within-start c = omega arith
 
 part-send-within-end : tie.Need-part-send-within-end Inv-loop μ-loop
 part-send-within-end c =
-    let shared = c .before .before .before .before in
+    let shared = c .before .before .before in
     within (shared .before .before .before .loop .inv .0) (shared .before .if1 .taken) (shared .share-of .ensures)
 
 send-within-requires : tie.Need-send-within-requires Inv-loop μ-loop
 send-within-requires c κs =
-    let test = c .before .before .before .before .before .before in
+    let test = c .before .before .before .before .before in
     let sent = sending (test .before .before .loop .inv .0) (test .if1 .taken) in
     (sent, enough (test .before .before .loop .inv .1) (size-within sent))
 
 add-r : tie.Need-add-r Inv-loop μ-loop
-add-r c = let test = c .before .before .before .before .before .before .before .before .before .before .before .before .before .before .before .before .before in omega (arith, test .if1 .taken, few (test .before .before .loop .inv .0))
+add-r c = let test = c .before .before .before .before .before .before .before .before .before .before .before .before .before .before in omega (arith, test .if1 .taken, few (test .before .before .loop .inv .0))
 
 loop-less : tie.Need-loop-less Inv-loop μ-loop
-loop-less c = omega (arith, c .before .before .before .before .before .before .before .before .before .before .before .before .before .before .before .before .before .if1 .taken)
+loop-less c = omega (arith, c .before .before .before .before .before .before .before .before .before .before .before .before .before .before .if1 .taken)
 
 loop-again : tie.Need-loop-again Inv-loop μ-loop
 loop-again c =
-    let sent = c .before .before .before .before .before .before .before .before .before .before in
-    let shared = sent .before .before .before .before .before .before in
+    let sent = c .before .before .before .before .before .before .before .before in
+    let shared = sent .before .before .before .before .before in
     let turn = shared .before .before .before .loop .inv in (
       next (turn .0) (shared .before .if1 .taken) (shared .share-of .ensures) (sent .send-within .ensures)
-          (c .before .out .given .0 ∙ sym (sent .before .send-within-arg5 .given .1)),
+          (c .before .out .given .0 ∙ sym (sent .before .send-within-arg4 .given .1)),
       record {
         spacious = turn .1 .spacious;
-        bits = c .before .before .before .before .before .before .before .before .before .c .given ∙ turn .1 .bits;
         first = c .before .before .before .before .before .before .before .d0 .given ∙ turn .1 .first;
         second = c .before .before .before .before .before .d1 .given ∙ turn .1 .second;
         third = c .before .before .before .d2 .given ∙ turn .1 .third;
@@ -73,19 +72,16 @@ loop-again c =
     )
 
 same-length : tie.Need-same-length Inv-loop μ-loop
-same-length c = c .before .before .loop .inv .1 .bits
+same-length c = c .before .before .loop .inv .1 .first
 
 same-length-2 : tie.Need-same-length-2 Inv-loop μ-loop
-same-length-2 c = c .before .before .loop .inv .1 .first
+same-length-2 c = c .before .before .loop .inv .1 .second
 
 same-length-3 : tie.Need-same-length-3 Inv-loop μ-loop
-same-length-3 c = c .before .before .loop .inv .1 .second
+same-length-3 c = c .before .before .loop .inv .1 .third
 
 same-length-4 : tie.Need-same-length-4 Inv-loop μ-loop
-same-length-4 c = c .before .before .loop .inv .1 .third
-
-same-length-5 : tie.Need-same-length-5 Inv-loop μ-loop
-same-length-5 c = c .before .before .loop .inv .0 .written .long
+same-length-4 c = c .before .before .loop .inv .0 .written .long
 
 returns : tie.Need-returns Inv-loop μ-loop
 returns c = finish (c .before .before .loop .inv .0) (c .if1 .left)
@@ -111,5 +107,4 @@ write-in-spec =
     same-length-2
     same-length-3
     same-length-4
-    same-length-5
     returns)

@@ -15,11 +15,8 @@ slice-aggregate-write-in-2 c = search needs
 slice-aggregate-write-in-3 : tie.Need-slice-aggregate-write-in-3
 slice-aggregate-write-in-3 c = search needs
 
-slice-aggregate-write-in-4 : tie.Need-slice-aggregate-write-in-4
-slice-aggregate-write-in-4 c = search needs
-
 write-in-requires : tie.Need-write-in-requires
-write-in-requires c κs = let given = c .before .before .before .before .before .before .before .pre in (given .0, (given .1, fresh-rooms 6144 (long-told _ (given .0 .size) (given .1))))
+write-in-requires c κs = let given = c .before .before .before .before .before .before .pre in (given .0, (given .1, fresh-rooms 6144 (long-told _ (given .0 .size) (given .1))))
 
 same-length : tie.Need-same-length
 same-length c = search needs
@@ -34,7 +31,6 @@ write-long-spec =
     slice-aggregate-write-in
     slice-aggregate-write-in-2
     slice-aggregate-write-in-3
-    slice-aggregate-write-in-4
     write-in-requires
     same-length
     returns)

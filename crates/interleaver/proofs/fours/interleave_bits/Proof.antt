@@ -1,43 +1,46 @@
--- `fours::interleave_bits` meets its contract: either room has at least a quarter's length, and `by_fours` does the rest.
+-- `fours::interleave_bits` meets its contract: either room has at least a quarter's length in fours, and `by_fours` does the rest.
 -- Assumes nothing.
 use borrow.Author.Needs.{needs}
 use mathlib.Core.Path.{_≡_}
-use Prim.Native.Nat.{ℕ, _*_, _/_, _%_, _≤_}
+use Prim.Native.Nat.{ℕ, _+_, _*_, _/_, _%_, _≤_}
 use native.Mathlib.Omega.{arith}
-use lib.ListN.{length, take, replicate, length-replicate}
-use Rattle.laws.proofs.Parts.{front-count}
+use Rattle.laws.proofs.Parts.{fresh-count}
 use Rattle.interleaver.proofs.fours.interleave_bits.Statement.{statement}
 use Rattle.interleaver.proofs.fours.interleave_bits.Tie as tie
 
--- the front of a fresh room
-front : (N n : ℕ) → n ≤ N → n ≡ length (take n (replicate {A = ℕ} N 0))
-front N n h = front-count n (replicate {A = ℕ} N 0) (rw (length-replicate {A = ℕ} N 0) h)
+-- the room that is lent: a quarter's length, rounded up to fours
+lent : (K : ℕ) {n : ℕ} → K % 8 ≡ 0 → K ≤ 6144 → (K / 4 + 3) / 4 * 4 ≡ n → (K ≤ 4 * n) × (n % 4 ≡ 0) × (n ≤ 1536)
+lent K h most e = (omega arith, omega arith, omega arith)
 
--- four times the quarter is the whole
-whole : (K n : ℕ) → K % 8 ≡ 0 → K / 4 ≡ n → K ≡ 4 * n
-whole K n h e = omega arith
+add-n : tie.Need-add-n
+add-n c = search needs
+
+mul-n : tie.Need-mul-n
+mul-n c = search needs
 
 array-borrow-prefix-y : tie.Need-array-borrow-prefix-y
 array-borrow-prefix-y c = search needs
 
 slice-aggregate-by-fours : tie.Need-slice-aggregate-by-fours
-slice-aggregate-by-fours c = front 64 _ (c .before .if1 .taken)
+slice-aggregate-by-fours c = fresh-count {A = ℕ} 0 64 _ (c .before .if1 .taken)
 
 by-fours-requires : tie.Need-by-fours-requires
 by-fours-requires c κs =
     let start = c .before .before .before .before .before in
-    (start .pre .0, start .pre .1, whole _ _ (start .pre .0 .eights) (front 64 _ (c .before .before .if1 .taken)))
+    let room = lent _ (start .pre .0 .eights) (start .pre .0 .most) (fresh-count {A = ℕ} 0 64 _ (c .before .before .if1 .taken)) in
+    (start .pre .0, start .pre .1, room .0, room .1, room .2)
 
 array-borrow-prefix-y-2 : tie.Need-array-borrow-prefix-y-2
 array-borrow-prefix-y-2 c = search needs
 
 slice-aggregate-by-fours-2 : tie.Need-slice-aggregate-by-fours-2
-slice-aggregate-by-fours-2 c = front 1536 _ (omega arith)
+slice-aggregate-by-fours-2 c = fresh-count {A = ℕ} 0 1536 _ (omega arith)
 
 by-fours-requires-2 : tie.Need-by-fours-requires-2
 by-fours-requires-2 c κs =
     let start = c .before .before .before .before .before in
-    (start .pre .0, start .pre .1, whole _ _ (start .pre .0 .eights) (front 1536 _ (omega (arith, start .pre .0 .most))))
+    let room = lent _ (start .pre .0 .eights) (start .pre .0 .most) (fresh-count {A = ℕ} 0 1536 _ (omega (arith, start .pre .0 .most))) in
+    (start .pre .0, start .pre .1, room .0, room .1, room .2)
 
 same-length : tie.Need-same-length
 same-length c = search needs
@@ -55,6 +58,8 @@ pub interleave-bits-spec : {M : Type 1} → statement M
 interleave-bits-spec =
     tie.close
     (tie.spec
+    add-n
+    mul-n
     array-borrow-prefix-y
     slice-aggregate-by-fours
     by-fours-requires

@@ -4,7 +4,7 @@ use Prim.Native.Nat.{_≤_}
 use native.Mathlib.Omega.{arith}
 use lib.ListN.{length}
 use Rattle.laws.proofs.Parts.{front-count}
-use Rattle.rate_matching.proofs.MatcherBlock.{matchable-told, unit-below, first-room, second-room, ring-ends, bits-some, matched-is}
+use Rattle.rate_matching.proofs.MatcherBlock.{matchable-told, unit-below, first-room, second-room, bits-some, matched-is}
 use borrow.Author.Needs.{needs}
 use Rattle.rate_matching.proofs.matcher.match_in.Statement.{statement}
 use Rattle.rate_matching.proofs.matcher.match_in.Tie as tie
@@ -14,10 +14,7 @@ abbrev entry : tie.After-put-units2 → tie.Start
 entry c = c .before .before .before .before .before .before .before .before .before .before .before .before
 
 within : (c : tie.After-put-units2) → c .put-units2 .result ≤ length (c .put-units2 .last .1 .1 .1 .1 .1 .1 .0)
-within c =
-    let first = c .before .before .before .before .put-units in
-    let version = matchable-told (entry c .pre .0) .version in
-    ring-ends _ _ version (c .before .before .before .before .before .before .start-unit .ensures) (entry c .pre .1) (first .ensures) (first .kept .1 .1 .1 .1 .1 .1 .0) (c .put-units2 .ensures) (c .put-units2 .kept .1 .1 .1 .1 .1 .1 .0)
+within c = c .put-units2 .ensures .inside
 
 start-unit-requires : tie.Need-start-unit-requires
 start-unit-requires c κs = matchable-told (c .before .before .before .before .before .pre .0) .version
@@ -27,7 +24,7 @@ put-units-requires c κs =
     let s = c .before .before .before .before .before .before .before in
     let m = matchable-told (s .pre .0) in
     let e = c .before .start-unit .ensures in
-    (m .fits, unit-below _ (m .version) e, omega arith, first-room _ _ (m .version) e (s .pre .1))
+    (m .fits, unit-below _ (m .version) e, omega arith, omega arith, first-room _ _ (m .version) e (s .pre .1))
 
 put-units-requires-2 : tie.Need-put-units-requires-2
 put-units-requires-2 c κs =
@@ -35,7 +32,7 @@ put-units-requires-2 c κs =
     let m = matchable-told (s .pre .0) in
     let e = c .before .before .before .before .before .start-unit .ensures in
     let g = c .before .before .before .put-units in
-    (m .fits, omega arith, unit-below _ (m .version) e, second-room _ _ (m .version) e (s .pre .1) (g .ensures) (g .kept .1 .1 .1 .1 .1 .1 .0))
+    (m .fits, omega arith, unit-below _ (m .version) e, g .ensures .inside, second-room _ _ (m .version) e (s .pre .1) (g .ensures) (g .kept .1 .1 .1 .1 .1 .1 .0))
 
 slice-reshare-prefix-fill : tie.Need-slice-reshare-prefix-fill
 slice-reshare-prefix-fill c = within (c .before .before)

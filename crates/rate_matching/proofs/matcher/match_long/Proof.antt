@@ -1,7 +1,6 @@
 -- `matcher::match_long` meets its contract: every circle fits its room.
 -- Assumes nothing.
-use native.Mathlib.Omega.{arith}
-use Rattle.rate_matching.proofs.MatcherBlock.{matchable-told, room-fits}
+use Rattle.rate_matching.proofs.MatcherBlock.{matchable-told, longest-holds}
 use borrow.Author.Needs.{needs}
 use Rattle.rate_matching.proofs.matcher.match_long.Statement.{statement}
 use Rattle.rate_matching.proofs.matcher.match_long.Tie as tie
@@ -10,7 +9,7 @@ slice-aggregate-match-in : tie.Need-slice-aggregate-match-in
 slice-aggregate-match-in c = search needs
 
 match-in-requires : tie.Need-match-in-requires
-match-in-requires c κs = let s = c .before .before .before .before .before .before in (s .pre .0, room-fits 193 _ (omega (arith, matchable-told (s .pre .0) .fits .most)), s .pre .1)
+match-in-requires c κs = let s = c .before .before .before .before .before .before in (s .pre .0, longest-holds _ _ (matchable-told (s .pre .0) .fits .most), s .pre .1)
 
 same-length : tie.Need-same-length
 same-length c = search needs

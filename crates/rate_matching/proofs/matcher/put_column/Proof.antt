@@ -1,25 +1,24 @@
 -- `matcher::put_column` meets its contract: the rows behind dummies and filler are read into the ring.
 -- Assumes nothing.
 use mathlib.Core.Path.{refl}
-use Prim.Native.Nat.{_-_}
+use Prim.Native.Nat.{_+_}
 use native.Mathlib.Omega.{arith}
 use lib.ListN.{length}
-use Rattle.rate_matching.specs.SubBlocks.{rows, dummies}
-use Rattle.rate_matching.specs.Units.{firstRow}
+use Rattle.rate_matching.specs.SubBlocks.{rows, dummies, rowsBefore}
 use Rattle.rate_matching.proofs.MatcherRing.{Rowed, rowed, column-asks, put-column}
 use borrow.Author.Needs.{needs}
 use Rattle.rate_matching.proofs.matcher.put_column.Statement.{statement}
 use Rattle.rate_matching.proofs.matcher.put_column.Tie as tie
 
 -- the row that was found, and the function's entry
-abbrev entry : tie.After-first-row → tie.Start
+abbrev entry : tie.After-rows-before → tie.Start
 entry c = c .before .before .before
 
-found : (c : tie.After-first-row)
+found : (c : tie.After-rows-before)
     → Rowed (length (entry c .args .d .now)) (entry c .args .filler) (entry c .args .p) (rows (length (entry c .args .d .now))) (dummies (length (entry c .args .d .now)))
-    (firstRow (dummies (length (entry c .args .d .now)) - 1) (entry c .args .p)) (c .first-row .result)
+    (rowsBefore (dummies (length (entry c .args .d .now))) (entry c .args .p + 1)) (c .rows-before .result)
 unfolding rows dummies
-found c = rowed (entry c .pre .0) refl (c .first-row .ensures)
+found c = rowed (entry c .pre .0) refl (c .rows-before .ensures)
 
 add-rows : tie.Need-add-rows
 add-rows c = search needs
@@ -30,11 +29,11 @@ mul-dummies c = search needs
 sub-dummies : tie.Need-sub-dummies
 sub-dummies c = search needs
 
-add-first-row : tie.Need-add-first-row
-add-first-row c = search needs
+add-rows-before : tie.Need-add-rows-before
+add-rows-before c = search needs
 
-first-row-requires : tie.Need-first-row-requires
-first-row-requires c κs = search needs
+rows-before-requires : tie.Need-rows-before-requires
+rows-before-requires c κs = search needs
 
 sub-end : tie.Need-sub-end
 unfolding rows dummies
@@ -76,7 +75,7 @@ returns : tie.Need-returns
 unfolding rows dummies
 returns c =
     let row = c .before .before .before .before in
-    put-column _ (entry row .pre .0) refl (row .first-row .ensures) _ _ (entry row .pre .1) (c .before .before .read-column .ensures)
+    put-column _ (entry row .pre .0) refl (row .rows-before .ensures) _ _ (entry row .pre .1) (c .before .before .read-column .ensures)
 
 pub put-column-spec : {M : Type 1} → statement M
 put-column-spec =
@@ -85,8 +84,8 @@ put-column-spec =
     add-rows
     mul-dummies
     sub-dummies
-    add-first-row
-    first-row-requires
+    add-rows-before
+    rows-before-requires
     sub-end
     add-end
     mul-read-column

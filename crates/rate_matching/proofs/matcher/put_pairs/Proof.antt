@@ -9,14 +9,14 @@ use Rattle.rate_matching.proofs.matcher.put_pairs.Statement.{statement}
 use Rattle.rate_matching.proofs.matcher.put_pairs.Tie as tie
 
 -- the rows that were found, and the function's entry
-abbrev entry : tie.After-first-row2 → tie.Start
+abbrev entry : tie.After-rows-before2 → tie.Start
 entry c = c .before .before .before .before .before
 
-found : (c : tie.After-first-row2)
+found : (c : tie.After-rows-before2)
     → Rowed (length (entry c .args .d1 .now)) (entry c .args .filler) (entry c .args .p) (rows (length (entry c .args .d1 .now))) (dummies (length (entry c .args .d1 .now)))
-    (c .before .first-row .result) (c .first-row2 .result)
+    (c .before .rows-before .result) (c .rows-before2 .result)
 unfolding rows dummies
-found c = rowed (entry c .pre .0) (c .before .first-row .ensures) (c .first-row2 .ensures)
+found c = rowed (entry c .pre .0) (c .before .rows-before .ensures) (c .rows-before2 .ensures)
 
 add-rows : tie.Need-add-rows
 add-rows c = search needs
@@ -27,17 +27,17 @@ mul-dummies c = search needs
 sub-dummies : tie.Need-sub-dummies
 sub-dummies c = search needs
 
-sub-first-row : tie.Need-sub-first-row
-sub-first-row c = search needs
+add-rows-before : tie.Need-add-rows-before
+add-rows-before c = search needs
 
-first-row-requires : tie.Need-first-row-requires
-first-row-requires c κs = search needs
+rows-before-requires : tie.Need-rows-before-requires
+rows-before-requires c κs = search needs
 
-add-first-row : tie.Need-add-first-row
-add-first-row c = search needs
+add-rows-before-2 : tie.Need-add-rows-before-2
+add-rows-before-2 c = search needs
 
-first-row-requires-2 : tie.Need-first-row-requires-2
-first-row-requires-2 c κs = search needs
+rows-before-requires-2 : tie.Need-rows-before-requires-2
+rows-before-requires-2 c κs = search needs
 
 sub-mid : tie.Need-sub-mid
 unfolding rows dummies
@@ -131,7 +131,7 @@ unfolding rows dummies
 returns c =
     let rows = c .before .before .before .before .before .before .before .before in
     let s = entry rows in
-    put-pairs (s .args .ring .now) (s .pre .0) (rows .before .first-row .ensures) (rows .first-row2 .ensures) _ _ _ _ (s .pre .2)
+    put-pairs (s .args .ring .now) (s .pre .0) (rows .before .rows-before .ensures) (rows .rows-before2 .ensures) _ _ _ _ (s .pre .2)
     (c .before .before .before .before .before .before .read-column .ensures) (c .before .before .read-pairs .ensures)
 
 pub put-pairs-spec : {M : Type 1} → statement M
@@ -141,10 +141,10 @@ put-pairs-spec =
     add-rows
     mul-dummies
     sub-dummies
-    sub-first-row
-    first-row-requires
-    add-first-row
-    first-row-requires-2
+    add-rows-before
+    rows-before-requires
+    add-rows-before-2
+    rows-before-requires-2
     sub-mid
     add-mid
     add-read-column

@@ -20,7 +20,7 @@ columns-requires : tie.Need-columns-requires Inv-loop μ-loop
 columns-requires c κs = search needs
 
 loop-holds : tie.Need-loop-holds Inv-loop μ-loop
-loop-holds c = (c .columns .ensures, filling-start (c .before .before .before .before .before .pre .1))
+loop-holds c = let s = c .before .before .before .before .before in (c .columns .ensures, filling-start (s .pre .1) (s .pre .3))
 
 array-read-put-unit : tie.Need-array-read-put-unit Inv-loop μ-loop
 array-read-put-unit c = omega arith
@@ -33,25 +33,29 @@ put-unit-requires c κs =
     let l = c .before .before .loop in
     let s = c .before .before .before .before .before .before .before .before in
     let h = filling-goes (l .inv .1) _ (c .before .loop-test .taken) in
-    (s .pre .0, omega (arith, h, s .pre .2), table-at _ (l .inv .0), filling-room (l .inv .1) h (s .pre .3))
+    (s .pre .0, omega (arith, h .0, s .pre .2), table-at _ (l .inv .0), filling-room (l .inv .1) (h .0) (h .1) (s .pre .4))
 
 add-u : tie.Need-add-u Inv-loop μ-loop
-add-u c = let h = filling-goes (c .before .before .before .before .before .loop .inv .1) _ (c .before .before .before .before .loop-test .taken) in omega (arith, h)
+add-u c = let h = filling-goes (c .before .before .before .before .before .loop .inv .1) _ (c .before .before .before .before .loop-test .taken) in omega (arith, h .0)
 
 loop-less : tie.Need-loop-less Inv-loop μ-loop
-loop-less c = let h = filling-goes (c .before .before .before .before .before .loop .inv .1) _ (c .before .before .before .before .loop-test .taken) in omega (arith, h)
+loop-less c = let h = filling-goes (c .before .before .before .before .before .loop .inv .1) _ (c .before .before .before .before .loop-test .taken) in omega (arith, h .0)
 
 loop-again : tie.Need-loop-again Inv-loop μ-loop
 loop-again c =
     let l = c .before .before .before .before .before .loop in
     let s = c .before .before .before .before .before .before .before .before .before .before .before in
-    (l .inv .0, filling-next (l .inv .1) (filling-goes (l .inv .1) _ (c .before .before .before .before .loop-test .taken)) (unit-few _ _ (l .u) _ _ _ (laid (s .pre .0) _ refl)) (c .before .before .put-unit .kept .1 .1 .1 .1 .1 .1 .0) (c .before .before .put-unit .ensures))
+    let h = filling-goes (l .inv .1) _ (c .before .before .before .before .loop-test .taken) in (
+      l .inv .0,
+      filling-next (l .inv .1) (h .0) (unit-few _ _ (l .u) _ _ _ (laid (s .pre .0) _ refl)) (filling-room (l .inv .1) (h .0) (h .1) (s .pre .4))
+          (c .before .before .put-unit .kept .1 .1 .1 .1 .1 .1 .0) (c .before .before .put-unit .ensures),
+    )
 
 same-length : tie.Need-same-length Inv-loop μ-loop
 same-length c = c .before .loop .inv .1 .long
 
 returns : tie.Need-returns Inv-loop μ-loop
-returns c = filling-ends (c .before .loop .inv .1) _ (c .loop-test .left) (c .before .before .before .before .before .before .before .pre .3)
+returns c = filling-ends (c .before .loop .inv .1) _ (c .loop-test .left)
 
 pub put-units-spec : {M : Type 1} → statement M
 put-units-spec =

@@ -6,7 +6,7 @@ use native.Mathlib.Omega.{arith}
 use lib.ListN.{length}
 use borrow.Author.Tests.{not-true, not-false}
 use Rattle.rate_matching.specs.Matcher.{matchable}
-use Rattle.rate_matching.proofs.MatcherBlock.{nothing-is, refused-is}
+use Rattle.rate_matching.proofs.MatcherBlock.{matchable-told, nothing-is, refused-is}
 use borrow.Author.Needs.{needs}
 use Rattle.rate_matching.proofs.matcher.rate_match.Statement.{statement}
 use Rattle.rate_matching.proofs.matcher.rate_match.Tie as tie
@@ -28,8 +28,11 @@ matchable-requires c κs = search needs
 returns-2 : tie.Need-returns-2
 returns-2 c = refused-is _ _ _ _ _ _ (sym (c .before .matchable .ensures) ∙ not-true _ (c .if2 .taken))
 
+ring-room-requires : tie.Need-ring-room-requires
+ring-room-requires c κs = (matchable-told (told c) .fits .most, search needs)
+
 match-short-requires : tie.Need-match-short-requires
-match-short-requires c κs = (told (c .before .before), c .before .if3 .taken, omega arith)
+match-short-requires c κs = let roomed = c .before .before in (told (roomed .before), rw (← roomed .ring-room .ensures) (c .before .if3 .taken), omega arith)
 
 same-length : tie.Need-same-length
 same-length c = search needs
@@ -38,7 +41,7 @@ returns-3 : tie.Need-returns-3
 returns-3 c = search needs
 
 match-middle-requires : tie.Need-match-middle-requires
-match-middle-requires c κs = (told (c .before .before .before), c .before .if4 .taken, omega arith)
+match-middle-requires c κs = let roomed = c .before .before .before in (told (roomed .before), rw (← roomed .ring-room .ensures) (c .before .if4 .taken), omega arith)
 
 same-length-2 : tie.Need-same-length-2
 same-length-2 c = search needs
@@ -47,7 +50,7 @@ returns-4 : tie.Need-returns-4
 returns-4 c = search needs
 
 match-long-requires : tie.Need-match-long-requires
-match-long-requires c κs = (told (c .before .before .before), omega arith)
+match-long-requires c κs = (told (c .before .before .before .before), omega arith)
 
 same-length-3 : tie.Need-same-length-3
 same-length-3 c = search needs
@@ -62,6 +65,7 @@ rate-match-spec =
     returns
     matchable-requires
     returns-2
+    ring-room-requires
     match-short-requires
     same-length
     returns-3

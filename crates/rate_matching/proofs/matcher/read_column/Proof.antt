@@ -8,7 +8,7 @@ use Rattle.laws.specs.Lists.{tab, tabFrom}
 use Rattle.laws.proofs.Tab.{tab-rest, rest-none}
 use Rattle.laws.proofs.Writing.{Writing, start, same, finish-all}
 use Rattle.rate_matching.specs.Units.{everyRow}
-use Rattle.rate_matching.proofs.MatcherColumns.{column-next}
+use Rattle.rate_matching.proofs.MatcherRing.{column-next}
 use Rattle.rate_matching.proofs.matcher.read_column.Statement.{statement}
 use Rattle.rate_matching.proofs.matcher.read_column.Tie as tie
 

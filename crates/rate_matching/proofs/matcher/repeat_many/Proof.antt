@@ -7,7 +7,8 @@ use native.Mathlib.Omega.{arith}
 use lib.ListN.{length}
 use Rattle.laws.specs.Lists.{tab}
 use Rattle.rate_matching.specs.Walk.{turnAfterTurn}
-use Rattle.rate_matching.proofs.MatcherRooms.{fresh-count, back-front, back-count, back-within}
+use Rattle.laws.proofs.Parts.{fresh-count}
+use Rattle.rate_matching.proofs.MatcherRooms.{back-front, back-count, back-within}
 use Rattle.rate_matching.proofs.MatcherTurns.{turns-fit, turns-some, many-turns}
 use borrow.Author.Needs.{needs}
 use Rattle.rate_matching.proofs.matcher.repeat_many.Statement.{statement}
@@ -23,7 +24,7 @@ array-borrow-prefix-turns : tie.Need-array-borrow-prefix-turns
 array-borrow-prefix-turns c = turns-fit 2048 _
 
 slice-aggregate-repeat : tie.Need-slice-aggregate-repeat
-slice-aggregate-repeat c = fresh-count 0 2048 _ (turns-fit 2048 _)
+slice-aggregate-repeat c = fresh-count {A = ℕ} 0 2048 _ (turns-fit 2048 _)
 
 repeat-requires : tie.Need-repeat-requires
 repeat-requires c κs = search needs
@@ -44,7 +45,7 @@ returns : tie.Need-returns
 returns c =
     let s = c .before .before .before .before .before .before .before .before .before .before in
     let front = back-front 0 2048 _ (turns-fit 2048 (length (s .args .ring .now))) (c .before .before .before .before .before .before .repeat .last .1 .0) (c .before .before .before .before .before .before .repeat .kept .1 .0) in
-    let count = fresh-count 0 2048 _ (turns-fit 2048 (length (s .args .ring .now))) in
+    let count = fresh-count {A = ℕ} 0 2048 _ (turns-fit 2048 (length (s .args .ring .now))) in
     c .before .before .repeat2 .ensures
     ∙ ap (λ (l : List ℕ). tab (length (s .args .out .now)) (turnAfterTurn l)) (front ∙ c .before .before .before .before .before .before .repeat .ensures ∙ ap (λ (k : ℕ). tab k (turnAfterTurn (s .args .ring .now))) (sym count))
     ∙ many-turns (s .args .ring .now) _ _ (turns-some 2048 _ (s .pre .0) (s .pre .1))

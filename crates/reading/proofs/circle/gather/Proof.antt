@@ -1,7 +1,7 @@
 -- `circle::gather` meets its contract: the rest of the first place's row, and the rows after it (`Gathering`).
 -- Assumes nothing.
 use mathlib.Core.Path.{_≡_, _∙_, ap}
-use mathlib.Core.List.{List, _++_}
+use mathlib.Core.List.{_++_}
 use Prim.Native.Nat.{ℕ, _+_, _-_, _*_, _/_, _%_, _≤_}
 use native.Mathlib.Nat.{mul-le-mul-right}
 use native.Mathlib.Omega.{arith}
@@ -10,8 +10,7 @@ use lib.Seq.{length-take-le}
 use borrow.Author.Needs.{needs}
 use borrow.Rule.Slice.PartMut.{midOf}
 use Rattle.laws.specs.Lists.{tabFrom}
-use Rattle.laws.proofs.Parts.{front-count}
-use Rattle.rate_matching.proofs.MatcherRooms.{rest-lent, rest-back}
+use Rattle.laws.proofs.Parts.{rest-lent, rest-back, front-count}
 use Rattle.reading.specs.Circle.{keptBelow, keptBy}
 use Rattle.reading.proofs.Gathering.{front-kept, front-along, rest-along, both-kept}
 use Rattle.reading.proofs.circle.gather.Statement.{statement}

@@ -1,28 +1,22 @@
 -- `circle::put_pair` meets its contract: the rows of stream 2 alone, and those of both (`Walking`).
 -- Assumes nothing.
-use mathlib.Core.Path.{_≡_, refl}
-use mathlib.Core.Logic.{⊎-elim}
-use Prim.Native.Nat.{_*_, _≤_}
+use mathlib.Core.Path.{refl}
+use Prim.Native.Nat.{_-_, _*_, _/_, _≤_}
 use native.Mathlib.Omega.{arith}
 use lib.ListN.{length}
 use borrow.Author.Needs.{needs}
-use borrow.Author.Tests.{eq-eqb, ne-eqb}
 use Rattle.rate_matching.specs.Shape.{lastPlace}
 use Rattle.reception.proofs.Walking.{rows-in, last-in, pair-put}
 use Rattle.reception.proofs.circle.put_pair.Statement.{statement}
 use Rattle.reception.proofs.circle.put_pair.Tie as tie
 
--- where the column ends
-last-is : (c : tie.Joined1) → let e = c .before .before .before .before .before .before .before .before .before .args in c .if1 .last ≡ lastPlace (e .rows) (e .column)
+-- the column ends past the rows above
+in-part : (c : tie.After-put-alone) → let e = c .before .before .before .before .before .before .args in
+    (2 * c .before .before .before .rows-before .result ≤ 2 * e .rows - e .column / 31) × (2 * e .rows - e .column / 31 ≤ length (e .part .now))
 unfolding lastPlace
-last-is c = ⊎-elim (λ w. rw (eq-eqb _ _ (w .0 .taken)) (w .1)) (λ w. rw (ne-eqb _ _ (w .0 .left)) (w .1)) (c .if1 .came)
-
--- and that it is past the rows above
-in-part : (c : tie.Joined1) → let e = c .before .before .before .before .before .before .before .before .before .args in
-    (2 * c .before .before .before .before .before .before .rows-before .result ≤ c .if1 .last) × (c .if1 .last ≤ length (e .part .now))
 in-part c =
-    let w = last-in (c .before .before .before .before .before .before .before .before .before .pre .0) (last-is c) in
-    (omega (arith, w, c .before .before .before .before .before .before .rows-before .ensures), w .1)
+    let w = last-in (c .before .before .before .before .before .before .pre .0) refl in
+    (omega (arith, w, c .before .before .before .rows-before .ensures), w .1)
 
 rows-before-requires : tie.Need-rows-before-requires
 rows-before-requires c κs = search needs
@@ -47,17 +41,14 @@ mul-last c = search needs
 sub-last : tie.Need-sub-last
 sub-last c = search needs
 
-mul-last-2 : tie.Need-mul-last-2
-mul-last-2 c = search needs
-
 sub-put-run : tie.Need-sub-put-run
-sub-put-run c = in-part (c .before) .0
+sub-put-run c = in-part (c .before .before) .0
 
 part-put-run-start : tie.Need-part-put-run-start
-part-put-run-start c = in-part (c .before) .0
+part-put-run-start c = in-part (c .before .before) .0
 
 part-put-run-end : tie.Need-part-put-run-end
-part-put-run-end c = omega (arith, in-part (c .before), c .before .before .before .before .put-alone .kept .1 .1 .1 .1 .0)
+part-put-run-end c = omega (arith, in-part (c .before .before), c .before .before .put-alone .kept .1 .1 .1 .1 .0)
 
 put-run-requires : tie.Need-put-run-requires
 put-run-requires c κs = search needs
@@ -66,11 +57,11 @@ same-length : tie.Need-same-length
 same-length c = search needs
 
 returns : tie.Need-returns
+unfolding lastPlace
 returns c =
-    let ends = c .before .before .before .before .before in
-    let put = ends .before .before .before in
+    let put = c .before .before .before .before .before .before in
     let e = put .before .before .before .before .before .before in
-    pair-put (e .pre .0) refl (e .pre .1) (put .before .before .rows-before2 .ensures) (put .before .before .before .rows-before .ensures) (last-is ends)
+    pair-put (e .pre .0) refl (e .pre .1) (put .before .before .rows-before2 .ensures) (put .before .before .before .rows-before .ensures) refl
     (put .put-alone .ensures) (c .before .before .put-run .ensures)
 
 pub put-pair-spec : {M : Type 1} → statement M
@@ -84,7 +75,6 @@ put-pair-spec =
     mul-start
     mul-last
     sub-last
-    mul-last-2
     sub-put-run
     part-put-run-start
     part-put-run-end

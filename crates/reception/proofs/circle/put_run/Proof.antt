@@ -1,6 +1,6 @@
 -- `circle::put_run` meets its contract: as many bits are copied as there are, and as the run has places (`Along`).
 -- Assumes nothing.
-use mathlib.Core.Path.{_≡_, _∙_}
+use mathlib.Core.Path.{_≡_}
 use mathlib.Core.Logic.{⊎-elim}
 use Prim.Native.Nat.{_+_, _-_, min}
 use native.Mathlib.Omega.{arith}

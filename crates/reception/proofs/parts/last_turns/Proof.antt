@@ -1,7 +1,7 @@
 -- `parts::last_turns` meets its contract: the begin of the turn before the last whole one, by division.
 -- Assumes nothing.
-use mathlib.Core.Path.{_≡_, refl, _∙_}
-use Prim.Native.Nat.{_+_, _-_, _*_, _/_, _%_, _≤_, _<_}
+use mathlib.Core.Path.{_≡_, refl}
+use Prim.Native.Nat.{_+_, _-_, _*_, _/_, _%_, _≤_}
 use native.Mathlib.Nat.{mod-self, mod-lt, mul-mod-left, mul-le-mul-right, div-add-mod', le-div-iff-mul-le}
 use native.Mathlib.Omega.{arith}
 use borrow.Author.Needs.{needs}
