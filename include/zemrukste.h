@@ -11,7 +11,7 @@
  * - The slices of one call must not overlap. An input is never written.
  * - Every number of a size_t may be given: what is out of range is refused, not undefined.
  * - The calls keep nothing between them: no global state, no heap (their work arrays, some
- *   45 kilobytes for a long code block, are on the caller's stack), no file or
+ *   41 kilobytes for a long code block, are on the caller's stack), no file or
  *   clock, no error variable. They always return and may be made from several threads at
  *   once, as long as no two of them share an output; a block may be shared.
  * - The numbers given back are those of the project's rules. 0 is "accepted"; any other
