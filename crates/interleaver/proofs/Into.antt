@@ -6,11 +6,12 @@ use Prim.Native.Nat.{ℕ, _<_}
 use native.Mathlib.Omega.{arith}
 use lib.ListN.{length, getD}
 use borrow.Author.Tests.{lt-ltb, eq-eqb}
+use Rattle.laws.specs.Bits.{AreBits}
 use Rattle.laws.proofs.Tab.{length-tab, getD-tab}
 use Rattle.interleaver.specs.Table.{rowCount, sizeAt, f1At, f2At}
 use Rattle.interleaver.specs.Place.{secondPlace, secondBit, interleaved}
 use Rattle.interleaver.specs.Into.{fitsRow, interleavedInto, bitBy, bitsBy, Walkable}
-use Rattle.interleaver.specs.Quarters.{Bits, Quartered, Countable}
+use Rattle.interleaver.specs.Quarters.{Quartered, Countable}
 use Rattle.interleaver.proofs.Rows.{row-keeps}
 
 pub length-interleaved : (row : ℕ) (c : List ℕ) → length (interleaved row c) ≡ sizeAt row
@@ -45,7 +46,7 @@ module _ {row K f1 f2 : ℕ} {c out : List ℕ} (r : OfRow row K f1 f2 c out) wh
     room = r .room;
   }
 
-  pub quartered : Bits c → Quartered c out
+  pub quartered : AreBits c → Quartered c out
   quartered b = record {
     bits = b;
     eights = rw (r .long, r .size) (row-keeps row (r .below) .bytes);

@@ -7,14 +7,15 @@ use native.Mathlib.Nat.{add-mul-mod-self-left, add-zero, div-add-mod', mod-add-m
 use native.Mathlib.Omega.{arith}
 use lib.ListN.{length, getD, take}
 use lib.Seq.{length-take-le}
+use Rattle.laws.specs.Bits.{AreBits}
 use Rattle.laws.specs.Lists.{tab}
 use Rattle.laws.proofs.Tab.{tab-ext, length-tab, getD-tab, take-tab}
 use Rattle.interleaver.specs.Place.{quadratic}
 use Rattle.interleaver.specs.Into.{bitBy, bitsBy}
-use Rattle.interleaver.specs.Quarters.{Bits, joined, onFrom, four, fours, digit, spreadOver, Quartered, Countable}
+use Rattle.interleaver.specs.Quarters.{joined, onFrom, four, fours, digit, spreadOver, Quartered, Countable}
 
 -- bit s of the joined bits at j is the bit s quarters on
-pub digit-four : (c : List ℕ) → Bits c → (j s : ℕ) → s < 4 → four c j / 2 ^ s % 2 ≡ getD c (onFrom (length c) j s) 0
+pub digit-four : (c : List ℕ) → AreBits c → (j s : ℕ) → s < 4 → four c j / 2 ^ s % 2 ≡ getD c (onFrom (length c) j s) 0
 unfolding four joined
 digit-four c b j s h = go s h
   where
@@ -22,7 +23,7 @@ digit-four c b j s h = go s h
     bit u = getD c (onFrom (length c) j u + 0) 0
 
     low : (u : ℕ) → bit u < 2
-    low u = b .each (onFrom (length c) j u + 0)
+    low u = b (onFrom (length c) j u + 0)
 
     told : (u : ℕ) → bit u ≡ getD c (onFrom (length c) j u) 0
     told u = ap (λ (n : ℕ). getD c n 0) (add-zero (onFrom (length c) j u))

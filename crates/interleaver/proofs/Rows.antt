@@ -45,8 +45,6 @@ pub record Row (row : ℕ) : Type 0 where
   pub bytes : sizeAt row % 8 ≡ 0
   pub f1-below : f1At row < sizeAt row
   pub f2-below : f2At row < sizeAt row
-  pub f1-small : f1At row < 2 ^ 10
-  pub f2-small : f2At row < 2 ^ 10
   pub coprime : gcd 12 (f1At row) (sizeAt row) ≡ 1
   pub power : f2At row ^ 7 % sizeAt row ≡ 0
   pub f2-even : f2At row % 2 ≡ 0
@@ -61,8 +59,6 @@ rowTests before K f1 f2 =
     ∷ eqb (K % 8) 0
     ∷ ltb f1 K
     ∷ ltb f2 K
-    ∷ ltb f1 (2 ^ 10)
-    ∷ ltb f2 (2 ^ 10)
     ∷ eqb (gcd 12 f1 K) 1
     ∷ eqb (f2 ^ 7 % K) 0
     ∷ eqb (f2 % 2) 0
@@ -86,11 +82,9 @@ row-keeps row h = record {
   bytes = eqb→eq _ _ (at 4);
   f1-below = ltb→lt _ _ (at 5);
   f2-below = ltb→lt _ _ (at 6);
-  f1-small = ltb→lt _ _ (at 7);
-  f2-small = ltb→lt _ _ (at 8);
-  coprime = eqb→eq _ _ (at 9);
-  power = eqb→eq _ _ (at 10);
-  f2-even = eqb→eq _ _ (at 11);
+  coprime = eqb→eq _ _ (at 7);
+  power = eqb→eq _ _ (at 8);
+  f2-even = eqb→eq _ _ (at 9);
 }
   where
     at : (k : ℕ) → T (getD (rowTests (sizeBefore row) (sizeAt row) (f1At row) (f2At row)) k true)

@@ -6,11 +6,8 @@ use mathlib.Core.Path.{_≡_}
 use Prim.Native.Nat.{ℕ, _+_, _-_, _*_, _/_, _%_, _^_, _≤_, _<_}
 use lib.Dec.{ltb}
 use lib.ListN.{length, getD}
+use Rattle.laws.specs.Bits.{AreBits}
 use Rattle.laws.specs.Lists.{tab}
-
--- every entry is 0 or 1
-pub record Bits (c : List ℕ) : Type 0 where
-  pub each : (i : ℕ) → getD c i 0 < 2
 
 -- entry i of c from a, b, d and e on as one number, that of a lowest
 unfoldable pub joined : List ℕ → ℕ → ℕ → ℕ → ℕ → ℕ → ℕ
@@ -18,7 +15,7 @@ joined c a b d e i = getD c (a + i) 0 + 2 * getD c (b + i) 0 + 4 * getD c (d + i
 
 -- n entries from each of the four places on
 pub record Joinable (c : List ℕ) (a b d e n : ℕ) : Type 0 where
-  pub bits : Bits c
+  pub bits : AreBits c
   pub first : a + n ≤ length c
   pub second : b + n ≤ length c
   pub third : d + n ≤ length c
@@ -49,7 +46,7 @@ spreadOver f1 y n = digit y (n / length y * f1 % 4) (n % length y)
 
 -- a code block of bits, and a room of its length
 pub record Quartered (c out : List ℕ) : Type 0 where
-  pub bits : Bits c
+  pub bits : AreBits c
   pub eights : length c % 8 ≡ 0
   pub some : 0 < length c
   pub most : length c ≤ 6144

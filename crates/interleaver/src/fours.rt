@@ -1,17 +1,18 @@
-// The interleaver on bits, four places a turn. f2 is even, so Π(i + K/4) is f1·K/4 ahead of Π(i), modulo K: the places that belong to i
+// The interleaver on bits, four places with one look. f2 is even, so Π(i + K/4) is f1·K/4 ahead of Π(i), modulo K: the places that belong to i
 // in the four quarters lie a quarter apart, and their bits, joined beforehand, are found with one look.
 use crate::block::reduced;
 ghost use mathlib.Core.Bool.{true};
 ghost use mathlib.Core.Path.{_≡_};
 ghost use Prim.Native.Nat.{_+_, _*_, _%_, _≤_, _<_};
 ghost use lib.ListN.{length};
+ghost use Rattle.laws.specs.Bits.{AreBits};
 ghost use Rattle.laws.specs.Lists.{tab};
 ghost use Rattle.interleaver.specs.Into.{bitBy, bitsBy};
-ghost use Rattle.interleaver.specs.Quarters.{Bits, joined, Joinable, fours, Quartered, Countable, less, digit, spreadOver};
+ghost use Rattle.interleaver.specs.Quarters.{joined, Joinable, fours, Quartered, Countable, less, digit, spreadOver};
 
 // Whether every byte is 0 or 1.
 pub(crate) fn all_bits(c: &[u8]) -> bool
-    ensures { λ r. ⌜ (r ≡ true → Bits (now (c .entry))) ⌝ }
+    ensures { λ r. ⌜ (r ≡ true → AreBits (now (c .entry))) ⌝ }
 {
     // with no branch, so that the loop runs many bytes at a time
     let mut seen: u8 = 0;

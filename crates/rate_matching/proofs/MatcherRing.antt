@@ -22,6 +22,7 @@ use Rattle.laws.proofs.Writing.{Writing, start, same, push}
 use Rattle.rate_matching.specs.Walk.{turnAfterTurn}
 use Rattle.rate_matching.specs.Columns.{columnTable, column}
 use Rattle.rate_matching.specs.SubBlocks.{rows, dummies, rowsBefore}
+use Rattle.rate_matching.specs.Shape.{lastPlace}
 use Rattle.rate_matching.specs.Units.{everyRow, pairRow, columnBits, pairBits, unitBits, unitsFrom, unitStart, Laid, Fitting, Holds, Put, PutTo}
 use Rattle.rate_matching.proofs.Columns.{column-rule}
 use Rattle.rate_matching.proofs.Places.{dummies-lt, dummies-add}
@@ -157,23 +158,23 @@ module _ {D F p R dm e f : ℕ} (r : Rowed D F p R dm e f) (n : ℕ) (ring : Lis
   alone-asks h = let m = length-mid n (n + (f - e)) ring (alone-ends h) in omega (arith, m, r .alone, r .early, r .near, r .filler)
 
   module _ (h : n + 2 * R ≤ length ring) where
-    within : n + (f - e) + (2 * (R - f) - p / 31) ≤ length ring
+    within : n + (f - e) + (2 * R - p / 31 - 2 * f) ≤ length ring
     within = omega (arith, r .high, r .alone)
 
-    pub pairs-fit : Fits w64 (length ring) → Fits w64 (n + (f - e) + (2 * (R - f) - p / 31))
+    pub pairs-fit : Fits w64 (length ring) → Fits w64 (n + (f - e) + (2 * R - p / 31 - 2 * f))
     pairs-fit b = let w = within in omega arith
 
     -- the first part came back
     module _ (part : List ℕ) (k : length part ≡ length (midOf n (n + (f - e) - n) ring)) where
-      pub pairs-end : n + (f - e) + (2 * (R - f) - p / 31) ≤ length (putMid n (n + (f - e) - n) ring part)
+      pub pairs-end : n + (f - e) + (2 * R - p / 31 - 2 * f) ≤ length (putMid n (n + (f - e) - n) ring part)
       pairs-end = rw (same-len-mid n (n + (f - e) - n) ring part k) within
 
-      lent : length (midOf (n + (f - e)) (n + (f - e) + (2 * (R - f) - p / 31) - (n + (f - e))) (putMid n (n + (f - e) - n) ring part)) ≡ 2 * (R - f) - p / 31
-      lent = length-mid (n + (f - e)) (n + (f - e) + (2 * (R - f) - p / 31)) (putMid n (n + (f - e) - n) ring part) pairs-end ∙ add-sub-cancel-left (n + (f - e)) (2 * (R - f) - p / 31)
+      lent : length (midOf (n + (f - e)) (n + (f - e) + (2 * R - p / 31 - 2 * f) - (n + (f - e))) (putMid n (n + (f - e) - n) ring part)) ≡ 2 * R - p / 31 - 2 * f
+      lent = length-mid (n + (f - e)) (n + (f - e) + (2 * R - p / 31 - 2 * f)) (putMid n (n + (f - e) - n) ring part) pairs-end ∙ add-sub-cancel-left (n + (f - e)) (2 * R - p / 31 - 2 * f)
 
       pub pairs-ask : {D2 : ℕ} → D2 ≡ D
-          → (p + 32 * f - dm + 32 * ((length (midOf (n + (f - e)) (n + (f - e) + (2 * (R - f) - p / 31) - (n + (f - e))) (putMid n (n + (f - e) - n) ring part)) + 1) / 2) ≤ D + 31)
-          × (p + 32 * f - dm + 32 * (length (midOf (n + (f - e)) (n + (f - e) + (2 * (R - f) - p / 31) - (n + (f - e))) (putMid n (n + (f - e) - n) ring part)) / 2) ≤ D2 + 30)
+          → (p + 32 * f - dm + 32 * ((length (midOf (n + (f - e)) (n + (f - e) + (2 * R - p / 31 - 2 * f) - (n + (f - e))) (putMid n (n + (f - e) - n) ring part)) + 1) / 2) ≤ D + 31)
+          × (p + 32 * f - dm + 32 * (length (midOf (n + (f - e)) (n + (f - e) + (2 * R - p / 31 - 2 * f) - (n + (f - e))) (putMid n (n + (f - e) - n) ring part)) / 2) ≤ D2 + 30)
       pairs-ask a = rw lent (omega (arith, r .sum, r .high, r .behind, r .column, r .last), omega (arith, a, r .sum, r .high, r .behind, r .column, r .last))
 
 module _ {D F p n e f : ℕ} (ring : List ℕ) (l : Laid D F p) (a : e ≡ rowsBefore (dummies D) (p + 1)) (b : f ≡ rowsBefore (dummies D + F) p) where
@@ -188,14 +189,14 @@ module _ {D F p n e f : ℕ} (ring : List ℕ) (l : Laid D F p) (a : e ≡ rowsB
   -- stream 2 alone, then both by turns
   pub put-pairs : (d1 d2 part pairs : List ℕ) → n + 2 * rows D ≤ length ring
       → part ≡ tab (length (midOf n (n + (f - e) - n) ring)) (everyRow d2 (p + 1 + 32 * e - dummies D))
-      → pairs ≡ tab (length (midOf (n + (f - e)) (n + (f - e) + (2 * (rows D - f) - p / 31) - (n + (f - e))) (putMid n (n + (f - e) - n) ring part))) (pairRow d1 d2 (p + 32 * f - dummies D))
-      → Put (pairBits D d1 d2 F p) ring n (putMid (n + (f - e)) (n + (f - e) + (2 * (rows D - f) - p / 31) - (n + (f - e))) (putMid n (n + (f - e) - n) ring part) pairs) (n + (f - e) + (2 * (rows D - f) - p / 31))
-  unfolding pairBits
+      → pairs ≡ tab (length (midOf (n + (f - e)) (n + (f - e) + (2 * rows D - p / 31 - 2 * f) - (n + (f - e))) (putMid n (n + (f - e) - n) ring part))) (pairRow d1 d2 (p + 32 * f - dummies D))
+      → Put (pairBits D d1 d2 F p) ring n (putMid (n + (f - e)) (n + (f - e) + (2 * rows D - p / 31 - 2 * f) - (n + (f - e))) (putMid n (n + (f - e) - n) ring part) pairs) (n + (f - e) + (2 * rows D - p / 31 - 2 * f))
+  unfolding pairBits lastPlace
   put-pairs d1 d2 part pairs h s t =
-      subst (λ (g : ℕ). Put (tab (g - rowsBefore (dummies D) (p + 1)) (everyRow d2 (p + 1 + 32 * rowsBefore (dummies D) (p + 1) - dummies D)) ++ tab (2 * (rows D - g) - p / 31) (pairRow d1 d2 (p + 32 * g - dummies D))) ring n all end) b
-      (subst (λ (g : ℕ). Put (tab (f - g) (everyRow d2 (p + 1 + 32 * g - dummies D)) ++ tab (2 * (rows D - f) - p / 31) (pairRow d1 d2 (p + 32 * f - dummies D))) ring n all end) a
+      subst (λ (g : ℕ). Put (tab (g - rowsBefore (dummies D) (p + 1)) (everyRow d2 (p + 1 + 32 * rowsBefore (dummies D) (p + 1) - dummies D)) ++ tab (2 * rows D - p / 31 - 2 * g) (pairRow d1 d2 (p + 32 * g - dummies D))) ring n all end) b
+      (subst (λ (g : ℕ). Put (tab (f - g) (everyRow d2 (p + 1 + 32 * g - dummies D)) ++ tab (2 * rows D - p / 31 - 2 * f) (pairRow d1 d2 (p + 32 * f - dummies D))) ring n all end) a
       (put-join (put-part n mid ring (f - e) (everyRow d2 (p + 1 + 32 * e - dummies D)) refl (omega (arith, r)) s)
-      (put-part mid end (putMid n (mid - n) ring part) (2 * (rows D - f) - p / 31) (pairRow d1 d2 (p + 32 * f - dummies D)) refl long t)))
+      (put-part mid end (putMid n (mid - n) ring part) (2 * rows D - p / 31 - 2 * f) (pairRow d1 d2 (p + 32 * f - dummies D)) refl long t)))
     where
       r : Rowed D F p (rows D) (dummies D) e f
       r = rowed l a b
@@ -204,7 +205,7 @@ module _ {D F p n e f : ℕ} (ring : List ℕ) (l : Laid D F p) (a : e ≡ rowsB
       mid = n + (f - e)
 
       end : ℕ
-      end = mid + (2 * (rows D - f) - p / 31)
+      end = mid + (2 * rows D - p / 31 - 2 * f)
 
       all : List ℕ
       all = putMid mid (end - mid) (putMid n (mid - n) ring part) pairs
@@ -248,7 +249,7 @@ table-below u e = rw (table-at (u % 32) e) (column-rule (u % 32) (omega arith) .
 -- ---- how long a unit is
 
 pub unit-few : (D F u : ℕ) (d0 d1 d2 : List ℕ) → Laid D F (column (u % 32)) → length (unitBits D d0 d1 d2 F u) ≤ unitStart (rows D) (u + 1) - unitStart (rows D) u
-unfolding unitBits columnBits pairBits
+unfolding unitBits columnBits pairBits lastPlace
 unit-few D F u d0 d1 d2 l = go (ltb u 32) refl
   where
     p : ℕ
@@ -264,7 +265,7 @@ unit-few D F u d0 d1 d2 l = go (ltb u 32) refl
     go true t = omega (arith, low-next (rows D) u (ltb-true u 32 t), length-tab (rows D - f) (everyRow d0 (p + 32 * f - dummies D)))
     go false t =
         let r : Rowed D F p (rows D) (dummies D) e f = rowed l refl refl in
-        let m : ℕ = 2 * (rows D - f) - p / 31 in
+        let m : ℕ = 2 * rows D - p / 31 - 2 * f in
         omega (arith, r .alone, r .high, high-next (rows D) u (ltb-false u 32 t), length-append (tab (f - e) (everyRow d2 (p + 1 + 32 * e - dummies D))) (tab m (pairRow d1 d2 (p + 32 * f - dummies D))), length-tab (f - e) (everyRow d2 (p + 1 + 32 * e - dummies D)), length-tab m (pairRow d1 d2 (p + 32 * f - dummies D)))
 
 pub unit-most : (R u : ℕ) → unitStart R (u + 1) - unitStart R u ≤ 2 * R

@@ -127,7 +127,7 @@ module _ (D F : ℕ) (d0 d1 d2 : List ℕ) (l0 : length d0 ≡ D) (l1 : length d
   alone-within : (q : ℕ) → q < f → p + 32 * q + 1 < 32 * R
   alone-within q l = omega (arith, dummies-add D, row-before (dummies D + F) p q l)
 
-  pair-within : (q : ℕ) → 2 * q + 1 < 2 * (R - f) - p / 31 → p + 32 * (f + q) + 1 < 32 * R
+  pair-within : (q : ℕ) → 2 * q + 1 < 2 * R - p / 31 - 2 * f → p + 32 * (f + q) + 1 < 32 * R
   pair-within q l = omega (arith, p-lt, f-most)
 
   pub pair-bits : map (onCircle (circle d0 d1 d2)) (bitPlaces (shape D F) j (j + 2 * R)) ≡ pairBits D d1 d2 F p
@@ -136,16 +136,13 @@ module _ (D F : ℕ) (d0 d1 d2 : List ℕ) (l0 : length d0 ≡ D) (l1 : length d
       ap (map w) (pair-places D F (omega arith) c h few (some-dummies D some))
       ∙ ap (map w) (map-append (λ (k : ℕ). j + k) (tabFrom e (f - e) second) (tabFrom (2 * f) (2 * R - p / 31 - 2 * f) itself))
       ∙ map-append w (map (λ (k : ℕ). j + k) (tabFrom e (f - e) second)) (map (λ (k : ℕ). j + k) (tabFrom (2 * f) (2 * R - p / 31 - 2 * f) itself))
-      ∙ ap₂ _++_ (mapped e (f - e) second _ alone) (ap (λ (n : ℕ). map w (map (λ (k : ℕ). j + k) (tabFrom (2 * f) n itself))) count ∙ mapped (2 * f) m itself _ both)
+      ∙ ap₂ _++_ (mapped e (f - e) second _ alone) (mapped (2 * f) m itself _ both)
     where
       w : ℕ → ℕ
       w = onCircle (circle d0 d1 d2)
 
       m : ℕ
-      m = 2 * (R - f) - p / 31
-
-      count : 2 * R - p / 31 - 2 * f ≡ m
-      count = omega arith
+      m = 2 * R - p / 31 - 2 * f
 
       -- a stretch of places, entry by entry
       mapped : (i n : ℕ) (g h : ℕ → ℕ) → ((q : ℕ) → q < n → w (j + g (i + q)) ≡ h q) → map w (map (λ (k : ℕ). j + k) (tabFrom i n g)) ≡ tab n h

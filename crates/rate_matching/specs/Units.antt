@@ -10,6 +10,7 @@ use Rattle.laws.specs.Lists.{tab}
 use Rattle.rate_matching.specs.Columns.{column}
 use Rattle.rate_matching.specs.SubBlocks.{rows, dummies, rowsBefore}
 use Rattle.rate_matching.specs.Circle.{circleLength}
+use Rattle.rate_matching.specs.Shape.{lastPlace}
 use Rattle.rate_matching.specs.Places.{longest}
 
 -- row q of a column that begins at a place
@@ -30,7 +31,7 @@ columnBits D d F p =
 unfoldable pub pairBits : ℕ → List ℕ → List ℕ → ℕ → ℕ → List ℕ
 pairBits D d1 d2 F p =
     tab (rowsBefore (dummies D + F) p - rowsBefore (dummies D) (p + 1)) (everyRow d2 (p + 1 + 32 * rowsBefore (dummies D) (p + 1) - dummies D))
-    ++ tab (2 * (rows D - rowsBefore (dummies D + F) p) - p / 31) (pairRow d1 d2 (p + 32 * rowsBefore (dummies D + F) p - dummies D))
+    ++ tab (lastPlace (rows D) p - 2 * rowsBefore (dummies D + F) p) (pairRow d1 d2 (p + 32 * rowsBefore (dummies D + F) p - dummies D))
 
 -- the bits of unit u
 unfoldable pub unitBits : ℕ → List ℕ → List ℕ → List ℕ → ℕ → ℕ → List ℕ

@@ -12,7 +12,7 @@ ghost use Rattle.rate_matching.specs.SubBlocks.{rows, readPlain, readShi
 ghost use Rattle.rate_matching.specs.Places.{heldY, heldAt, plainPlace, shiftedPlace, placeOf, firstPlaces, heldWithin, liesAt, firstsWithin, InStreams, OnCircle};
 
 // The largest D: that of K = 6,144.
-const LONGEST: usize = 6148;
+pub(crate) const LONGEST: usize = 6148;
 
 // The rows of the matrix, R.
 fn rows_of(d: usize) -> usize

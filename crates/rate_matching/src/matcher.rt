@@ -1,5 +1,6 @@
 // The block's rate matcher, clauses 5.1.4.1.1 and 5.1.4.1.2: where dummies and filler stand is known, so the bits of a turn go column by
 // column straight from the streams into a ring, no further than they are sent, and the ring is copied turn after turn.
+use crate::mapping::LONGEST;
 use crate::mapping::rows_before;
 use crate::table::columns;
 ghost use mathlib.Core.Path.{_≡_};
@@ -14,11 +15,8 @@ ghost use Rattle.rate_matching.specs.Columns.{column};
 ghost use Rattle.rate_matching.specs.Units.{everyRow, pairRow, columnBits, pairBits, unitBits, unitsFrom, unitStart, startUnit, Laid, Fitting, Holds, ringRoom, Put, PutTo};
 ghost use Rattle.rate_matching.specs.Matcher.{matchable, matchedInto};
 
-// The largest D, that of K = 6,144. Its R is 193.
-const LONGEST: usize = 6148;
-
 // The room for a turn is filled when it is made, so there are three: for the circle of a short block, with R up to 5, or few bits of any block;
-// for that of a block of a middle size, with R up to 33; for the largest circle, 96·R places.
+// for that of a block of a middle size, with R up to 33; for the largest circle, with R = 193.
 const SHORT_RING: usize = 480;
 
 const MIDDLE_RING: usize = 3168;
@@ -87,7 +85,7 @@ fn put_pairs(d1: &[u8], d2: &[u8], filler: usize, p: usize, ring: &mut [u8], n: 
     let first = rows_before(dummies + filler, p);
     let mid = n + (first - early);
     read_column(d2, p + 1 + 32 * early - dummies, &mut ring[n..mid]);
-    let end = mid + (2 * (rows - first) - p / 31);
+    let end = mid + (2 * rows - p / 31 - 2 * first);
     read_pairs(d1, d2, p + 32 * first - dummies, &mut ring[mid..end]);
     end
 }

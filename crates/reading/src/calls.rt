@@ -33,7 +33,7 @@ pub fn read(state: State, slot: usize, terminal: u16, store: &[u8], out: &mut [u
         };
     }
     let head = states::head_at(state, slot);
-    let long = state.blocks * room::PER_BLOCK;
+    let long = state.blocks * states::PER_BLOCK;
     let from = slot * long;
     let to = from + long;
     Outcome {
@@ -85,8 +85,8 @@ pub fn streams(
     }
     let head = states::head_at(state, slot);
     let s = segmentation::segments_for(head.size);
-    let from = (slot * state.blocks + block) * room::PER_BLOCK;
-    let to = from + room::PER_BLOCK;
+    let from = (slot * state.blocks + block) * states::PER_BLOCK;
+    let to = from + states::PER_BLOCK;
     let d = block::size_of(s, block) + 4;
     circle::three_streams(&store[from..to], d, block::filler_of(s, block), out);
     Outcome {

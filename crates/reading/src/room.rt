@@ -3,6 +3,7 @@ use crate::circle;
 use segmentation::Segments;
 use segmentation::block;
 use slots::Answer;
+use slots::states::PER_BLOCK;
 ghost use mathlib.Core.Path.{_≡_};
 ghost use mathlib.Core.Bool.{true, cond};
 ghost use Prim.Native.Nat.{_+_, _≤_};
@@ -10,9 +11,6 @@ ghost use lib.Dec.{eqb};
 ghost use lib.ListN.{length, take};
 ghost use Rattle.slots.specs.Reading.{lacking, heardSequence};
 ghost use Rattle.reading.specs.Room.{roomFits, roomAnswer, roomOutput};
-
-// The bytes that a room has for one code block.
-pub(crate) const PER_BLOCK: usize = 18528;
 
 // How many data places of a block of `a` bits lack a bit; 0 where `a` is out of range or the room is too short for it.
 pub fn lacking_in(a: usize, room: &[u8]) -> usize

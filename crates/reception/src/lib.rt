@@ -36,7 +36,7 @@ pub fn receive(
     }
     let head = states::head_at(state, slot);
     let size = head.size;
-    let room = state.blocks * parts::PER_BLOCK;
+    let room = state.blocks * states::PER_BLOCK;
     let from = slot * room;
     let to = from + room;
     let lacking = put_and_count(size, q, n, version, bits, &mut store[from..to]);

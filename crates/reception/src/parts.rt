@@ -1,14 +1,12 @@
 // The parts of Receive: the bits of a code block are put turn after turn, code block after code block.
 use crate::circle;
+use slots::states::PER_BLOCK;
 ghost use mathlib.Core.Path.{_≡_};
 ghost use Prim.Native.Nat.{_≤_, _<_};
 ghost use lib.ListN.{length};
 ghost use Rattle.slots.specs.State.{perBlock};
 ghost use Rattle.reception.specs.Parts.{partAfter, roomAfter, Accepted, LastTurns};
 ghost use Rattle.reception.specs.Along.{Walked};
-
-// The bytes that a room has for one code block, the largest circle.
-pub(crate) const PER_BLOCK: usize = 18528;
 
 // Where the last turns of `e` bits begin, the first having been put: not more than two turns are left from there on, and a whole one
 // where turns are left out.

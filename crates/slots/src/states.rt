@@ -14,8 +14,8 @@ ghost use Rattle.segmentation.specs.Sizes.{badSize};
 ghost use Rattle.slots.specs.State.{roomLength, roomStart, closedHead, headAt, tooMany, broken, badShape, badState};
 ghost use Rattle.slots.specs.Calls.{storeRules, ownerRules, withHead};
 
-// The bytes that a room has for one code block.
-const PER_BLOCK: usize = 18528;
+// The bytes that a room has for one code block, the largest circle.
+pub const PER_BLOCK: usize = 18528;
 
 // The length of a room for M code blocks.
 pub(crate) fn room_length(m: usize) -> usize

@@ -15,7 +15,7 @@ ghost use Rattle.turbo.specs.Streams.{withoutFiller, firstEnd, secondEnd
 ghost use Rattle.turbo.specs.Encode.{blockIn, encodable, fit, Encodable, tailOf, completed};
 
 // <NULL>: no bit stands here. A bit is 0 or 1.
-pub const NULL: u8 = 2;
+const NULL: u8 = 2;
 
 // The shift register of a constituent encoder, the newest bit first.
 pub struct Registers {

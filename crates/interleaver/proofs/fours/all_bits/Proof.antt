@@ -47,12 +47,10 @@ loop-again c = (
     x = getD (c .before .before .before .args .c .now) i 0
 
 returns : tie.Need-returns Inv-loop μ-loop
-returns c few = record {
-  each = λ k. elim (decLt k (length (c .before .before .args .c .now))) [
-    | yes l ↦ omega (arith, c .before .loop .inv .1 k (omega arith), ltb-true (c .before .loop .seen) 2 few)
-    | no l ↦ let past : length (c .before .before .args .c .now) ≤ k = omega arith in rw (List·getD-eq-default (c .before .before .args .c .now) 0 past) (omega arith)
-  ];
-}
+returns c few = λ k. elim (decLt k (length (c .before .before .args .c .now))) [
+  | yes l ↦ omega (arith, c .before .loop .inv .1 k (omega arith), ltb-true (c .before .loop .seen) 2 few)
+  | no l ↦ let past : length (c .before .before .args .c .now) ≤ k = omega arith in rw (List·getD-eq-default (c .before .before .args .c .now) 0 past) (omega arith)
+]
 
 pub all-bits-spec : {M : Type 1} → statement M
 all-bits-spec =

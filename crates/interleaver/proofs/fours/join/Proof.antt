@@ -32,10 +32,10 @@ shared-slice-read-part-2 : tie.Need-shared-slice-read-part-2 Inv-loop μ-loop
 shared-slice-read-part-2 c = omega arith
 
 mul-part : tie.Need-mul-part Inv-loop μ-loop
-mul-part c = omega (arith, c .before .before .before .before .pre .bits .each (c .before .before .before .before .args .a + c .before .before .before .loop .i), c .before .before .before .before .pre .bits .each (c .before .before .before .before .args .b + c .before .before .before .loop .i))
+mul-part c = omega (arith, c .before .before .before .before .pre .bits (c .before .before .before .before .args .a + c .before .before .before .loop .i), c .before .before .before .before .pre .bits (c .before .before .before .before .args .b + c .before .before .before .loop .i))
 
 add-part-3 : tie.Need-add-part-3 Inv-loop μ-loop
-add-part-3 c = omega (arith, c .before .before .before .before .pre .bits .each (c .before .before .before .before .args .a + c .before .before .before .loop .i), c .before .before .before .before .pre .bits .each (c .before .before .before .before .args .b + c .before .before .before .loop .i))
+add-part-3 c = omega (arith, c .before .before .before .before .pre .bits (c .before .before .before .before .args .a + c .before .before .before .loop .i), c .before .before .before .before .pre .bits (c .before .before .before .before .args .b + c .before .before .before .loop .i))
 
 add-part-4 : tie.Need-add-part-4 Inv-loop μ-loop
 add-part-4 c = omega arith
@@ -44,10 +44,10 @@ shared-slice-read-part-3 : tie.Need-shared-slice-read-part-3 Inv-loop μ-loop
 shared-slice-read-part-3 c = omega arith
 
 mul-part-2 : tie.Need-mul-part-2 Inv-loop μ-loop
-mul-part-2 c = omega (arith, c .before .before .before .before .before .pre .bits .each (c .before .before .before .before .before .args .a + c .before .before .before .before .loop .i), c .before .before .before .before .before .pre .bits .each (c .before .before .before .before .before .args .b + c .before .before .before .before .loop .i), c .before .before .before .before .before .pre .bits .each (c .before .before .before .before .before .args .d + c .before .before .before .before .loop .i))
+mul-part-2 c = omega (arith, c .before .before .before .before .before .pre .bits (c .before .before .before .before .before .args .a + c .before .before .before .before .loop .i), c .before .before .before .before .before .pre .bits (c .before .before .before .before .before .args .b + c .before .before .before .before .loop .i), c .before .before .before .before .before .pre .bits (c .before .before .before .before .before .args .d + c .before .before .before .before .loop .i))
 
 add-part-5 : tie.Need-add-part-5 Inv-loop μ-loop
-add-part-5 c = omega (arith, c .before .before .before .before .before .pre .bits .each (c .before .before .before .before .before .args .a + c .before .before .before .before .loop .i), c .before .before .before .before .before .pre .bits .each (c .before .before .before .before .before .args .b + c .before .before .before .before .loop .i), c .before .before .before .before .before .pre .bits .each (c .before .before .before .before .before .args .d + c .before .before .before .before .loop .i))
+add-part-5 c = omega (arith, c .before .before .before .before .before .pre .bits (c .before .before .before .before .before .args .a + c .before .before .before .before .loop .i), c .before .before .before .before .before .pre .bits (c .before .before .before .before .before .args .b + c .before .before .before .before .loop .i), c .before .before .before .before .before .pre .bits (c .before .before .before .before .before .args .d + c .before .before .before .before .loop .i))
 
 add-part-6 : tie.Need-add-part-6 Inv-loop μ-loop
 add-part-6 c = omega arith
@@ -56,10 +56,10 @@ shared-slice-read-part-4 : tie.Need-shared-slice-read-part-4 Inv-loop μ-loop
 shared-slice-read-part-4 c = omega arith
 
 mul-part-3 : tie.Need-mul-part-3 Inv-loop μ-loop
-mul-part-3 c = omega (arith, c .before .before .before .before .before .before .pre .bits .each (c .before .before .before .before .before .before .args .a + c .before .before .before .before .before .loop .i), c .before .before .before .before .before .before .pre .bits .each (c .before .before .before .before .before .before .args .b + c .before .before .before .before .before .loop .i), c .before .before .before .before .before .before .pre .bits .each (c .before .before .before .before .before .before .args .d + c .before .before .before .before .before .loop .i), c .before .before .before .before .before .before .pre .bits .each (c .before .before .before .before .before .before .args .e + c .before .before .before .before .before .loop .i))
+mul-part-3 c = omega (arith, c .before .before .before .before .before .before .pre .bits (c .before .before .before .before .before .before .args .a + c .before .before .before .before .before .loop .i), c .before .before .before .before .before .before .pre .bits (c .before .before .before .before .before .before .args .b + c .before .before .before .before .before .loop .i), c .before .before .before .before .before .before .pre .bits (c .before .before .before .before .before .before .args .d + c .before .before .before .before .before .loop .i), c .before .before .before .before .before .before .pre .bits (c .before .before .before .before .before .before .args .e + c .before .before .before .before .before .loop .i))
 
 add-part-7 : tie.Need-add-part-7 Inv-loop μ-loop
-add-part-7 c = omega (arith, c .before .before .before .before .before .before .pre .bits .each (c .before .before .before .before .before .before .args .a + c .before .before .before .before .before .loop .i), c .before .before .before .before .before .before .pre .bits .each (c .before .before .before .before .before .before .args .b + c .before .before .before .before .before .loop .i), c .before .before .before .before .before .before .pre .bits .each (c .before .before .before .before .before .before .args .d + c .before .before .before .before .before .loop .i), c .before .before .before .before .before .before .pre .bits .each (c .before .before .before .before .before .before .args .e + c .before .before .before .before .before .loop .i))
+add-part-7 c = omega (arith, c .before .before .before .before .before .before .pre .bits (c .before .before .before .before .before .before .args .a + c .before .before .before .before .before .loop .i), c .before .before .before .before .before .before .pre .bits (c .before .before .before .before .before .before .args .b + c .before .before .before .before .before .loop .i), c .before .before .before .before .before .before .pre .bits (c .before .before .before .before .before .before .args .d + c .before .before .before .before .before .loop .i), c .before .before .before .before .before .before .pre .bits (c .before .before .before .before .before .before .args .e + c .before .before .before .before .before .loop .i))
 
 slice-write-part : tie.Need-slice-write-part Inv-loop μ-loop
 slice-write-part c = omega arith

@@ -76,16 +76,20 @@ read-column-requires : tie.Need-read-column-requires
 unfolding rows dummies
 read-column-requires c κs = let s = entry (c .before) in omega (arith, alone-asks (found (c .before)) _ (s .args .ring .now) (s .pre .2), s .pre .1)
 
-sub-end : tie.Need-sub-end
-unfolding rows dummies
-sub-end c = found (c .before .before .before .before) .high
-
 mul-end : tie.Need-mul-end
 mul-end c = search needs
 
+sub-end : tie.Need-sub-end
+unfolding rows dummies
+sub-end c = let r = found (c .before .before .before .before) in omega (arith, r .last)
+
+mul-end-2 : tie.Need-mul-end-2
+unfolding rows dummies
+mul-end-2 c = let r = found (c .before .before .before .before) in omega (arith, r .high, r .few)
+
 sub-end-2 : tie.Need-sub-end-2
 unfolding rows dummies
-sub-end-2 c = let r = found (c .before .before .before .before) in omega (arith, r .last)
+sub-end-2 c = let r = found (c .before .before .before .before) in omega (arith, r .last, r .column)
 
 add-end : tie.Need-add-end
 unfolding rows dummies
@@ -155,8 +159,9 @@ put-pairs-spec =
     part-read-column-start
     part-read-column-end
     read-column-requires
-    sub-end
     mul-end
+    sub-end
+    mul-end-2
     sub-end-2
     add-end
     mul-read-pairs
