@@ -44,11 +44,16 @@ module _ (L g : ℕ) where
   unfolding crc
   crc-lt bs = crcFrom-lt 0 bs (pow-pos L)
 
-  -- joined runs: the register after a goes on with b
+  -- a run over the joined bits equals one run after the other (02, E9)
   pub crcFrom-append : (s : ℕ) (a b : List ℕ) → crcFrom L g s (a ++ b) ≡ crcFrom L g (crcFrom L g s a) b
   unfolding crcFrom
   crcFrom-append s [] b = refl
   crcFrom-append s (x ∷ a) b = crcFrom-append (crcStep L g s x) a b
+
+  -- the first run starts from zero
+  pub from-zero : (bs : List ℕ) → crcFrom L g 0 bs ≡ crc L g bs
+  unfolding crc
+  from-zero bs = refl
 
   pub length-checkBits : (a : List ℕ) → length (checkBits L g a) ≡ L
   unfolding checkBits

@@ -59,7 +59,7 @@ module _ {n g : ℕ} {t : List ℕ} (w : IsTable n g t) where
   in-row : (r x : ℕ) → r < 6 → x < 16 → after n g (x * 2 ^ (r * 4)) ≡ getD t (r * 16 + x) 0
   in-row r x h l = sym (rw (digits-div r l, digits-mod r l) at (w .entry (r * 16 + x) (omega arith)))
 
-  entries-are : (s : ℕ) → s < 2 ^ 24 → after n g s ≡ entries t s
+  pub entries-are : (s : ℕ) → s < 2 ^ 24 → after n g s ≡ entries t s
   entries-are s h =
       ap (after n g) (sym (mod-eq-of-lt h))
       ∙ more 5 (lit< tt) (more 4 (lit< tt) (more 3 (lit< tt) (more 2 (lit< tt) (more 1 (lit< tt) first))))

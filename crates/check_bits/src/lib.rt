@@ -5,18 +5,25 @@ ghost use mathlib.Core.Path.{_≡_};
 ghost use Prim.Native.Nat.{_+_, _%_, _^_, _≤_, _<_};
 ghost use lib.ListN.{length, getD, take, drop};
 ghost use Rattle.laws.specs.Bits.{bitsOf};
-ghost use Rattle.check_bits.specs.CheckBits.{crc, crcFrom, gCRC24A, gCRC24B};
+ghost use Rattle.check_bits.specs.CheckBits.{crcFrom, gCRC24A, gCRC24B};
 ghost use Rattle.check_bits.specs.Stride.{IsTable, entries, wordOf, lowest};
 ghost use Rattle.check_bits.specs.Put.{putCheckBits};
 
-// The transport check of `bits`. The bits by which the length is over a multiple of 24 go first, the others follow in strides; where they are
-// too few for a stride of 48, its table is not made.
-pub fn crc24a(bits: &[u8]) -> u32
-    ensures { λ r. ⌜ r ≡ crc 24 gCRC24A (now (bits .entry)) ⌝ }
+// The transport check goes on with `bits` from an earlier remainder, which is 0 before the first bit. The bits by which the length is over a
+// multiple of 24 go first, the others follow in strides; where they are too few for a stride, its table is not made. A number of more than
+// 24 bits, which is no remainder, goes on as the register would.
+pub fn crc24a(from: u32, bits: &[u8]) -> u32
+    ensures { λ r. ⌜ r ≡ crcFrom 24 gCRC24A from (now (bits .entry)) ⌝ }
 {
+    if 0xFF_FFFF < from {
+        return one_by_one(24, 0x864CFB, from, bits);
+    }
+    if bits.len() < 24 {
+        return one_by_one(24, 0x864CFB, from, bits);
+    }
     let near = table::table_a();
     let k = bits.len() % 24;
-    let s = leading(0x864CFB, &near, k, bits);
+    let s = leading(0x864CFB, &near, from, k, bits);
     if bits.len() < 48 {
         return last_stride(0x864CFB, &near, s, &bits[k..]);
     }
@@ -24,31 +31,35 @@ pub fn crc24a(bits: &[u8]) -> u32
     strides(0x864CFB, &near, &far, s, &bits[k..])
 }
 
-// The check of a code block's `bits`, in the same way; a code block that has one is long.
-pub fn crc24b(bits: &[u8]) -> u32
-    ensures { λ r. ⌜ r ≡ crc 24 gCRC24B (now (bits .entry)) ⌝ }
+// The check of a code block's bits goes on in the same way; a code block that has one is long.
+pub fn crc24b(from: u32, bits: &[u8]) -> u32
+    ensures { λ r. ⌜ r ≡ crcFrom 24 gCRC24B from (now (bits .entry)) ⌝ }
 {
+    if 0xFF_FFFF < from {
+        return one_by_one(24, 0x800063, from, bits);
+    }
+    if bits.len() < 24 {
+        return one_by_one(24, 0x800063, from, bits);
+    }
     let near = table::table_b();
     let k = bits.len() % 24;
-    let s = leading(0x800063, &near, k, bits);
+    let s = leading(0x800063, &near, from, k, bits);
     let far = table::table_b_48();
     strides(0x800063, &near, &far, s, &bits[k..])
 }
 
-// The remainder of the first `k` bits. Zeros in front change none, so they go as the lowest of 24, in one stride.
-fn leading(generator: u32, near: &[u32; 96], k: usize, bits: &[u8]) -> u32
+// The register after the first `k` bits, from the register `from` on, in one stride: its highest `k` bits and the data bits go through the
+// table together, and its other bits only move up.
+fn leading(generator: u32, near: &[u32; 96], from: u32, k: usize, bits: &[u8]) -> u32
     requires { ⌜ IsTable 24 generator (now near) ⌝ }
-    requires { ⌜ (k < 24) × (k ≤ length (now bits)) ⌝ }
-    ensures { λ r. ⌜ r ≡ crc 24 generator (take k (now (bits .entry))) ⌝ }
+    requires { ⌜ (k < 24) × (24 ≤ length (now bits)) × (from < 2 ^ 24) ⌝ }
+    ensures { λ r. ⌜ r ≡ crcFrom 24 generator from (take k (now (bits .entry))) ⌝ }
 {
-    if bits.len() < 24 {
-        return one_by_one(generator, 0, &bits[..k]);
-    }
     let x = gathered(bits, 0);
     if 0xFF_FFFF < x {
-        return one_by_one(generator, 0, &bits[..k]);
+        return one_by_one(24, generator, from, &bits[..k]);
     }
-    passed(near, x >> (24 - k))
+    ((from << k) & 0xFF_FFFF) ^ passed(near, (from ^ x) >> (24 - k))
 }
 
 // The register after `bits`, from the register `from` on: 48 bits a turn, as long as each byte is 0 or 1. By linearity the register goes on
@@ -81,14 +92,14 @@ fn last_stride(generator: u32, near: &[u32; 96], from: u32, bits: &[u8]) -> u32
     ensures { λ r. ⌜ r ≡ crcFrom 24 generator from (now (bits .entry)) ⌝ }
 {
     if bits.len() < 24 {
-        return one_by_one(generator, from, bits);
+        return one_by_one(24, generator, from, bits);
     }
     let x = gathered(bits, 0);
     if 0xFF_FFFF < x {
-        return one_by_one(generator, from, bits);
+        return one_by_one(24, generator, from, bits);
     }
     let s = passed(near, from ^ x);
-    one_by_one(generator, s, &bits[24..])
+    one_by_one(24, generator, s, &bits[24..])
 }
 
 // The register `s` after the zeros that the table is for: by linearity the sum of what its six times four bits give. Each four have a row
@@ -164,18 +175,20 @@ fn packed(w: u64) -> u32
     ((all >> 56) % 256) as u32
 }
 
-// The register of 24 bits after `bits`, from the register `from` on, first bit highest power. A product takes the generator away, so that
-// no bit costs a branch.
-fn one_by_one(generator: u32, from: u32, bits: &[u8]) -> u32
-    requires { ⌜ from < 2 ^ 24 ⌝ }
-    ensures { λ r. ⌜ r ≡ crcFrom 24 generator from (now (bits .entry)) ⌝ }
+// The register of `length` bits after `bits`, from the register `from` on, first bit highest power: the standard's own loop, for any length
+// and generator. A product takes the generator away, so that no bit costs a branch.
+fn one_by_one(length: u32, generator: u32, from: u32, bits: &[u8]) -> u32
+    requires { ⌜ (0 < length) × (length ≤ 32) ⌝ }
+    ensures { λ r. ⌜ r ≡ crcFrom length generator from (now (bits .entry)) ⌝ }
 {
     let g = generator as u64;
+    let top = length - 1;
+    let mask = (1u64 << length) - 1;
     let mut s = from as u64;
     let mut i = 0;
     while i < bits.len() {
-        let up = (s >> 23) ^ (bits[i] as u64);
-        s = ((s << 1) ^ (up * g)) & 0xFF_FFFF;
+        let up = (s >> top) ^ (bits[i] as u64);
+        s = ((s << 1) ^ (up * g)) & mask;
         i += 1;
     }
     s as u32

@@ -117,7 +117,7 @@ fn write_in(
     requires { ⌜ Spacious (s .long) (length (now d0)) (length (now d1)) (length (now d2)) ⌝ }
     ensures { λ r. ⌜ now (out .exit) ≡ codeword (now (block .entry)) q n version (length (now (out .entry))) ⌝ }
 {
-    let remainder = check_bits::crc24a(block);
+    let remainder = check_bits::crc24a(0, block);
     let g = out.len();
     let mut at = 0;
     let mut r = 0;

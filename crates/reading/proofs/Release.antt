@@ -8,7 +8,8 @@ use native.Mathlib.Omega.{arith}
 use lib.ListN.{length, take, drop}
 use lib.Seq.{length-take-le, take-take}
 use borrow.Author.Tests.{eq-eqb, ne-eqb}
-use Rattle.check_bits.specs.CheckBits.{crc, gCRC24A}
+use Rattle.check_bits.specs.CheckBits.{crc, crcFrom, gCRC24A}
+use Rattle.check_bits.proofs.Register.{from-zero}
 use Rattle.slots.specs.declared.Answer.the-variants.{Done, Lacking, Refused}
 use Rattle.slots.specs.Reading.{lacking, heardSequence, wrongCheck, heardBlock}
 use Rattle.reading.specs.Room.{releasedInto, roomAnswer, roomOutput}
@@ -29,9 +30,9 @@ module _ (A : ℕ) (room out : List ℕ) {n : ℕ} (found : n ≡ lacking 1 0 A 
   some-lacking h = (rw (← found, ne-eqb n 0 h), rw (← found, ne-eqb n 0 h))
 
   -- nothing lacks: the sequence stands at the front of b
-  module _ (none : n ≡ 0) (b : List ℕ) {check : ℕ} (told : take (A + 24) b ≡ heardSequence 1 0 A room) (checked : check ≡ crc 24 gCRC24A (take (A + 24) b)) where
+  module _ (none : n ≡ 0) (b : List ℕ) {check : ℕ} (told : take (A + 24) b ≡ heardSequence 1 0 A room) (checked : check ≡ crcFrom 24 gCRC24A 0 (take (A + 24) b)) where
     check-is : check ≡ crc 24 gCRC24A (heardSequence 1 0 A room)
-    check-is = checked ∙ ap (crc 24 gCRC24A) told
+    check-is = checked ∙ from-zero 24 gCRC24A (take (A + 24) b) ∙ ap (crc 24 gCRC24A) told
 
     pub wrong : (check ≡ 0 → ⊥) → (Refused 12 ≡ roomAnswer A room) × (out ≡ roomOutput A room out)
     unfolding roomAnswer roomOutput releasedInto

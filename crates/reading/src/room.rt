@@ -82,7 +82,7 @@ fn release(a: usize, room: &[u8], b: &mut [u8], out: &mut [u8]) -> Answer
         return Answer::Lacking(lacking);
     }
     let end = a + 24;
-    if check_bits::crc24a(&b[..end]) != 0 {
+    if check_bits::crc24a(0, &b[..end]) != 0 {
         return Answer::Refused(12);
     }
     bytes::copy(&b[..a], out);

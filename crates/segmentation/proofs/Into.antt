@@ -13,8 +13,9 @@ use lib.Seq.{length-take-le, take-at}
 use borrow.Author.Tests.{eq-eqb, ne-eqb, lt-ltb, le-ltb}
 use borrow.Rule.Slice.PartMut.{midOf, putMid}
 use Rattle.laws.specs.Bits.{bitsOf}
-use Rattle.check_bits.specs.CheckBits.{crc, checkBits, gCRC24B}
+use Rattle.check_bits.specs.CheckBits.{crc, crcFrom, checkBits, gCRC24B}
 use Rattle.check_bits.specs.Put.{putCheckBits}
+use Rattle.check_bits.proofs.Register.{from-zero}
 use Rattle.segmentation.specs.declared.Segments.{Segments}
 use Rattle.segmentation.specs.Segmentation.{checkLength, blocks, sizeOf}
 use Rattle.segmentation.specs.CodeBlocks.{payload, codeBlock}
@@ -124,14 +125,14 @@ module _ {a c : List ℕ} {s : Segments} {r : ℕ} (z : Sized a c s r) where
     several-room = record { segmented = segmented (z .found); room = length-take-le (length c - 24) c (omega arith) ∙ front-room }
 
     pub several-put : (x : ℕ) {front last : List ℕ} {check : ℕ} → front ≡ payload (a ++ bitsOf 24 x) r
-        → check ≡ crc 24 gCRC24B (take (length c - 24) (front ++ drop (length c - 24) c))
+        → check ≡ crcFrom 24 gCRC24B 0 (take (length c - 24) (front ++ drop (length c - 24) c))
         → last ≡ putCheckBits check (midOf (length c - 24) (length (front ++ drop (length c - 24) c) - (length c - 24)) (front ++ drop (length c - 24) c))
         → putMid (length c - 24) (length (front ++ drop (length c - 24) c) - (length c - 24)) (front ++ drop (length c - 24) c) last ≡ codeBlockInto a x r c
     unfolding codeBlock checkBits
     several-put x {front} {last} {check} e f g =
         ended check (length c - 24) (front ++ drop (length c - 24) c) last whole g
         ∙ ap (λ (l : List ℕ). l ++ bitsOf 24 check) taken
-        ∙ ap (λ (n : ℕ). front ++ bitsOf 24 n) (f ∙ ap (crc 24 gCRC24B) taken)
+        ∙ ap (λ (n : ℕ). front ++ bitsOf 24 n) (f ∙ from-zero 24 gCRC24B _ ∙ ap (crc 24 gCRC24B) taken)
         ∙ ap (λ (l : List ℕ). l ++ bitsOf 24 (crc 24 gCRC24B l)) e
         ∙ sym (into x ∙ rw (with-bits a x, ne-eqb (blocks (length a + 24)) 1 blocks-more))
       where

@@ -28,7 +28,7 @@ pub fn code_block(a: &[u8], remainder: u32, r: usize, c: &mut [u8])
     }
     let end = c.len() - 24;
     put_payload(a, remainder, s, r, &mut c[..end]);
-    let check = check_bits::crc24b(&c[..end]);
+    let check = check_bits::crc24b(0, &c[..end]);
     check_bits::put_check_bits(check, &mut c[end..]);
 }
 

@@ -1,19 +1,38 @@
--- `check_bits::crc24b` meets its contract: the bits over a multiple of 24 first, then the others from their remainder on.
+-- `check_bits::crc24b` meets its contract: the bits over a multiple of 24 first, then the others from the register after these on.
 -- Assumes nothing.
 use mathlib.Core.Path.{_∙_}
+use Prim.Native.Nat.{_%_}
 use native.Mathlib.Omega.{arith}
-use borrow.Author.Needs.{needs}
-use Rattle.check_bits.specs.CheckBits.{crc}
-use Rattle.check_bits.proofs.Running.{rest}
+use lib.ListN.{length}
+use Rattle.check_bits.specs.CheckBits.{gCRC24B}
+use Rattle.check_bits.proofs.Running.{Running, rest}
 use Rattle.check_bits.proofs.Padding.{gone}
+use borrow.Author.Needs.{needs}
 use Rattle.check_bits.proofs.crc24b.Statement.{statement}
 use Rattle.check_bits.proofs.crc24b.Tie as tie
+
+-- the bits that are left go on from the register after the first ones
+onward : (c : tie.After-leading) → let start = c .before .before .before .before .before .before in
+    Running 24 24 gCRC24B (start .args .from) (start .args .bits .now) (c .leading .result) (length (start .args .bits .now) % 24)
+onward c = gone (c .before .before .before .before .before .before .args .bits .now) (omega arith) (c .leading .ensures)
+
+one-by-one-requires : tie.Need-one-by-one-requires
+one-by-one-requires c κs = search needs
+
+returns : tie.Need-returns
+returns c = search needs
+
+one-by-one-requires-2 : tie.Need-one-by-one-requires-2
+one-by-one-requires-2 c κs = search needs
+
+returns-2 : tie.Need-returns-2
+returns-2 c = search needs
 
 table-b-requires : tie.Need-table-b-requires
 table-b-requires c κs = search needs
 
 leading-requires : tie.Need-leading-requires
-leading-requires c κs = (c .before .table-b .ensures, omega arith)
+leading-requires c κs = search needs
 
 table-b-48-requires : tie.Need-table-b-48-requires
 table-b-48-requires c κs = search needs
@@ -31,19 +50,19 @@ strides-requires : tie.Need-strides-requires
 strides-requires c κs =
     let far = c .before .before .before in
     let led = far .before in
-    let tabled = led .before .before in
-    (tabled .table-b .ensures, (far .table-b-48 .ensures, gone (tabled .before .before .args .bits .now) (led .leading .ensures) .small))
+    (led .before .before .table-b .ensures, (far .table-b-48 .ensures, onward led .small))
 
-returns : tie.Need-returns
-unfolding crc
-returns c =
-    let led = c .before .before .before .before .before in
-    c .strides .ensures ∙ rest (gone (led .before .before .before .before .args .bits .now) (led .leading .ensures))
+returns-3 : tie.Need-returns-3
+returns-3 c = c .strides .ensures ∙ rest (onward (c .before .before .before .before .before))
 
 pub crc24b-spec : {M : Type 1} → statement M
 crc24b-spec =
     tie.close
     (tie.spec
+    one-by-one-requires
+    returns
+    one-by-one-requires-2
+    returns-2
     table-b-requires
     leading-requires
     table-b-48-requires
@@ -51,4 +70,4 @@ crc24b-spec =
     part-strides-start
     part-strides-end
     strides-requires
-    returns)
+    returns-3)

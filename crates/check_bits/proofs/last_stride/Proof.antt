@@ -2,8 +2,8 @@
 -- Assumes nothing.
 use mathlib.Core.Path.{_∙_}
 use native.Mathlib.Omega.{arith}
-use borrow.Author.Needs.{needs}
 use Rattle.check_bits.proofs.Running.{start, next24, rest}
+use borrow.Author.Needs.{needs}
 use Rattle.check_bits.proofs.last_stride.Statement.{statement}
 use Rattle.check_bits.proofs.last_stride.Tie as tie
 
@@ -35,10 +35,7 @@ part-one-by-one-end : tie.Need-part-one-by-one-end
 part-one-by-one-end c = search needs
 
 one-by-one-requires-3 : tie.Need-one-by-one-requires-3
-one-by-one-requires-3 c κs =
-    let x = c .before .before .before in
-    let a = x .before .before .before in
-    rw (c .before .passed .ensures) (next24 {bits = a .args .bits .now} (a .pre .0) (omega arith) (x .gathered .ensures (omega arith)) (start (a .pre .1)) .small)
+one-by-one-requires-3 c κs = search needs
 
 returns-3 : tie.Need-returns-3
 returns-3 c =

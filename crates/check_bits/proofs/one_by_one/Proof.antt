@@ -1,30 +1,47 @@
 -- `check_bits::one_by_one` meets its contract. The loop's invariant: the register, gone on with the bits from `i` on, gives the remainder of all.
 -- Assumes nothing.
-use Prim.Native.Nat.{_≤_, _-_}
+use Prim.Native.Nat.{_≤_, _-_, _^_}
 use native.Mathlib.Omega.{arith}
 use lib.ListN.{length}
-use Rattle.check_bits.proofs.Running.{Running, product-fits, start, next, finish}
+use lib.Pow.{pow-pos}
+use Rattle.check_bits.proofs.Running.{Running, product-fits, masked, start, next, finish}
 use Rattle.check_bits.proofs.one_by_one.Statement.{statement}
 use Rattle.check_bits.proofs.one_by_one.Tie as tie
 
 abbrev Inv-loop : tie.InvT-loop
-Inv-loop generator from bits g s₀ i₀ s i = (i ≤ length bits) × Running g from bits s i
+Inv-loop width generator from bits g top mask s₀ i₀ s i = (i ≤ length bits) × Running 32 width g from bits s i
 
 abbrev μ-loop : tie.MeasureT-loop
-μ-loop generator from bits g s₀ i₀ s i = length bits - i
+μ-loop width generator from bits g top mask s₀ i₀ s i = length bits - i
+
+sub-top : tie.Need-sub-top Inv-loop μ-loop
+sub-top c = omega arith
+
+shl-mask : tie.Need-shl-mask Inv-loop μ-loop
+shl-mask c = omega arith
+
+sub-mask : tie.Need-sub-mask Inv-loop μ-loop
+sub-mask c = rw (masked (c .pre .1)) (pow-pos (c .args .length))
 
 loop-holds : tie.Need-loop-holds Inv-loop μ-loop
-loop-holds c = (omega arith, start (c .pre))
+loop-holds c = (omega arith, start (c .fits .from .fits))
+
+cast-up : tie.Need-cast-up Inv-loop μ-loop
+cast-up c = omega arith
+
+shr-up : tie.Need-shr-up Inv-loop μ-loop
+shr-up c = omega arith
 
 shared-slice-read-up : tie.Need-shared-slice-read-up Inv-loop μ-loop
 shared-slice-read-up c = omega arith
 
-cast-up : tie.Need-cast-up Inv-loop μ-loop
-cast-up c = omega (arith, c .shared-slice-known .given (c .before .before .loop .i))
+cast-up-2 : tie.Need-cast-up-2 Inv-loop μ-loop
+cast-up-2 c = omega (arith, c .shared-slice-known .given (c .before .before .loop .i))
 
 mul-s : tie.Need-mul-s Inv-loop μ-loop
 mul-s c = record {
-  fits = product-fits (c .before .before .before .fits .generator .fits) (c .before .before .loop .inv .1 .small) (c .shared-slice-known .given (c .before .before .loop .i) .fits);
+  fits = product-fits (c .before .before .before .args .length - 1) (c .before .before .before .fits .generator .fits) (c .before .before .loop .inv .1 .small)
+      (c .shared-slice-known .given (c .before .before .loop .i) .fits);
 }
 
 add-i : tie.Need-add-i Inv-loop μ-loop
@@ -34,7 +51,7 @@ loop-less : tie.Need-loop-less Inv-loop μ-loop
 loop-less c = omega arith
 
 loop-again : tie.Need-loop-again Inv-loop μ-loop
-loop-again c = (omega arith, next (omega arith) (c .before .before .loop .inv .1))
+loop-again c = let limit = c .before .before .before .pre .1 in (omega arith, next limit (masked limit) (omega arith) (c .before .before .loop .inv .1))
 
 cast-result : tie.Need-cast-result Inv-loop μ-loop
 cast-result c = omega arith
@@ -48,9 +65,14 @@ one-by-one-spec =
     (tie.spec
     Inv-loop
     μ-loop
+    sub-top
+    shl-mask
+    sub-mask
     loop-holds
-    shared-slice-read-up
     cast-up
+    shr-up
+    shared-slice-read-up
+    cast-up-2
     mul-s
     add-i
     loop-less

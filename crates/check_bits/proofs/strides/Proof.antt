@@ -9,7 +9,7 @@ use Rattle.check_bits.proofs.strides.Statement.{statement}
 use Rattle.check_bits.proofs.strides.Tie as tie
 
 abbrev Inv-loop : tie.InvT-loop
-Inv-loop generator near far from bits s₀ i₀ s i = (i ≤ length bits) × Running generator from bits s i
+Inv-loop generator near far from bits s₀ i₀ s i = (i ≤ length bits) × Running 24 24 generator from bits s i
 
 abbrev μ-loop : tie.MeasureT-loop
 μ-loop generator near far from bits s₀ i₀ s i = length bits - i

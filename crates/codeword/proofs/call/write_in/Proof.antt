@@ -5,6 +5,8 @@ use borrow.Author.Needs.{needs}
 use mathlib.Core.Path.{sym, _∙_}
 use Prim.Native.Nat.{_-_}
 use native.Mathlib.Omega.{arith}
+use Rattle.check_bits.specs.CheckBits.{gCRC24A}
+use Rattle.check_bits.proofs.Register.{from-zero}
 use Rattle.codeword.proofs.Rooms.{Lent, lent, enough}
 use Rattle.codeword.proofs.Segmented.{count-told}
 use Rattle.codeword.proofs.Sent.{size-within}
@@ -25,7 +27,7 @@ crc24a-requires c κs = search needs
 loop-holds : tie.Need-loop-holds Inv-loop μ-loop
 loop-holds c =
     let given = c .before .before .before .before .before .before .pre in
-    (start (given .0) (given .1 .0) (count-told _ (given .1 .0)) (c .crc24a .ensures) (search needs), lent (given .1 .1))
+    (start (given .0) (given .1 .0) (count-told _ (given .1 .0)) (c .crc24a .ensures ∙ from-zero 24 gCRC24A _) (search needs), lent (given .1 .1))
 
 share-of-requires : tie.Need-share-of-requires Inv-loop μ-loop
 share-of-requires c κs = search needs
