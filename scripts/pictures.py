@@ -340,12 +340,42 @@ def draw_curve_legend(picture, quarters, y):
                  "K = 6,144.", size=12)
 
 
+# Where the column numbers come from.
+
+CELL = 11
+
+
+def draw_columns(tables, folder):
+    picture = Picture(
+        300, "Where the 32 column numbers come from",
+        "For each column c from 0 to 31: its five bits as dark and light cells, the five bits of the number P(c) that table "
+        "5.1.4-1 prints for it, which are the same cells the other way round, and P(c).")
+    picture.text(400, 56, "A column c, its five bits (dark is 1), the same bits read backwards, and the number P(c) that they "
+                 "are.", anchor="middle")
+    for row in tables["column"]:
+        x, y = 20 + 195 * (row["c"] // 8), 84 + 25 * (row["c"] % 8)
+        picture.text(x + 16, y + 11, row["c"], anchor="end")
+        draw_bits(picture, row["c"], x + 24, y)
+        picture.text(x + 90, y + 11, "→", anchor="middle")
+        draw_bits(picture, row["P"], x + 101, y)
+        picture.text(x + 161, y + 11, row["P"], bold=True)
+    picture.save(folder, "column-order.svg")
+
+
+def draw_bits(picture, value, x, y):
+    """Five bits, the highest first."""
+    for at in range(5):
+        bit = value >> (4 - at) & 1
+        picture.rect(x + CELL * at, y, CELL, CELL, KINDS["data"] if bit else "#ffffff", stroke=INK)
+
+
 def main():
     if len(sys.argv) != 2:
         sys.exit("usage: independent figures | pictures.py FOLDER")
     tables = read_tables(sys.stdin.read())
     draw_circles(tables, sys.argv[1])
     draw_curves(tables, sys.argv[1])
+    draw_columns(tables, sys.argv[1])
 
 
 if __name__ == "__main__":

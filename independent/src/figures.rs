@@ -1,5 +1,6 @@
 //! The numbers of the pictures in docs/pictures as tab-parted text, for the smallest and the
-//! largest K without filler: all from the rate matcher, run on labels in the bits' stead.
+//! largest K without filler: all from the rate matcher, run on labels in the bits' stead, but
+//! for the column numbers, which are the standard's table.
 //!
 //! Every line begins with the name of its table; the first of a table names the columns.
 
@@ -151,7 +152,13 @@ pub fn text() -> String {
             text.extend(lines.map(|row| format!("{name}\t{}\t{row}\n", circle.k)));
         }
     }
-    text
+    text + &columns()
+}
+
+/// Table 5.1.4-1 as printed.
+fn columns() -> String {
+    let rows = rate::P.iter().enumerate().map(|(c, p)| format!("column\t{c}\t{p}\n"));
+    format!("column\tc\tP\n{}", rows.collect::<String>())
 }
 
 fn circle(c: &Circle) -> Vec<String> {

@@ -1,31 +1,76 @@
--- The rule of the column table, Table 5.1.4-1 of clause 5.1.4.1.1: it permutes the 32 columns and is its own inverse.
+-- The rule of the columns, clause 5.1.4.1.1: it gives the numbers of Table 5.1.4-1 as printed, permutes the 32 columns and is its own inverse.
 -- Assumes nothing.
-use mathlib.Core.Path.{_≡_, ap}
+use mathlib.Core.Path.{_≡_, sym, _∙_}
 use mathlib.Core.Bool.{Bool, true, _&&_, and-eq-true-iff}
 use mathlib.Core.List.{List}
-use Prim.Native.Nat.{ℕ, _<_}
+use Prim.Native.Nat.{ℕ, _+_, _*_, _/_, _%_, _<_}
+use native.Mathlib.Omega.{arith}
 use lib.Dec.{ltb, eqb}
 use lib.ListN.{getD}
 use borrow.Author.Tests.{ltb-true, eqb-true}
+use Rattle.laws.specs.Lists.{tab, tabFrom}
+use Rattle.laws.specs.Bits.{bitsOf}
 use Rattle.laws.specs.Computed.{all-below}
 use Rattle.laws.proofs.Computed.{all-below-at, T-true}
-use Rattle.rate_matching.specs.Columns.{columnTable, column}
+use Rattle.laws.proofs.Tab.{getD-tab}
+use Rattle.rate_matching.specs.Columns.{numberOf, columnTable, column}
+use Rattle.rate_matching.specs.Printed.{printedColumns}
 
--- column c's original position is one of the 32, and that of this position is c
+-- the rule gives what is printed at c, which is one of the 32, and what is printed there is c
 test : ℕ → Bool
-test c = ltb (column c) 32 && eqb (column (column c)) c
+test c = eqb (column c) (getD printedColumns c 0) && (ltb (column c) 32 && eqb (column (column c)) c)
+
+-- what the test says of a column
+record Tested (c : ℕ) : Type 0 where
+  printed : column c ≡ getD printedColumns c 0
+  below : column c < 32
+  back : column (column c) ≡ c
+
+tested : (c : ℕ) → c < 32 → Tested c
+unfolding all-below numberOf bitsOf column printedColumns test
+tested c h = go (T-true (test c) (all-below-at test 32 tt c h))
+  where
+    go : test c ≡ true → Tested c
+    go t =
+        let l = and-eq-true-iff (eqb (column c) (getD printedColumns c 0)) (ltb (column c) 32 && eqb (column (column c)) c) .0 t in
+        let r = and-eq-true-iff (ltb (column c) 32) (eqb (column (column c)) c) .0 (l .1) in
+        record { printed = eqb-true _ _ (l .0); below = ltb-true _ _ (r .0); back = eqb-true _ _ (r .1) }
+
+-- P(c) is the number that Table 5.1.4-1 prints for column c
+pub column-printed : (c : ℕ) → c < 32 → column c ≡ getD printedColumns c 0
+column-printed c h = tested c h .printed
 
 pub column-rule : (c : ℕ) → c < 32 → (column c < 32) × (column (column c) ≡ c)
-unfolding all-below columnTable column test
-column-rule c h = both (and-eq-true-iff (ltb (column c) 32) (eqb (column (column c)) c) .0 (T-true (test c) (all-below-at test 32 tt c h)))
-  where
-    both : (ltb (column c) 32 ≡ true) × (eqb (column (column c)) c ≡ true) → (column c < 32) × (column (column c) ≡ c)
-    both t = (ltb-true (column c) 32 (t .0), eqb-true (column (column c)) c (t .1))
+column-rule c h = (tested c h .below, tested c h .back)
 
--- the table read at c, from a copy of it
-pub table-at : {p : List ℕ} (c : ℕ) → p ≡ columnTable → getD p c 0 ≡ column c
-unfolding column
-table-at c e = ap (λ (l : List ℕ). getD l c 0) e
+-- the rule written out: the lowest bit counts 16, the next 8, and so on
+pub column-is : (c : ℕ) → column c ≡ c % 2 * 16 + c / 2 % 2 * 8 + c / 4 % 2 * 4 + c / 8 % 2 * 2 + c / 16 % 2
+unfolding column numberOf bitsOf
+column-is c = omega arith
+
+-- only the five lowest bits of a number are turned round
+pub column-five : (c : ℕ) → column (c % 32) ≡ column c
+column-five c = column-is (c % 32) ∙ rw (bit0, bit1, bit2, bit3, bit4) (sym (column-is c))
+  where
+    bit0 : c % 32 % 2 ≡ c % 2
+    bit0 = omega arith
+
+    bit1 : c % 32 / 2 % 2 ≡ c / 2 % 2
+    bit1 = omega arith
+
+    bit2 : c % 32 / 4 % 2 ≡ c / 4 % 2
+    bit2 = omega arith
+
+    bit3 : c % 32 / 8 % 2 ≡ c / 8 % 2
+    bit3 = omega arith
+
+    bit4 : c % 32 / 16 % 2 ≡ c / 16 % 2
+    bit4 = omega arith
+
+-- P(c) read from a list of them
+pub table-at : {p : List ℕ} (c : ℕ) → p ≡ columnTable → c < 32 → getD p c 0 ≡ column c
+unfolding columnTable
+table-at c e h = rw e (getD-tab 32 column c 0 h)
 
 pub table-below : {p : List ℕ} (c : ℕ) → p ≡ columnTable → c < 32 → getD p c 0 < 32
-table-below c e h = rw (table-at c e) (column-rule c h .0)
+table-below c e h = rw (table-at c e h) (column-rule c h .0)

@@ -20,7 +20,7 @@ use Rattle.laws.proofs.Parts.{length-mid, put-is, length-put}
 use Rattle.laws.proofs.Tab.{length-tab, tab-ext, tab-rest, rest-more}
 use Rattle.laws.proofs.Writing.{Writing, start, same, push}
 use Rattle.rate_matching.specs.Walk.{turnAfterTurn}
-use Rattle.rate_matching.specs.Columns.{columnTable, column}
+use Rattle.rate_matching.specs.Columns.{column}
 use Rattle.rate_matching.specs.SubBlocks.{rows, dummies, rowsBefore}
 use Rattle.rate_matching.specs.Shape.{lastPlace}
 use Rattle.rate_matching.specs.Units.{everyRow, pairRow, columnBits, pairBits, unitBits, unitsFrom, unitStart, Laid, Fitting, Holds, Put, PutTo}
@@ -236,15 +236,6 @@ module _ {D D1 D2 F : ℕ} (g : Fitting D D1 D2 F) (u : ℕ) {p : ℕ} (c : p �
     pub unit-pairs : 32 ≤ u → Put (pairBits D1 d1 d2 F p) ring n ring′ r → Put (unitBits D d0 d1 d2 F u) ring n ring′ r
     unfolding unitBits
     unit-pairs h q = simp (le-ltb u 32 h) (subst (λ (k : ℕ). Put (pairBits D d1 d2 F k) ring n ring′ r) c (subst (λ (k : ℕ). Put (pairBits k d1 d2 F p) ring n ring′ r) (g .first) q))
-
--- ---- P(c) read from a copy of the table
-
-pub table-at : {p : List ℕ} (c : ℕ) → p ≡ columnTable → getD p c 0 ≡ column c
-unfolding column
-table-at c e = ap (λ (l : List ℕ). getD l c 0) e
-
-pub table-below : {p : List ℕ} (u : ℕ) → p ≡ columnTable → getD p (u % 32) 0 < 32
-table-below u e = rw (table-at (u % 32) e) (column-rule (u % 32) (omega arith) .0)
 
 -- ---- how long a unit is
 

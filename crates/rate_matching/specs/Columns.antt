@@ -1,14 +1,20 @@
--- Table 5.1.4-1 of clause 5.1.4.1.1: the inter-column permutation pattern of the three sub-block interleavers.
+-- The inter-column permutation pattern of the three sub-block interleavers, clause 5.1.4.1.1, as a rule: a column's number is its five bits read backwards.
 -- Assumes nothing.
-use mathlib.Core.List.{List, [], _∷_}
-use Prim.Native.Nat.{ℕ}
-use lib.ListN.{getD}
+use mathlib.Core.List.{List, [], _∷_, reverse}
+use Prim.Native.Nat.{ℕ, _+_, _*_, _^_}
+use lib.ListN.{length}
+use Rattle.laws.specs.Lists.{tab}
+use Rattle.laws.specs.Bits.{bitsOf}
+
+-- the number that bits are, the first of them the highest
+unfoldable pub numberOf : List ℕ → ℕ
+numberOf [] = 0
+numberOf (b ∷ bs) = b * 2 ^ length bs + numberOf bs
+
+-- P(c), the original position of column c: the five bits of c, read backwards
+unfoldable pub column : ℕ → ℕ
+column c = numberOf (reverse (bitsOf 5 c))
 
 -- P(0), .., P(31)
 unfoldable pub columnTable : List ℕ
-columnTable =
-    0 ∷ 16 ∷ 8 ∷ 24 ∷ 4 ∷ 20 ∷ 12 ∷ 28 ∷ 2 ∷ 18 ∷ 10 ∷ 26 ∷ 6 ∷ 22 ∷ 14 ∷ 30 ∷ 1 ∷ 17 ∷ 9 ∷ 25 ∷ 5 ∷ 21 ∷ 13 ∷ 29 ∷ 3 ∷ 19 ∷ 11 ∷ 27 ∷ 7 ∷ 23 ∷ 15 ∷ 31 ∷ []
-
--- P(c), the original position of column c
-unfoldable pub column : ℕ → ℕ
-column c = getD columnTable c 0
+columnTable = tab 32 column

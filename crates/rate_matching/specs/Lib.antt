@@ -1,4 +1,5 @@
 pub mod Columns
+pub mod Printed
 pub mod SubBlocks
 pub mod Circle
 pub mod Walk

@@ -1,53 +1,30 @@
-// Table 5.1.4-1: the column numbers, one table for all three sub-block interleavers.
+// The numbers of Table 5.1.4-1 by their rule, one for all three sub-block interleavers: the five bits of a column, read backwards.
 ghost use mathlib.Core.Path.{_≡_};
 ghost use Rattle.rate_matching.specs.Columns.{columnTable, column};
 
-// P(0), .., P(31)
-const COLUMNS: [u8; 32] = [
-    0,
-    16,
-    8,
-    24,
-    4,
-    20,
-    12,
-    28,
-    2,
-    18,
-    10,
-    26,
-    6,
-    22,
-    14,
-    30,
-    1,
-    17,
-    9,
-    25,
-    5,
-    21,
-    13,
-    29,
-    3,
-    19,
-    11,
-    27,
-    7,
-    23,
-    15,
-    31,
-];
+// P(c). In bytes, so that a loop over the columns runs many at a time.
+fn turned(c: u8) -> u8
+    ensures { λ r. ⌜ r ≡ column c ⌝ }
+{
+    c % 2 * 16 + c / 2 % 2 * 8 + c / 4 % 2 * 4 + c / 8 % 2 * 2 + c / 16 % 2
+}
 
-// The whole table, for a loop that reads it once.
+// P(0), .., P(31), for a loop that reads them.
 pub fn columns() -> [u8; 32]
     ensures { λ r. ⌜ r ≡ columnTable ⌝ }
 {
-    COLUMNS
+    let mut p = [0u8; 32];
+    let mut c: u8 = 0;
+    while c < 32 {
+        p[c as usize] = turned(c);
+        c += 1;
+    }
+    p
 }
 
-// P(c), the original position of column c; 0 past the table.
+// P(c), the original position of column c.
 pub fn column_at(c: usize) -> usize
     ensures { λ r. ⌜ r ≡ column c ⌝ }
 {
-    if c < 32 { COLUMNS[c] as usize } else { 0 }
+    turned((c % 32) as u8) as usize
 }

@@ -1,12 +1,13 @@
 -- `matcher::put_units` meets its contract: unit after unit, until there are enough bits or no more units.
 -- Assumes nothing.
 use mathlib.Core.Path.{_≡_, refl}
-use Prim.Native.Nat.{_-_}
+use Prim.Native.Nat.{_-_, _%_}
 use native.Mathlib.Omega.{arith}
 use lib.ListN.{length}
 use borrow.Author.Needs.{needs}
 use Rattle.rate_matching.specs.Columns.{columnTable}
-use Rattle.rate_matching.proofs.MatcherRing.{laid, table-at, table-below, unit-few, Filling, filling-start, filling-goes, filling-room, filling-next, filling-ends}
+use Rattle.rate_matching.proofs.Columns.{table-at, table-below}
+use Rattle.rate_matching.proofs.MatcherRing.{laid, unit-few, Filling, filling-start, filling-goes, filling-room, filling-next, filling-ends}
 use Rattle.rate_matching.proofs.matcher.put_units.Statement.{statement}
 use Rattle.rate_matching.proofs.matcher.put_units.Tie as tie
 
@@ -26,14 +27,14 @@ array-read-put-unit : tie.Need-array-read-put-unit Inv-loop μ-loop
 array-read-put-unit c = omega arith
 
 cast-put-unit : tie.Need-cast-put-unit Inv-loop μ-loop
-cast-put-unit c = omega (arith, table-below (c .before .loop .u) (c .before .loop .inv .0))
+cast-put-unit c = omega (arith, table-below (c .before .loop .u % 32) (c .before .loop .inv .0) (omega arith))
 
 put-unit-requires : tie.Need-put-unit-requires Inv-loop μ-loop
 put-unit-requires c κs =
     let l = c .before .before .loop in
     let s = c .before .before .before .before .before .before .before .before in
     let h = filling-goes (l .inv .1) _ (c .before .loop-test .taken) in
-    (s .pre .0, omega (arith, h .0, s .pre .2), table-at _ (l .inv .0), filling-room (l .inv .1) (h .0) (h .1) (s .pre .4))
+    (s .pre .0, omega (arith, h .0, s .pre .2), table-at _ (l .inv .0) (omega arith), filling-room (l .inv .1) (h .0) (h .1) (s .pre .4))
 
 add-u : tie.Need-add-u Inv-loop μ-loop
 add-u c = let h = filling-goes (c .before .before .before .before .before .loop .inv .1) _ (c .before .before .before .before .loop-test .taken) in omega (arith, h .0)

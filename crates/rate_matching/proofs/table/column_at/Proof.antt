@@ -1,29 +1,23 @@
--- `table::column_at` meets its contract: the constant is the definition's table, entry for entry, and past its 32 entries `getD` gives 0.
+-- `table::column_at` meets its contract: only the lowest five bits of a number are turned round.
 -- Assumes nothing.
 use borrow.Author.Needs.{needs}
-use mathlib.Core.Path.{refl, sym}
-use Prim.Native.Nat.{_≤_}
+use mathlib.Core.Path.{_∙_}
 use native.Mathlib.Omega.{arith}
-use lib.ListN.{length, List·getD-eq-default}
-use Rattle.rate_matching.specs.Columns.{columnTable, column}
-use Rattle.rate_matching.proofs.Columns.{column-rule}
+use Rattle.rate_matching.proofs.Columns.{column-five}
 use Rattle.rate_matching.proofs.table.column_at.Statement.{statement}
 use Rattle.rate_matching.proofs.table.column_at.Tie as tie
 
-array-read-result : tie.Need-array-read-result
-array-read-result c = search needs
+cast-turned : tie.Need-cast-turned
+cast-turned c = search needs
+
+turned-requires : tie.Need-turned-requires
+turned-requires c κs = search needs
 
 cast-result : tie.Need-cast-result
-unfolding column columnTable
-cast-result c = omega (arith, column-rule (c .before .args .c) (c .if1 .taken) .0)
+cast-result c = search needs
 
 returns : tie.Need-returns
-unfolding column columnTable
-returns c = refl
-
-returns-2 : tie.Need-returns-2
-unfolding column columnTable
-returns-2 c = let past : length columnTable ≤ c .before .args .c = omega arith in sym (List·getD-eq-default columnTable 0 past)
+returns c = c .turned .ensures ∙ column-five _
 
 pub column-at-spec : {M : Type 1} → statement M
-column-at-spec = tie.close (tie.spec array-read-result cast-result returns returns-2)
+column-at-spec = tie.close (tie.spec cast-turned turned-requires cast-result returns)
