@@ -18,7 +18,6 @@ need() {
 }
 
 command -v rt > /dev/null 2>&1 || die "the Rattle kit is not installed: rt is missing"
-need cargo cargo
 need cmp diffutils
 
 # Rattle compiles for x86-64. "${x86[@]}" PROGRAM runs such a program here with the kit's loader and C library, under the kit's
