@@ -369,6 +369,110 @@ def draw_bits(picture, value, x, y):
         picture.rect(x + CELL * at, y, CELL, CELL, KINDS["data"] if bit else "#ffffff", stroke=INK)
 
 
+# How many repeats at worst.
+
+REPEAT_ALLOCATIONS = (2, 1), (4, 1), (6, 1), (6, 4)
+
+
+def by_size(tables):
+    """The rows of the repeats by A, each a list in the order of the allocations."""
+    rows = {}
+    for row in tables["repeats"]:
+        rows.setdefault(row["A"], []).append(row)
+    for several in rows.values():
+        assert [(row["Q"], row["N"]) for row in several] == list(REPEAT_ALLOCATIONS)
+    return rows
+
+
+def heard_after(row):
+    """What part is heard after the first, the second and the third, in whole percents, never rounded up to all."""
+    return [math.floor(100 * row[step] / row["places"]) for step in ("first", "second", "third")]
+
+
+def draw_repeats(tables, folder):
+    rows = by_size(tables)
+    picture = Picture(
+        200 + 30 * len(rows), "How many repeats at worst",
+        "A table: for common A and Q, N the least G of one transmission that surely brings the block, the least G of each of "
+        "three, versions 0, 1 and 3, and what part of the data is heard after each of the three in the worst order.")
+    picture.text(400, 56, "One true transmission of any version brings the block if its G is at least that of the column one;", anchor="middle")
+    picture.text(400, 74, "one each of versions 0, 1 and 3, in any order, if the G of each is at least that of the column three.",
+                 anchor="middle")
+    top = 128
+    for at, (q, n) in enumerate(REPEAT_ALLOCATIONS):
+        x = 118 + 108 * at
+        picture.text(x + 60, top - 22, f"Q = {q}, N = {n}", anchor="middle", bold=True)
+        picture.text(x + 50, top, "one", anchor="end")
+        picture.text(x + 104, top, "three", anchor="end")
+    picture.text(58, top, "A", anchor="end")
+    picture.text(108, top, "blocks", anchor="end")
+    picture.text(662, top - 22, "heard, Q = 2, N = 1", anchor="middle", bold=True)
+    picture.text(568, top, "worst order and part heard")
+    picture.line(20, top + 8, 780, top + 8)
+    for at, (a, several) in enumerate(rows.items()):
+        draw_repeat_row(picture, several, top + 30 + 30 * at)
+    y = top + 30 + 30 * len(rows)
+    for shade, (step, x) in zip(("first", "second", "rest"), (("the first", 40), ("the second", 290), ("the third", 550))):
+        picture.rect(x, y - 11, 22, 14, tint(KINDS["data"], SHADES[shade]), stroke=FAINT)
+        picture.text(x + 30, y, f"heard by {step} of the three")
+    picture.save(folder, "repeats-at-worst.svg")
+
+
+def draw_repeat_row(picture, several, y):
+    first = several[0]
+    picture.text(58, y, number(first["A"]), anchor="end", bold=True)
+    picture.text(108, y, number(first["blocks"]), anchor="end")
+    for at, row in enumerate(several):
+        x = 118 + 108 * at
+        picture.text(x + 50, y, number(row["one"]), anchor="end")
+        picture.text(x + 104, y, number(row["three"]), anchor="end")
+    for at, version in enumerate(first["order"].split(" ")):
+        picture.badge(577 + 20 * at, y - 5, version, radius=8)
+    left, width, begin = 634, 72, 0
+    for shade, step in zip(("first", "second", "rest"), ("first", "second", "third")):
+        end = width * first[step] / first["places"]
+        picture.rect(left + begin, y - 13, end - begin, 16, tint(KINDS["data"], SHADES[shade]), stroke=FAINT)
+        begin = end
+    percents = heard_after(first)
+    picture.text(left + width + 6, y, " · ".join(map(str, percents)) + " %", size=11)
+
+
+def write_repeats(tables, folder):
+    """The same as a table of text, and how near the bounds are."""
+    lines = [
+        "# How many repeats at worst",
+        "",
+        "Drawn by `scripts/pictures` from the independent program's figures. For a block of A bits, Q and N: the least G of one true transmission, "
+        "of any version, that surely brings the block, and the least G of each of three, one each of versions 0, 1 and 3 in any order. "
+        "`worst A Q N` in a replayed log tells both for any A, Q and N. The last columns: the order of the three in which least is heard, "
+        "and what part of the data places is heard after each, for Q = 2, N = 1 and that least G.",
+        "",
+        "| A | Blocks | " + " | ".join(f"Q {q}, N {n}: one | three" for q, n in REPEAT_ALLOCATIONS)
+        + " | Worst order | After 1 | After 2 | After 3 |",
+        "|" + "---:|" * (2 + 2 * len(REPEAT_ALLOCATIONS)) + "---|" + "---:|" * 3,
+    ]
+    for a, several in by_size(tables).items():
+        least = [f"{number(row['one'])} | {number(row['three'])}" for row in several]
+        heard = [f"{percent} %" for percent in heard_after(several[0])]
+        order = several[0]["order"].replace(" ", ", ")
+        lines.append("| " + " | ".join([number(a), str(several[0]["blocks"]), *least, order, *heard]) + " |")
+    lines += [
+        "",
+        "## How near the bounds are",
+        "",
+        "Of the 188 sizes K without filler, in one code block: for how many a G one allocation unit of N·Q bits below the least leaves a data "
+        "place unheard. For one transmission, version 0, the bound is exact everywhere. For three it is exact from N·Q = 4 on for some K: for "
+        "K = 56 (A = 32), Q = 4 and N = 1 three of 48 bits do and three of 44 leave 2 data places unheard. With N·Q = 2 one unit less "
+        "still does for every K, since every circle has at least 4 dummies, which the walk passes without a bit.",
+        "",
+        "| N·Q | three: one unit less does not do | one: one unit less does not do |",
+        "|---:|---:|---:|",
+    ]
+    lines += [f"| {row['unit']} | {row['three']} of {row['sizes']} | {row['one']} of {row['sizes']} |" for row in tables["tight"]]
+    with open(os.path.join(folder, "repeats-at-worst.md"), "w", encoding="utf-8", newline="\n") as file:
+        file.write("\n".join(lines) + "\n")
+
+
 def main():
     if len(sys.argv) != 2:
         sys.exit("usage: independent figures | pictures.py FOLDER")
@@ -376,6 +480,8 @@ def main():
     draw_circles(tables, sys.argv[1])
     draw_curves(tables, sys.argv[1])
     draw_columns(tables, sys.argv[1])
+    draw_repeats(tables, sys.argv[1])
+    write_repeats(tables, sys.argv[1])
 
 
 if __name__ == "__main__":

@@ -1,10 +1,11 @@
 //! The numbers of the pictures in docs/pictures as tab-parted text, for the smallest and the
 //! largest K without filler: all from the rate matcher, run on labels in the bits' stead, but
-//! for the column numbers, which are the standard's table.
+//! for the column numbers, which are the standard's table. The tables of repeats are of `worst`.
 //!
 //! Every line begins with the name of its table; the first of a table names the columns.
 
 use crate::rate;
+use crate::worst;
 
 /// The smallest and the largest row of table 5.1.3-3.
 pub const SIZES: [usize; 2] = [40, 6_144];
@@ -152,7 +153,7 @@ pub fn text() -> String {
             text.extend(lines.map(|row| format!("{name}\t{}\t{row}\n", circle.k)));
         }
     }
-    text + &columns()
+    text + &columns() + &worst::text()
 }
 
 /// Table 5.1.4-1 as printed.

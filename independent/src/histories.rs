@@ -1,7 +1,7 @@
 //! Compares another program that speaks the protocol `replay` with this one: whole histories
 //! of calls, every answer byte for byte. Both keep one store over all of them.
 
-use crate::history::{self, History};
+use crate::history::{self, History, RELEASED};
 use crate::replay::Replay;
 use std::io::{BufRead, BufReader, BufWriter, Read, Write};
 use std::process::{Child, ChildStdin, Command, Stdio};
@@ -17,7 +17,8 @@ const PROGRESS: usize = 200;
 const SHOWN: usize = 5;
 
 /// The words of the calls, in the order in which their counts are printed.
-const WORDS: [&str; 8] = ["new", "open", "receive", "read", "streams", "close", "build", "sizes"];
+const WORDS: [&str; 9] =
+    ["new", "open", "receive", "read", "streams", "close", "build", "sizes", "worst"];
 
 /// The largest refusal number.
 const NUMBERS: usize = 15;
@@ -112,6 +113,9 @@ fn hold(
     for (at, line) in lines.iter().enumerate() {
         let answer = sound.answer(line);
         tally.note(line, answer.as_deref());
+        if at > 0 && lines[at - 1] == RELEASED.as_bytes() {
+            tally.promise(answer.as_deref());
+        }
         let Some(expected) = answer else { continue };
         let mut given = Vec::new();
         output.read_until(b'\n', &mut given).map_err(|error| format!("the program's output: {error}"))?;
@@ -163,9 +167,18 @@ struct Tally {
     accepted: [usize; WORDS.len()],
     refused: [usize; NUMBERS],
     silent: usize,
+    /// Reads that must give the block, and those of them that did not.
+    promised: usize,
+    late: usize,
 }
 
 impl Tally {
+    /// A read that must give the block.
+    fn promise(&mut self, answer: Option<&str>) {
+        self.promised += 1;
+        self.late += usize::from(!answer.is_some_and(|answer| answer.starts_with("ok\t")));
+    }
+
     fn note(&mut self, line: &[u8], answer: Option<&str>) {
         let Some(answer) = answer else {
             self.silent += 1;
@@ -196,8 +209,14 @@ impl Tally {
             let missing = counts.iter().filter(|(_, count)| *count == 0);
             missing.map(|(what, _)| what.clone()).collect::<Vec<String>>()
         };
-        let text =
-            format!("accepted: {}\nrefused: {}\nno answer: {}", list(&accepted), list(&refused), self.silent);
+        let text = format!(
+            "accepted: {}\nrefused: {}\nno answer: {}\nreads after enough repeats: {}, late: {}",
+            list(&accepted),
+            list(&refused),
+            self.silent,
+            self.promised,
+            self.late
+        );
         (text, [never(&accepted), never(&refused)].concat())
     }
 }
@@ -246,6 +265,9 @@ impl Report<'_> {
         println!("{text}");
         if self.options.only.is_none() && !never.is_empty() {
             self.fail(&format!("never occurred: {}", never.join(", ")));
+        }
+        if self.tally.late > 0 {
+            self.fail("a read came late after enough repeats");
         }
     }
 

@@ -10,6 +10,7 @@ use crate::rate;
 use crate::replay::{is_silent, run, LINE_MAX};
 use crate::segmentation::{self, Segmentation};
 use crate::turbo;
+use crate::worst::{self, Worst, THREE};
 use crate::xorshift::{self, Generator};
 
 /// A history: lines without their newlines.
@@ -30,6 +31,9 @@ const TERMINALS: [usize; 5] = [0, 1, 7, 256, 65_535];
 const QS: [usize; 3] = [2, 4, 6];
 const NS: [usize; 4] = [1, 2, 3, 4];
 
+/// Stands before a read that request E8 of 02 says must give the block.
+pub const RELEASED: &str = "# released";
+
 /// The order in which a car sends the versions, most often.
 const USUAL_ORDER: [usize; 4] = [0, 2, 3, 1];
 
@@ -47,6 +51,7 @@ fn history(number: usize, seed: u64) -> History {
         _ if number % 500 == 1 => maker.long_lines(),
         _ if number % 20 == 2 => maker.large(2 + number / 20 % 2),
         _ if number % 40 == 3 => maker.large(1),
+        _ if number % 10 == 4 => maker.repeats(),
         _ => maker.small(),
     }
     // The last line of a comparison lacks its newline, and must show whether it counts.
@@ -122,6 +127,7 @@ impl Maker {
     /// Every refusal once, most on a slot of one small block.
     fn tour(&mut self) {
         self.say("sizes 6121");
+        self.say("worst 6121 4 1");
         self.say("build 2 1 0 24 1");
         self.say("read 0 7"); // 13: there has been no New
         self.say("new 9 1"); // 13
@@ -218,6 +224,52 @@ impl Maker {
         self.finish_some();
     }
 
+    /// What request E8 of 02 promises: three transmissions of versions 0, 1 and 3 in any order, or
+    /// one of any version, of the least G or a little more, between other calls, and then a read.
+    fn repeats(&mut self) {
+        let layouts = [(3, 1), (2, 1), (3, 1), (1, 2), (1, 3)];
+        self.begin_with(&layouts);
+        let slot = self.random.below(self.s);
+        let most = self.random.choose(&[40, 200, 600, 600, 6_120 * self.m]);
+        let (a, terminal) = (self.between(1, most), self.random.choose(&TERMINALS));
+        self.open(slot, terminal, a);
+        let alone = self.random.below(3) == 0;
+        let mut versions = if alone { vec![self.random.below(4)] } else { THREE.to_vec() };
+        while !versions.is_empty() {
+            self.harmless(slot);
+            let next = self.random.below(versions.len());
+            self.planned(slot, versions.remove(next), alone);
+        }
+        self.harmless(slot);
+        self.say(RELEASED);
+        self.own(slot, "read", "");
+    }
+
+    /// A true transmission of a version with the least G for some Q and N, or a little more.
+    fn planned(&mut self, slot: usize, version: usize, alone: bool) {
+        let (q, n) = self.allocation();
+        let block = self.car(slot).block.clone();
+        let Worst { three, one } = worst::worst(block.len(), q, n).expect("A, Q and N are in range");
+        let more = q * n * self.random.choose(&[0, 0, 0, 1, 2, 7]);
+        let bits = codeword::build(&block, q, n, version, if alone { one } else { three } + more);
+        self.receive(slot, (q, n, version), bits.expect("the least G is one that Build takes"));
+    }
+
+    /// Calls that must not keep a block back: on other slots, refused ones, reads, true receptions.
+    fn harmless(&mut self, slot: usize) {
+        for _ in 0..self.random.below(4) {
+            let other = (slot + 1 + self.random.below(self.s)) % self.s;
+            match self.random.below(8) {
+                0 | 1 if other != slot => self.slot_step(other),
+                2 => self.refused_reception(slot),
+                3 => self.open_again(slot),
+                4 => self.own(slot, "read", ""),
+                5 => self.unreadable(),
+                _ => self.transmit(slot),
+            }
+        }
+    }
+
     // Beginnings.
 
     /// No New: what the history before left open may be met.
@@ -253,6 +305,7 @@ impl Maker {
             13..=14 => self.no_such_slot(),
             15 => self.begin_with(&FITTING),
             16 if self.random.below(4) == 0 => self.begin_with(&OUT_OF_RANGE),
+            17..=18 => self.worst(),
             _ => self.slot_step(slot),
         }
     }
@@ -538,6 +591,21 @@ impl Maker {
         self.say(format!("sizes {a}"));
     }
 
+    fn worst(&mut self) {
+        let near = [0, 16, 6_121, 12_217, A_MAX, A_MAX + 1];
+        let a = match self.random.below(3) {
+            0 => self.random.choose(&near),
+            _ => self.between(1, A_MAX),
+        };
+        let (mut q, mut n) = self.allocation();
+        match self.random.below(8) {
+            0 => q = self.random.choose(&[0, 1, 3, 8, 999_999]),
+            1 => n = self.random.choose(&[0, 5, 999_999]),
+            _ => {}
+        }
+        self.say(format!("worst {a} {q} {n}"));
+    }
+
     fn silent(&mut self) {
         let line = self.random.choose(&["", "#", "# a remark", "#new 1 1", "#\ttab", "##"]);
         self.say(line);
@@ -557,6 +625,7 @@ impl Maker {
             format!("close {slot} {terminal}"),
             format!("build 2 1 0 24 {bits}"),
             "sizes 16".to_string(),
+            "worst 16 2 1".to_string(),
         ];
         let line = calls[self.random.below(calls.len())].clone().into_bytes();
         let spoiled = self.spoil(line);

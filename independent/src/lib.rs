@@ -1,5 +1,5 @@
 //! Uplink shared channel coding (UL-SCH data), written from 3GPP TS 36.212 V11.5.1 and
-//! from the rules paper 01 alone, as a second opinion on the project's main program.
+//! from the rules papers 01 and 02 alone, as a second opinion on the project's main program.
 //!
 //! One module a clause, in the order of the clauses. Each transcribes the loops of the
 //! standard as they stand there; nothing is made fast at the cost of that likeness. The
@@ -18,6 +18,7 @@ pub mod rate; // 5.1.4.1
 pub mod codeword; // 5.1.5, and the whole chain
 pub mod slots; // New, Open, Receive, Read, Streams and Close of 01
 pub mod sizes; // the call Sizes and the sizes program of 01
+pub mod worst; // how many repeats at worst, E8 of 02
 pub mod stage; // every stage as readable text
 pub mod xorshift; // repeatable blocks to try
 pub mod fast; // Build for speed

@@ -13,6 +13,7 @@
 //! close SLOT TERMINAL                        ok
 //! build Q N VERSION G BITS                   ok, the codeword
 //! sizes A                                    ok, C, longs, long, shorts, short, filler
+//! worst A Q N                                ok, the least G of three, the least G of one
 //! ```
 //!
 //! Fields of an answer are parted by one tab. A refusal is `refused`, the number, and the
@@ -23,6 +24,7 @@
 use crate::codeword;
 use crate::sizes::{self, UNREADABLE};
 use crate::slots::{self, Refusal, State, ROOM_OF_BLOCK};
+use crate::worst;
 use std::io::{self, BufRead, ErrorKind};
 
 /// Bytes of the store.
@@ -45,6 +47,7 @@ pub enum Call {
     Close { slot: usize, terminal: u16 },
     Build { q: usize, n: usize, version: usize, g: usize, block: Vec<u8> },
     Sizes { a: usize },
+    Worst { a: usize, q: usize, n: usize },
 }
 
 impl Call {
@@ -80,6 +83,7 @@ impl Call {
                 block: digits(bits)?,
             },
             [b"sizes", a] => Call::Sizes { a: number(a)? },
+            [b"worst", a, q, n] => Call::Worst { a: number(a)?, q: number(q)?, n: number(n)? },
             _ => return None,
         })
     }
@@ -153,6 +157,10 @@ impl Replay {
                 let s = sizes::sizes(*a)?;
                 let numbers = [s.blocks, s.longs, s.long, s.shorts, s.short, s.filler];
                 Ok(numbers.map(|number| number.to_string()).to_vec())
+            }
+            Call::Worst { a, q, n } => {
+                let least = worst::worst(*a, *q, *n)?;
+                Ok(vec![least.three.to_string(), least.one.to_string()])
             }
         }
     }

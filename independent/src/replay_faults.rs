@@ -32,6 +32,7 @@ pub enum Fault {
     FillerUnheard,
     FirstBlockAlone,
     NoShortSize,
+    WorstByLongest,
     LeadingZeros,
     TerminalWraps,
     BlanksJoined,
@@ -46,7 +47,7 @@ pub enum Fault {
 use Fault::*;
 
 /// The faults by their names.
-pub const FAULTS: [(&str, Fault); 32] = [
+pub const FAULTS: [(&str, Fault); 33] = [
     ("open_keeps", OpenKeeps),                     // open does not clear the room: June
     ("open_clears_one_block", OpenClearsOneBlock), // or its first code block alone
     ("first_bit_stays", FirstBitStays),            // a later bit does not replace an earlier one
@@ -70,6 +71,7 @@ pub const FAULTS: [(&str, Fault); 32] = [
     ("filler_unheard", FillerUnheard),             // streams gives 2 for absent filler
     ("first_block_alone", FirstBlockAlone),        // streams gives code block 0 whichever is asked
     ("no_short_size", NoShortSize),                // K- is 0 wherever there are no short blocks
+    ("worst_by_longest", WorstByLongest),          // every code block counts as the longest for worst
     ("leading_zeros", LeadingZeros),               // numbers may begin with 0
     ("terminal_wraps", TerminalWraps),             // terminal 65,536 is 0
     ("blanks_joined", BlanksJoined),               // several blanks are one, outer ones none
@@ -187,6 +189,8 @@ impl Spoiled {
             Call::Build { version, .. } => return self.late_allocation(version, outcome),
             Call::Sizes { .. } if self.fault == NoShortSize => return outcome.map(no_short_size),
             Call::Sizes { .. } => {}
+            Call::Worst { a, q, n } if self.fault == WorstByLongest => return by_longest(a, q, n, outcome),
+            Call::Worst { .. } => {}
         }
         outcome
     }
@@ -391,6 +395,14 @@ fn without_leading_zeros(words: &[&[u8]]) -> Vec<u8> {
         }
     }
     lax.join(&b' ')
+}
+
+/// Worst as if every code block were as long as the longest.
+fn by_longest(a: usize, q: usize, n: usize, outcome: Outcome) -> Outcome {
+    outcome?;
+    let s = sizes(a)?;
+    let equal = |need: usize| (s.blocks * need.next_multiple_of(q * n)).to_string();
+    Ok(vec![equal(24 * (s.long + 4).div_ceil(32)), equal(3 * (s.long + 4) - 2 * s.filler_in(s.blocks - 1))])
 }
 
 /// Sizes with 0 for K- where C- is 0.

@@ -323,14 +323,14 @@ fn labelled_circle(segmentation: &Segmentation, r: usize) -> Vec<Option<Label>> 
 }
 
 /// The circle places of code block r in the order of the walk.
-fn walked(segmentation: &Segmentation, r: usize, version: usize, e_length: usize) -> Vec<usize> {
+pub fn walked(segmentation: &Segmentation, r: usize, version: usize, e_length: usize) -> Vec<usize> {
     let labels = labelled_circle(segmentation, r).into_iter().enumerate();
     let circle: Vec<Option<usize>> = labels.map(|(place, label)| label.map(|_| place)).collect();
     rate::walk(&circle, rate::start(circle.len(), version), e_length)
 }
 
 /// Where in the room the data places of code block r are, in the order of stream 0.
-fn data_places(segmentation: &Segmentation, r: usize) -> Vec<usize> {
+pub fn data_places(segmentation: &Segmentation, r: usize) -> Vec<usize> {
     let (filler, k) = (segmentation.filler_in(r), segmentation.size(r));
     let mut places = vec![0; k];
     for (place, label) in labelled_circle(segmentation, r).into_iter().enumerate() {

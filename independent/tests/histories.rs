@@ -33,8 +33,14 @@ fn a_sound_program_passes() {
     let progress = ["histories: 200 of 450", "histories: 400 of 450", "histories: 450 of 450"];
     assert_eq!(lines(&output.stderr), progress);
     let printed = lines(&output.stdout);
-    let starts = ["accepted: new: ", "refused: 1: ", "no answer: ", "450 passed, 0 failed"];
-    assert_eq!(printed.len(), 4);
+    let starts = [
+        "accepted: new: ",
+        "refused: 1: ",
+        "no answer: ",
+        "reads after enough repeats: 45, late: 0",
+        "450 passed, 0 failed",
+    ];
+    assert_eq!(printed.len(), 5);
     assert!(printed.iter().zip(starts).all(|(line, start)| line.starts_with(start)), "{printed:?}");
 }
 
@@ -170,7 +176,7 @@ fn every_answer_is_met() {
     let met = met();
     let total =
         |kind: &str| met.iter().filter(|(key, _)| key.0 == kind).map(|(_, count)| count).sum::<usize>();
-    let calls: [(&str, &[u8]); 8] = [
+    let calls: [(&str, &[u8]); 9] = [
         ("new", &[13]),
         ("open", &[13, 5, 6, 7, 1, 10]),
         ("receive", &[13, 5, 6, 8, 9, 3, 4, 2]),
@@ -179,6 +185,7 @@ fn every_answer_is_met() {
         ("close", &[13, 6, 8, 9]),
         ("build", &[1, 3, 4, 2]),
         ("sizes", &[1]),
+        ("worst", &[1, 3]),
     ];
     for (word, numbers) in calls {
         assert!(total(&format!("{word} ok")) > 300, "{word}");

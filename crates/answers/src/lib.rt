@@ -1,4 +1,5 @@
 // The answers of a replayed log as rows of text: `ok` or `refused`, and what comes with it, parted by tabs.
+use planning::WorstAnswer;
 use segmentation::SizesAnswer;
 use slots::Answer;
 ghost use mathlib.Core.Path.{_≡_};
@@ -10,6 +11,7 @@ ghost use Rattle.lines.specs.Numbers.{numbersRow};
 ghost use Rattle.lines.specs.Put.{putAt, endAt};
 ghost use Rattle.answers.specs.Rows.{digitsOf, answerRow, refusalRow, runRow, runsRow};
 ghost use Rattle.answers.specs.SizesRow.{sizesRow};
+ghost use Rattle.answers.specs.WorstRow.{worstRow};
 
 // The number of a read that lacks bits.
 const LACKING: usize = 11;
@@ -61,6 +63,20 @@ pub fn put_sizes(answer: SizesAnswer, out: &mut [u8]) -> usize
             put_told(b"ok\t", &numbers, out)
         }
         SizesAnswer::Refused(number) => put_refusal(number as usize, out),
+    }
+}
+
+// The row of the least G of three and of one.
+pub fn put_worst(answer: WorstAnswer, out: &mut [u8]) -> usize
+    ensures { λ r. ⌜ r ≡ endAt 0 (worstRow answer) (now (out .entry)) ⌝ }
+    ensures { λ r. ⌜ now (out .exit) ≡ putAt 0 (worstRow answer) (now (out .entry)) ⌝ }
+{
+    match answer {
+        WorstAnswer::Given(w) => {
+            let numbers = [w.three, w.one];
+            put_told(b"ok\t", &numbers, out)
+        }
+        WorstAnswer::Refused(number) => put_refusal(number as usize, out),
     }
 }
 

@@ -6,7 +6,8 @@ ghost use mathlib.Core.Bool.{_||_};
 ghost use lib.ListN.{length};
 ghost use Rattle.codeword.specs.Build.{badModulation, badLayers, badAllocation, shareOf, badBits};
 
-fn bad_modulation(q: usize) -> bool
+// Number 3 for Q.
+pub fn bad_modulation(q: usize) -> bool
     ensures { λ r. ⌜ r ≡ badModulation q ⌝ }
 {
     if q == 2 {
@@ -18,7 +19,8 @@ fn bad_modulation(q: usize) -> bool
     q != 6
 }
 
-fn bad_layers(n: usize) -> bool
+// Number 3 for N.
+pub fn bad_layers(n: usize) -> bool
     ensures { λ r. ⌜ r ≡ badLayers n ⌝ }
 {
     if n == 0 {

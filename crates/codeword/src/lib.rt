@@ -4,5 +4,7 @@ mod call;
 
 pub use allocation::bad_allocation;
 pub use allocation::bad_bits;
+pub use allocation::bad_layers;
+pub use allocation::bad_modulation;
 pub use allocation::share_of;
 pub use call::build;

@@ -16,4 +16,6 @@ pub mod DataPlaces
 pub mod Opening
 pub mod June
 pub mod Parity
+pub mod Repeats
+pub mod RepeatsCounted
 pub mod Promises

@@ -21,6 +21,7 @@ use Rattle.history.specs.Sent.{True, AllTrue, unsent, DataPlace, sentDat
 use Rattle.history.specs.After.{made, stateAfter, roomsAfter, storeAfter, roomsLong, acceptedAfter}
 use Rattle.history.specs.Holds.{Holds}
 use Rattle.history.specs.Later.{Undisturbed, acceptedIn, Withheld}
+use Rattle.history.specs.Repeats.{Some, Enough}
 use Rattle.history.proofs.State.{heads}
 use Rattle.history.proofs.Holds as holding
 use Rattle.history.proofs.Heads as heading
@@ -31,6 +32,8 @@ use Rattle.history.proofs.Release as releasing
 use Rattle.history.proofs.DataPlaces as counting
 use Rattle.history.proofs.June as incident
 use Rattle.history.proofs.Parity as parity
+use Rattle.history.proofs.Repeats as repeating
+use Rattle.history.proofs.RepeatsCounted as counted
 
 -- ---- what a place holds
 
@@ -235,3 +238,53 @@ june-parity = incident.june-parity
 -- So a read after them answers 11 with 40, as 01 says.
 pub parity-alone : (bits : List ℕ) → length bits ≡ 64 → NoneSent 16 (record { Q = 2; N = 1; version = 2; bits = bits } ∷ [])
 parity-alone = parity.parity-alone
+
+-- ---- how many repeats at worst
+
+-- Whatever the store held, whoever had used the slot before, and whatever other calls stand between: after an accepted opening, a read by its terminal gives the block
+-- once enough true transmissions of it were accepted, in any order. `Enough` has the ways: one each of versions 0, 1 and 3 with at least 24·R bits for every code
+-- block of its own R, or one alone, of any version, with at least 3·D − 2·F bits for code block 0 and 3·D for each other; and both in a planner's terms, by the
+-- least G that `worst A Q N` tells. Other true transmissions, of version 2 or any, change nothing.
+pub enough-repeats : (S M : ℕ) (store₀ : List ℕ) (earlier : History) (past₀ : List ℕ) (slot terminal A : ℕ)
+    → answerTo (stateAfter S M store₀ earlier) (storeAfter S M store₀ earlier past₀) (opening slot terminal A) ≡ Done
+    → (later : History)
+    → let opened : History = made (opening slot terminal A) past₀ earlier in
+    let heard : List Reception = acceptedIn S M (roomsLong S M store₀) slot later opened in
+    let state : State = stateAfter S M store₀ (later ++ opened) in
+    Undisturbed S M (roomsLong S M store₀) slot later opened
+    → (past : List ℕ) (a : List ℕ)
+    → AreBits a
+    → length a ≡ A
+    → AllTrue a heard
+    → (out : List ℕ)
+    → A ≤ length out
+    → Enough A heard
+    → (readOutcome state (storeAfter S M store₀ (later ++ opened) past) slot terminal (length out) ≡ record { answer = Done; state = state })
+    × (readOutput state (storeAfter S M store₀ (later ++ opened) past) slot terminal out ≡ a ++ drop A out)
+enough-repeats = repeating.gives-since
+
+-- The same of any history, opened as it may be, for a read that is not refused for its arguments.
+-- The premises are those of demand 3's release.
+pub enough-at-once : (S M : ℕ) (store₀ : List ℕ) (h : History) (past : List ℕ) (slot terminal : ℕ) (a : List ℕ)
+    → let state : State = stateAfter S M store₀ h in
+    let store : List ℕ = storeAfter S M store₀ h past in
+    let accepted : List Reception = acceptedAfter S M store₀ h slot in
+    AreBits a
+    → sizeAtHead state slot ≡ length a
+    → AllTrue a accepted
+    → (out : List ℕ)
+    → readNumber state (length store) slot terminal (length out) ≡ 0
+    → Enough (length a) accepted
+    → (readOutcome state store slot terminal (length out) ≡ record { answer = Done; state = state })
+    × (readOutput state store slot terminal out ≡ a ++ drop (length a) out)
+enough-at-once = repeating.gives
+
+-- A reception counts for these from the moment it was answered with a count of places, wherever it stands among the calls after the opening.
+-- `after` and `before` are the calls later and earlier than it.
+pub reception-counts : (such : Reception → Type 0) (S M : ℕ) (store₀ : List ℕ) (opened before : History) (past : List ℕ) (slot terminal : ℕ) (x : Reception) (n : ℕ)
+    → answerTo (stateAfter S M store₀ (before ++ opened)) (storeAfter S M store₀ (before ++ opened) past) (receiving slot terminal x) ≡ Heard n
+    → such x
+    → (after : History)
+    → Undisturbed S M (roomsLong S M store₀) slot (after ++ made (receiving slot terminal x) past before) opened
+    → Some such (acceptedIn S M (roomsLong S M store₀) slot (after ++ made (receiving slot terminal x) past before) opened)
+reception-counts = counted.counts

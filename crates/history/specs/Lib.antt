@@ -6,3 +6,4 @@ pub mod Answered
 pub mod Holds
 pub mod After
 pub mod Later
+pub mod Repeats

@@ -1,8 +1,8 @@
--- A one-to-one map of 0 .. n - 1 into itself is onto.
+-- A one-to-one map of 0 .. n - 1 into 0 .. m - 1 shows that n is at most m, and one into itself is onto.
 -- Assumes nothing.
 use mathlib.Core.Path.{_≡_}
 use mathlib.Core.Logic.{_≢_, _⊎_, inl, inr, ⊎-elim}
-use Prim.Native.Nat.{ℕ, zero, suc, _+_, _-_, min, _<_}
+use Prim.Native.Nat.{ℕ, zero, suc, _+_, _-_, min, _≤_, _<_}
 use borrow.Author.Count.{below-more}
 use native.Mathlib.Decide.{decLt, ℕ-discrete}
 use native.Mathlib.Omega.{arith}
@@ -41,6 +41,12 @@ no-room (suc m) f into one =
   where
     other : (i : ℕ) → i < suc m → f i ≢ f (suc m)
     other i h e = omega (arith, one i (suc m) (omega arith) (omega arith) e)
+
+pub no-more : (n m : ℕ) (f : ℕ → ℕ) → Into n m f → OneToOne n f → n ≤ m
+no-more n m f into one = elim (decLt m n) [
+  | yes h ↦ absurd (no-room m f (λ i l. into i (omega arith)) (λ i j hi hj e. one i j (omega arith) (omega arith) e))
+  | no h ↦ omega arith
+]
 
 -- j is met below n, or not
 find : (n : ℕ) (f : ℕ → ℕ) (j : ℕ) → ((i : ℕ) × (i < n) × (f i ≡ j)) ⊎ ((i : ℕ) → i < n → f i ≢ j)

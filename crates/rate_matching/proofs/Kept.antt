@@ -1,9 +1,9 @@
--- The entries that pass a test, by their indices: each that passes is kept, only entries of the list are kept, and none stands twice where none did before.
+-- The entries that pass a test, by their indices: each that passes is kept and comes no later, only entries of the list are kept, and none stands twice where none did before.
 -- Assumes nothing.
 use mathlib.Core.Path.{_≡_, refl, sym, _∙_, ap, subst}
 use mathlib.Core.Bool.{Bool, true, false}
 use mathlib.Core.List.{List, [], _∷_}
-use Prim.Native.Nat.{ℕ, zero, suc, _<_}
+use Prim.Native.Nat.{ℕ, zero, suc, _≤_, _<_}
 use native.Mathlib.Nat.{suc-inj}
 use native.Mathlib.Omega.{arith}
 use lib.ListN.{length, getD}
@@ -18,11 +18,19 @@ later : (b : Bool) (y : ℕ) (l : List ℕ) {x : ℕ} → Among x l → Among x 
 later true y l f = (suc (f .0), omega (arith, f .1), f .2)
 later false y l f = f
 
-pub keep-finds : (p : ℕ → Bool) (xs : List ℕ) (i : ℕ) → i < length xs → p (getD xs i 0) ≡ true → Among (getD xs i 0) (keep p xs)
+-- x is one of the entries up to place i
+abbrev pub Within : ℕ → ℕ → List ℕ → Type 0
+Within x i l = (f : Among x l) × (f .0 ≤ i)
+
+pub keep-finds : (p : ℕ → Bool) (xs : List ℕ) (i : ℕ) → i < length xs → p (getD xs i 0) ≡ true → Within (getD xs i 0) i (keep p xs)
 unfolding keep
 keep-finds p [] i h t = absurd (omega arith)
-keep-finds p (x ∷ xs) zero h t = subst (λ (b : Bool). Among x (picked b x (keep p xs))) (sym t) (0, omega arith, refl)
-keep-finds p (x ∷ xs) (suc i) h t = later (p x) x (keep p xs) (keep-finds p xs i (omega arith) t)
+keep-finds p (x ∷ xs) zero h t = subst (λ (b : Bool). Within x 0 (picked b x (keep p xs))) (sym t) ((0, omega arith, refl), omega arith)
+keep-finds p (x ∷ xs) (suc i) h t = go (p x) (keep-finds p xs i (omega arith) t)
+  where
+    go : (b : Bool) → Within (getD xs i 0) i (keep p xs) → Within (getD xs i 0) (suc i) (picked b x (keep p xs))
+    go true f = ((suc (f .0 .0), omega (arith, f .0 .1), f .0 .2), omega (arith, f .1))
+    go false f = (f .0, omega (arith, f .1))
 
 pub keep-from : (p : ℕ → Bool) (xs : List ℕ) (i : ℕ) → i < length (keep p xs) → Among (getD (keep p xs) i 0) xs
 unfolding keep

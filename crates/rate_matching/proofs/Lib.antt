@@ -8,7 +8,9 @@ pub mod MatcherRooms
 pub mod MatcherTurns
 pub mod ShapeTurn
 pub mod ShapeColumns
+pub mod Coverage
 pub mod Alike
+pub mod ShapeCount
 pub mod Units
 pub mod MatcherBlock
 pub mod MatcherRing

@@ -20,7 +20,7 @@ use Rattle.rate_matching.proofs.Kept.{keep-finds, keep-from, keep-none-
 -- ---- once round a circle of n places: the i-th place from k0 on, and back
 
 -- the place that the standard's loop looks at when it has passed i places
-abbrev passed : ℕ → ℕ → ℕ → ℕ
+abbrev pub passed : ℕ → ℕ → ℕ → ℕ
 passed n k0 i = (k0 + i) % n
 
 -- after how many places from k0 on place j comes
@@ -46,10 +46,10 @@ module _ (n k0 : ℕ) (h : k0 < n) where
       ∙ sym (tab-split (n - k0) k0 (passed n k0))
       ∙ ap (λ (m : ℕ). tab m (passed n k0)) whole
 
-  length-round : length (round n k0) ≡ n
+  pub length-round : length (round n k0) ≡ n
   length-round = ap length round-is ∙ length-tab n (passed n k0)
 
-  round-at : (i : ℕ) → i < n → getD (round n k0) i 0 ≡ passed n k0 i
+  pub round-at : (i : ℕ) → i < n → getD (round n k0) i 0 ≡ passed n k0 i
   round-at i l = ap (λ (r : List ℕ). getD r i 0) round-is ∙ getD-tab n (passed n k0) i 0 l
 
   round-none-twice : NoneTwice (round n k0)
@@ -85,7 +85,7 @@ module _ (w : List ℕ) (k0 : ℕ) (h : k0 < length w) where
       let i : ℕ = waits (length w) k0 j in
       let u : i < length w = mod-lt (j + (length w - k0)) (omega arith) in
       let e : getD (round (length w) k0) i 0 ≡ j = round-at (length w) k0 h i u ∙ passed-waits (length w) k0 h j l in
-      rw e at (keep-finds (holdsBit w) (round (length w) k0) i (rw (length-round (length w) k0 h) u) (rw e t))
+      (rw e at (keep-finds (holdsBit w) (round (length w) k0) i (rw (length-round (length w) k0 h) u) (rw e t))) .0
 
   pub turn-pos : (j : ℕ) → j < length w → holdsBit w j ≡ true → 0 < length (turn w k0)
   turn-pos j l t = let f = turn-finds j l t in omega (arith, f .1)

@@ -10,7 +10,7 @@ use lib.Dec.{eqb}
 use lib.ListN.{length}
 use mir.Val.{boolByte}
 use Rattle.requests.specs.declared.Verb.{Verb}
-use Rattle.requests.specs.declared.Verb.the-variants.{New, Open, Close, Receive, Read, Streams, Build, Sizes, Nothing, Unreadable}
+use Rattle.requests.specs.declared.Verb.the-variants.{New, Open, Close, Receive, Read, Streams, Build, Sizes, Worst, Nothing, Unreadable}
 use Rattle.requests.specs.declared.Form.{Form}
 use Rattle.requests.specs.Words.{wordsOf, wordAt}
 use Rattle.requests.specs.Verbs.{formOf}
@@ -27,6 +27,7 @@ numbers-le Read = omega arith
 numbers-le Streams = omega arith
 numbers-le Build = omega arith
 numbers-le Sizes = omega arith
+numbers-le Worst = omega arith
 numbers-le Nothing = omega arith
 numbers-le Unreadable = omega arith
 

@@ -21,6 +21,7 @@ pub enum Verb {
     Streams,
     Build,
     Sizes,
+    Worst,
     // an empty line or a comment
     Nothing,
     // a line that can't be read

@@ -11,7 +11,8 @@ ghost use Rattle.requests.specs.Verbs.{verbOf, form, noForm, formOf};
 pub(crate) fn verb_of(word: &[u8]) -> Verb
     ensures { λ r. ⌜ r ≡ verbOf (now (word .entry)) ⌝ }
 {
-    let v8 = named(word, b"sizes", Verb::Sizes, Verb::Unreadable);
+    let v9 = named(word, b"worst", Verb::Worst, Verb::Unreadable);
+    let v8 = named(word, b"sizes", Verb::Sizes, v9);
     let v7 = named(word, b"build", Verb::Build, v8);
     let v6 = named(word, b"streams", Verb::Streams, v7);
     let v5 = named(word, b"read", Verb::Read, v6);
@@ -41,6 +42,7 @@ pub(crate) fn form_of(verb: Verb) -> Form
         Verb::Streams => form(3, true, false),
         Verb::Build => form(4, false, true),
         Verb::Sizes => form(1, false, false),
+        Verb::Worst => form(3, false, false),
         Verb::Nothing => no_form(),
         Verb::Unreadable => no_form(),
     }

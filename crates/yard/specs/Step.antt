@@ -4,14 +4,16 @@ use mathlib.Core.List.{List, []}
 use Prim.Native.Nat.{ℕ}
 use lib.ListN.{length, getD}
 use Rattle.segmentation.specs.Sizes.{sizesAnswer}
+use Rattle.planning.specs.Worst.{worstAnswer}
 use Rattle.slots.specs.declared.State.{State}
 use Rattle.slots.specs.Calls.{newOutcome, openOutcome, openStore, receiveOutcome, receiveStore, closeOutcome}
 use Rattle.lines.specs.Put.{putAt, endAt}
 use Rattle.requests.specs.declared.Verb.{Verb}
-use Rattle.requests.specs.declared.Verb.the-variants.{New, Open, Close, Receive, Read, Streams, Build, Sizes, Nothing, Unreadable}
+use Rattle.requests.specs.declared.Verb.the-variants.{New, Open, Close, Receive, Read, Streams, Build, Sizes, Worst, Nothing, Unreadable}
 use Rattle.requests.specs.Request.{requestOf, bitsFrom}
 use Rattle.answers.specs.Rows.{answerRow, refusalRow}
 use Rattle.answers.specs.SizesRow.{sizesRow}
+use Rattle.answers.specs.WorstRow.{worstRow}
 use Rattle.yard.specs.declared.Step.{Step}
 use Rattle.yard.specs.Rows.{readRow, streamsRow, buildRow}
 
@@ -30,6 +32,7 @@ rowBy Read n bits state store = readRow state store (at n 0) (at n 1)
 rowBy Streams n bits state store = streamsRow state store (at n 0) (at n 1) (at n 2)
 rowBy Build n bits state store = buildRow bits (at n 0) (at n 1) (at n 2) (at n 3)
 rowBy Sizes n bits state store = sizesRow (sizesAnswer (at n 0))
+rowBy Worst n bits state store = worstRow (worstAnswer (at n 0) (at n 1) (at n 2))
 rowBy Nothing n bits state store = []
 rowBy Unreadable n bits state store = refusalRow 15
 
@@ -43,6 +46,7 @@ stateBy Read n state store = state
 stateBy Streams n state store = state
 stateBy Build n state store = state
 stateBy Sizes n state store = state
+stateBy Worst n state store = state
 stateBy Nothing n state store = state
 stateBy Unreadable n state store = state
 
@@ -56,6 +60,7 @@ storeBy Read n bits state store = store
 storeBy Streams n bits state store = store
 storeBy Build n bits state store = store
 storeBy Sizes n bits state store = store
+storeBy Worst n bits state store = store
 storeBy Nothing n bits state store = store
 storeBy Unreadable n bits state store = store
 

@@ -50,6 +50,10 @@ pub fn replay_line(state: State, line: &[u8], store: &mut [u8], out: &mut [u8]) 
             state,
             answers::put_sizes(segmentation::sizes_for(n[0]), out),
         ),
+        Verb::Worst => unchanged(
+            state,
+            answers::put_worst(planning::worst_for(n[0], n[1], n[2]), out),
+        ),
         Verb::Nothing => unchanged(state, 0),
         Verb::Unreadable => unchanged(state, answers::put_refusal(UNREADABLE, out)),
     }

@@ -8,6 +8,7 @@ use Rattle.requests.specs.declared.Request.{Request}
 use Rattle.requests.specs.Verbs.{formOf}
 use Rattle.requests.proofs.Asked.{asked, terminal-fits}
 use Rattle.answers.specs.SizesRow.{sizesRow}
+use Rattle.answers.specs.WorstRow.{worstRow}
 use Rattle.yard.specs.Step.{rowBy, stateBy, storeBy}
 use Rattle.yard.proofs.Steps.{end-nothing, put-nothing, received-state, by-outcome, by-row}
 use borrow.Author.Needs.{needs}
@@ -163,17 +164,38 @@ unchanged-requires-4 c κs = search needs
 enum-told-9 : tie.Need-enum-told-9
 enum-told-9 c = search needs
 
+array-read-worst-for : tie.Need-array-read-worst-for
+array-read-worst-for c = search needs
+
+array-read-worst-for-2 : tie.Need-array-read-worst-for-2
+array-read-worst-for-2 c = search needs
+
+array-read-worst-for-3 : tie.Need-array-read-worst-for-3
+array-read-worst-for-3 c = search needs
+
+worst-for-requires : tie.Need-worst-for-requires
+worst-for-requires c κs = search needs
+
+put-worst-requires : tie.Need-put-worst-requires
+put-worst-requires c κs = search needs
+
 unchanged-requires-5 : tie.Need-unchanged-requires-5
 unchanged-requires-5 c κs = search needs
 
 enum-told-10 : tie.Need-enum-told-10
 enum-told-10 c = search needs
 
+unchanged-requires-6 : tie.Need-unchanged-requires-6
+unchanged-requires-6 c κs = search needs
+
+enum-told-11 : tie.Need-enum-told-11
+enum-told-11 c = search needs
+
 put-refusal-requires : tie.Need-put-refusal-requires
 put-refusal-requires c κs = search needs
 
-unchanged-requires-6 : tie.Need-unchanged-requires-6
-unchanged-requires-6 c κs = search needs
+unchanged-requires-7 : tie.Need-unchanged-requires-7
+unchanged-requires-7 c κs = search needs
 
 same-length : tie.Need-same-length
 same-length c = search needs
@@ -267,22 +289,32 @@ returns-8 c =
     by-row (args .state) (now (args .store)) (now (args .line)) (now (args .out)) (c .before .before .before .before .before .before .before .before .before .read-request .result) verb.Sizes (c .before .before .before .before .before .before .before .before .before .read-request .ensures) (c .before .before .before .before .before .before .enum-told8 .given .1)
     _ _ _ _ (c .unchanged4 .ensures) (c .before .before .before .put-sizes .ensures) refl (ap sizesRow (c .before .before .before .before .before .sizes-for .ensures)) refl
 
+same-length-13 : tie.Need-same-length-13
+same-length-13 c = search needs
+
 returns-9 : tie.Need-returns-9
 unfolding stateBy rowBy storeBy
 returns-9 c =
-    let args = c .before .before .before .before .before .before .before .before .args in
-    by-row (args .state) (now (args .store)) (now (args .line)) (now (args .out)) (c .before .before .before .before .read-request .result) verb.Nothing (c .before .before .before .before .read-request .ensures) (c .before .enum-told9 .given .1)
-    _ _ _ _ (c .unchanged5 .ensures) (end-nothing (now (args .out)), put-nothing (now (args .out))) refl refl refl
-
-same-length-13 : tie.Need-same-length-13
-same-length-13 c = search needs
+    let args = c .before .before .before .before .before .before .before .before .before .before .before .before .before .args in
+    by-row (args .state) (now (args .store)) (now (args .line)) (now (args .out)) (c .before .before .before .before .before .before .before .before .before .read-request .result) verb.Worst (c .before .before .before .before .before .before .before .before .before .read-request .ensures) (c .before .before .before .before .before .before .enum-told9 .given .1)
+    _ _ _ _ (c .unchanged5 .ensures) (c .before .before .before .put-worst .ensures) refl (ap worstRow (c .before .before .before .before .before .worst-for .ensures)) refl
 
 returns-10 : tie.Need-returns-10
 unfolding stateBy rowBy storeBy
 returns-10 c =
+    let args = c .before .before .before .before .before .before .before .before .args in
+    by-row (args .state) (now (args .store)) (now (args .line)) (now (args .out)) (c .before .before .before .before .read-request .result) verb.Nothing (c .before .before .before .before .read-request .ensures) (c .before .enum-told10 .given .1)
+    _ _ _ _ (c .unchanged6 .ensures) (end-nothing (now (args .out)), put-nothing (now (args .out))) refl refl refl
+
+same-length-14 : tie.Need-same-length-14
+same-length-14 c = search needs
+
+returns-11 : tie.Need-returns-11
+unfolding stateBy rowBy storeBy
+returns-11 c =
     let args = c .before .before .before .before .before .before .before .before .before .before .before .before .args in
-    by-row (args .state) (now (args .store)) (now (args .line)) (now (args .out)) (c .before .before .before .before .before .before .before .before .read-request .result) verb.Unreadable (c .before .before .before .before .before .before .before .before .read-request .ensures) (c .before .before .before .before .before .enum-told10 .given .1)
-    _ _ _ _ (c .unchanged6 .ensures) (c .before .before .before .put-refusal .ensures) refl refl refl
+    by-row (args .state) (now (args .store)) (now (args .line)) (now (args .out)) (c .before .before .before .before .before .before .before .before .read-request .result) verb.Unreadable (c .before .before .before .before .before .before .before .before .read-request .ensures) (c .before .before .before .before .before .enum-told11 .given .1)
+    _ _ _ _ (c .unchanged7 .ensures) (c .before .before .before .put-refusal .ensures) refl refl refl
 
 pub replay-line-spec : {M : Type 1} → statement M
 replay-line-spec =
@@ -332,10 +364,17 @@ replay-line-spec =
     put-sizes-requires
     unchanged-requires-4
     enum-told-9
+    array-read-worst-for
+    array-read-worst-for-2
+    array-read-worst-for-3
+    worst-for-requires
+    put-worst-requires
     unchanged-requires-5
     enum-told-10
-    put-refusal-requires
     unchanged-requires-6
+    enum-told-11
+    put-refusal-requires
+    unchanged-requires-7
     same-length
     returns
     same-length-2
@@ -356,6 +395,8 @@ replay-line-spec =
     returns-7
     same-length-12
     returns-8
-    returns-9
     same-length-13
-    returns-10)
+    returns-9
+    returns-10
+    same-length-14
+    returns-11)

@@ -56,11 +56,17 @@ form-requires-8 c κs = search needs
 enum-told-9 : tie.Need-enum-told-9
 enum-told-9 c = search needs
 
-no-form-requires : tie.Need-no-form-requires
-no-form-requires c κs = search needs
+form-requires-9 : tie.Need-form-requires-9
+form-requires-9 c κs = search needs
 
 enum-told-10 : tie.Need-enum-told-10
 enum-told-10 c = search needs
+
+no-form-requires : tie.Need-no-form-requires
+no-form-requires c κs = search needs
+
+enum-told-11 : tie.Need-enum-told-11
+enum-told-11 c = search needs
 
 no-form-requires-2 : tie.Need-no-form-requires-2
 no-form-requires-2 c κs = search needs
@@ -105,6 +111,10 @@ returns-10 : tie.Need-returns-10
 unfolding formOf
 returns-10 c = cc
 
+returns-11 : tie.Need-returns-11
+unfolding formOf
+returns-11 c = cc
+
 pub form-of-spec : {M : Type 1} → statement M
 form-of-spec =
     tie.close
@@ -126,8 +136,10 @@ form-of-spec =
     enum-told-8
     form-requires-8
     enum-told-9
-    no-form-requires
+    form-requires-9
     enum-told-10
+    no-form-requires
+    enum-told-11
     no-form-requires-2
     returns
     returns-2
@@ -138,4 +150,5 @@ form-of-spec =
     returns-7
     returns-8
     returns-9
-    returns-10)
+    returns-10
+    returns-11)

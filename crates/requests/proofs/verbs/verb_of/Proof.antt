@@ -53,18 +53,25 @@ slice-aggregate-named-8 c = search needs
 named-requires-8 : tie.Need-named-requires-8
 named-requires-8 c κs = search needs
 
+slice-aggregate-named-9 : tie.Need-slice-aggregate-named-9
+slice-aggregate-named-9 c = search needs
+
+named-requires-9 : tie.Need-named-requires-9
+named-requires-9 c κs = search needs
+
 returns : tie.Need-returns
 unfolding verbOf
 returns c =
     simp (
-      c .named8 .ensures,
-      c .before .before .named7 .ensures,
-      c .before .before .before .before .named6 .ensures,
-      c .before .before .before .before .before .before .named5 .ensures,
-      c .before .before .before .before .before .before .before .before .named4 .ensures,
-      c .before .before .before .before .before .before .before .before .before .before .named3 .ensures,
-      c .before .before .before .before .before .before .before .before .before .before .before .before .named2 .ensures,
-      c .before .before .before .before .before .before .before .before .before .before .before .before .before .before .named .ensures,
+      c .named9 .ensures,
+      c .before .before .named8 .ensures,
+      c .before .before .before .before .named7 .ensures,
+      c .before .before .before .before .before .before .named6 .ensures,
+      c .before .before .before .before .before .before .before .before .named5 .ensures,
+      c .before .before .before .before .before .before .before .before .before .before .named4 .ensures,
+      c .before .before .before .before .before .before .before .before .before .before .before .before .named3 .ensures,
+      c .before .before .before .before .before .before .before .before .before .before .before .before .before .before .named2 .ensures,
+      c .before .before .before .before .before .before .before .before .before .before .before .before .before .before .before .before .named .ensures,
     )
 
 pub verb-of-spec : {M : Type 1} → statement M
@@ -87,4 +94,6 @@ verb-of-spec =
     named-requires-7
     slice-aggregate-named-8
     named-requires-8
+    slice-aggregate-named-9
+    named-requires-9
     returns)
