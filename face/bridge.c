@@ -1,17 +1,20 @@
 /*
- * The bridge: answers requests on standard input with the two calls of zemrukste.h, so that
+ * The bridge: answers requests on standard input with the calls of zemrukste.h, so that
  * a program that cannot be linked with the library can still call it.
  *
  * Numbers are lowest byte first. A request is 56 bytes:
  *
- *   byte 0         1 for zemrukste_build, 2 for zemrukste_sizes
- *   byte 1         1: lend a null pointer as block; 2: as output; 3: both (lengths 0 alone)
+ *   byte 0         1 for zemrukste_build, 2 for zemrukste_sizes, 3 for zemrukste_build_two
+ *   byte 1         what is lent as a null pointer, added (lengths 0 alone): 1 the block or the
+ *                  header, 2 the output, 4 the payload
  *   byte 2         the fill: what every byte of the output and its guards is before the call
- *   bytes 3 - 7    0
+ *   byte 3         0
+ *   bytes 4 - 7    header_len, at most block_len, for zemrukste_build_two, else 0
  *   bytes 8 - 55   six numbers of 8 bytes: block_len (or a), q, n, version, g, out_len
  *
- * and for zemrukste_build the block_len bytes of the block behind it. zemrukste_sizes does
- * not look at q, n, version and g. The answer is 8 bytes:
+ * and for a build the block_len bytes of the block behind it; for zemrukste_build_two these are
+ * the header and then the payload, which are lent far apart. zemrukste_sizes does not look at
+ * q, n, version and g. The answer is 8 bytes:
  *
  *   bytes 0 - 3    the number the call gave back
  *   byte 4         1 if the block is the same after the call as before, else 0
@@ -41,13 +44,16 @@ enum {
     OUTPUT_MAX = 262144,
     BUILD = 1,
     SIZES = 2,
+    BUILD_TWO = 3,
     NULL_BLOCK = 1,
-    NULL_OUTPUT = 2
+    NULL_OUTPUT = 2,
+    NULL_PAYLOAD = 4
 };
 
 static uint8_t request[REQUEST_LEN];
 static uint8_t block[BLOCK_MAX];
 static uint8_t block_before[BLOCK_MAX];
+static uint8_t header[BLOCK_MAX];
 static uint8_t answer[ANSWER_LEN + GUARD_LEN + OUTPUT_MAX + GUARD_LEN];
 
 /* Reads count bytes. Gives how many there were: fewer only at the end of the input. */
@@ -85,6 +91,15 @@ static uint64_t number(int place)
     return value;
 }
 
+/* The header's length, bytes 4 to 7 of the request. */
+static size_t header_length(void)
+{
+    size_t value = 0;
+    for (int byte = 7; byte >= 4; byte--)
+        value = value << 8 | request[byte];
+    return value;
+}
+
 static void copy(uint8_t *to, const uint8_t *from, size_t count)
 {
     for (size_t at = 0; at < count; at++)
@@ -110,30 +125,42 @@ static int serve(void)
 {
     uint8_t kind = request[0], nulls = request[1];
     uint64_t length = number(0), out_len = number(5);
-    size_t block_len = kind == BUILD ? (size_t)length : 0;
+    int builds = kind == BUILD || kind == BUILD_TWO;
+    size_t block_len = builds ? (size_t)length : 0;
+    size_t header_len = header_length();
+    size_t first_len = kind == BUILD_TWO ? header_len : block_len;
     uint8_t *out = answer + ANSWER_LEN + GUARD_LEN;
     size_t whole = GUARD_LEN + (size_t)out_len + GUARD_LEN;
     uint8_t *lent_out = nulls & NULL_OUTPUT ? NULL : out;
     uint32_t given;
 
-    if ((kind != BUILD && kind != SIZES) || (kind == BUILD && length > BLOCK_MAX) || out_len > OUTPUT_MAX)
+    if ((!builds && kind != SIZES) || (builds && length > BLOCK_MAX) || out_len > OUTPUT_MAX)
         return 0;
-    if (((nulls & NULL_BLOCK) && block_len > 0) || ((nulls & NULL_OUTPUT) && out_len > 0))
+    if (header_len > (kind == BUILD_TWO ? block_len : 0))
+        return 0;
+    if (((nulls & NULL_BLOCK) && first_len > 0) || ((nulls & NULL_OUTPUT) && out_len > 0)
+        || ((nulls & NULL_PAYLOAD) && header_len < block_len))
         return 0;
     if (read_all(block, block_len) < block_len)
         return 0;
     copy(block_before, block, block_len);
+    copy(header, block, header_len);
     fill(answer, 0, ANSWER_LEN);
     fill(answer + ANSWER_LEN, request[2], whole);
     if (kind == BUILD)
         given = zemrukste_build(nulls & NULL_BLOCK ? NULL : block, block_len, (size_t)number(1),
                                 (size_t)number(2), (size_t)number(3), (size_t)number(4), lent_out,
                                 (size_t)out_len);
+    else if (kind == BUILD_TWO)
+        given = zemrukste_build_two(nulls & NULL_BLOCK ? NULL : header, header_len,
+                                    nulls & NULL_PAYLOAD ? NULL : block + header_len,
+                                    block_len - header_len, (size_t)number(1), (size_t)number(2),
+                                    (size_t)number(3), (size_t)number(4), lent_out, (size_t)out_len);
     else
         given = zemrukste_sizes((size_t)length, lent_out, (size_t)out_len);
     for (int byte = 0; byte < 4; byte++)
         answer[byte] = (uint8_t)(given >> 8 * byte);
-    answer[4] = same(block, block_before, block_len);
+    answer[4] = same(block, block_before, block_len) & same(header, block_before, header_len);
     return write_all(answer, ANSWER_LEN + whole);
 }
 

@@ -1,4 +1,5 @@
-/* What the cell's scheduler does: asks for the sizes of a block, builds its codeword, and meets a refusal.
+/* What the cell's scheduler does: asks for the sizes of a block, builds its codeword, also from two
+ * buffers, and meets a refusal.
  * It prints what it got. Only write(2) of the C library is used, so that the program needs no C headers but the compiler's own. */
 #include "zemrukste.h"
 
@@ -31,9 +32,11 @@ static uint32_t number_at(const uint8_t *bytes)
 int main(void)
 {
     static const uint8_t block[1] = {1};
+    static const uint8_t header[3] = {1, 0, 1}, payload[5] = {1, 1, 0, 0, 1}, joined[8] = {1, 0, 1, 1, 1, 0, 0, 1};
     static const char *const names[6] = {"blocks", "longs", "long", "shorts", "short", "filler"};
     uint8_t sizes[24];
     uint8_t out[25] = {0};
+    uint8_t again[24] = {0};
     char text[24];
     uint32_t number;
     size_t i;
@@ -58,7 +61,20 @@ int main(void)
     write(1, text, sizeof text);
     put(out[24] == 7 ? "\n" : " and a byte past G was written\n");
 
-    put("the same with version 4: refused with ");
+    put("codeword of 101 and 11001 in two buffers, the rest as before: ");
+    if (zemrukste_build_two(header, sizeof header, payload, sizeof payload, 2, 1, 0, 24, out, sizeof out) != 0)
+        return 1;
+    for (i = 0; i < 24; i++)
+        text[i] = (char)('0' + out[i]);
+    write(1, text, sizeof text);
+    put("\n");
+    if (zemrukste_build(joined, sizeof joined, 2, 1, 0, 24, again, sizeof again) != 0)
+        return 1;
+    for (i = 0; i < 24 && out[i] == again[i]; i++)
+        ;
+    put(i == 24 ? "which is that of 10111001 in one\n" : "which is not that of 10111001 in one\n");
+
+    put("the block 1 with version 4: refused with ");
     number = zemrukste_build(block, sizeof block, 2, 1, 4, 24, out, sizeof out);
     put_number(number);
     put("\n");

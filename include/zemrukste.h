@@ -1,7 +1,7 @@
 /*
  * Zemrukste: coding of the uplink shared channel (3GPP TS 36.212 V11.5.1, UL-SCH data).
  *
- * Two calls for the cell's scheduler. Both work on numbers and byte slices alone:
+ * Three calls for the cell's scheduler. They work on numbers and byte slices alone:
  *
  * - A bit is one byte, 0 or 1.
  * - A slice is a pointer and its length in bytes. A length of 0 may come with a null
@@ -39,8 +39,8 @@ extern "C" {
 #define ZEMRUKSTE_OK 0
 /* The block's length A is not 1 to 30,576: choose a transport block size in that range. */
 #define ZEMRUKSTE_BAD_LENGTH 1
-/* A byte of the block is neither 0 nor 1: the caller's bits are damaged or packed; unpack
-   them to one bit a byte, first bit first. */
+/* A byte of the block, in either of its slices, is neither 0 nor 1: the caller's bits are
+   damaged or packed; unpack them to one bit a byte, first bit first. */
 #define ZEMRUKSTE_BAD_BIT 2
 /* q, n or g does not fit: q is 2, 4 or 6; n is 1 to 4; g is at most 172,800, a multiple of
    n * q, and at least n * q for every code block (C of zemrukste_sizes). Correct the
@@ -48,8 +48,8 @@ extern "C" {
 #define ZEMRUKSTE_BAD_ALLOCATION 3
 /* The redundancy version is above 3: give 0, 1, 2 or 3. */
 #define ZEMRUKSTE_BAD_VERSION 4
-/* The output is too short: lend at least g bytes (zemrukste_build), at least 24 bytes
-   (zemrukste_sizes). */
+/* The output is too short: lend at least g bytes (zemrukste_build, zemrukste_build_two), at
+   least 24 bytes (zemrukste_sizes). */
 #define ZEMRUKSTE_SHORT_OUTPUT 5
 
 /*
@@ -69,6 +69,22 @@ extern "C" {
  */
 uint32_t zemrukste_build(const uint8_t *block, size_t block_len, size_t q, size_t n,
                          size_t version, size_t g, uint8_t *out, size_t out_len);
+
+/*
+ * The codeword of one transport block that lies in two slices, for a caller that keeps its
+ * header apart from its payload: the same as zemrukste_build of the header's bits followed
+ * by the payload's. No joined copy of the block is made.
+ *
+ *   header, header_len     the first bits of the block; may be empty
+ *   payload, payload_len   the others; may be empty
+ *
+ * A is header_len + payload_len, 1 to 30,576. The other arguments, the output and the
+ * refusals in their order are those of zemrukste_build: 1, 3, 4, 5, 2. 2 is a byte above 1
+ * in either slice. With an empty payload the call is zemrukste_build of the header.
+ */
+uint32_t zemrukste_build_two(const uint8_t *header, size_t header_len, const uint8_t *payload,
+                             size_t payload_len, size_t q, size_t n, size_t version, size_t g,
+                             uint8_t *out, size_t out_len);
 
 /*
  * How a block of a bits is cut into code blocks.

@@ -1,4 +1,4 @@
-//! Build, Receive and Read timed: the proved library beside the fast and the literal
+//! Build, of one slice and of two, Receive and Read timed: the proved library beside the fast and the literal
 //! program, all three linked into one process and called by turns. Feature `linked` alone,
 //! since the library must be linked too: `scripts/bench` does both.
 //!
@@ -41,6 +41,19 @@ mod library {
             out_len: usize,
         ) -> u32;
 
+        pub fn zemrukste_build_two(
+            header: *const u8,
+            header_len: usize,
+            payload: *const u8,
+            payload_len: usize,
+            q: usize,
+            n: usize,
+            version: usize,
+            g: usize,
+            out: *mut u8,
+            out_len: usize,
+        ) -> u32;
+
         /// The exports of crates/heard: one slot, open for terminal 0.
         pub fn heard_receive(
             m: usize,
@@ -70,16 +83,18 @@ mod library {
 #[derive(Clone, Copy)]
 pub enum Timed {
     Build,
+    BuildTwo,
     Receive,
     Read,
 }
 
-pub const ALL: [Timed; 3] = [Timed::Build, Timed::Receive, Timed::Read];
+pub const ALL: [Timed; 4] = [Timed::Build, Timed::BuildTwo, Timed::Receive, Timed::Read];
 
 impl Timed {
     pub fn name(self) -> &'static str {
         match self {
             Timed::Build => "build",
+            Timed::BuildTwo => "build-two",
             Timed::Receive => "receive",
             Timed::Read => "read",
         }
@@ -92,7 +107,7 @@ impl Timed {
         let least = |a| Row { a, g: N * Q * Segmentation::of(a + 24).blocks };
         let most = |a| Row { a, g: codeword::G_MAX };
         let rows = |a| match self {
-            Timed::Build => vec![least(a), mother_code(a), most(a)],
+            Timed::Build | Timed::BuildTwo => vec![least(a), mother_code(a), most(a)],
             Timed::Receive => vec![mother_code(a), most(a)],
             Timed::Read => vec![mother_code(a)],
         };
@@ -107,6 +122,7 @@ impl Timed {
         bits.truncate(row.g);
         Ok(match self {
             Timed::Build => build_runners(block, row.g),
+            Timed::BuildTwo => build_two_runners(block, row.g),
             Timed::Receive => receive_runners(row.a, bits),
             Timed::Read => read_runners(row.a, bits),
         })
@@ -179,6 +195,48 @@ fn build_runners(block: Vec<u8>, g: usize) -> [Runner; 3] {
         }),
         Runner::of(codeword::G_MAX, move |out| number(workspace.build_into(black_box(&fast), Q, N, VERSION, g, out))),
         Runner::of(codeword::G_MAX, move |out| number(codeword::build_into(black_box(&literal), Q, N, VERSION, g, out))),
+    ]
+}
+
+/// The first third of the block is the header. The fast program joins the two in a buffer that
+/// it keeps.
+fn build_two_runners(block: Vec<u8>, g: usize) -> [Runner; 3] {
+    let mut workspace = fast::Workspace::default();
+    let mut joined = Vec::with_capacity(block.len());
+    let parts = block.split_at(block.len() / 3);
+    let [rattle, fast, literal] = [parts; 3].map(|(header, payload)| (header.to_vec(), payload.to_vec()));
+    let number = |answer: Result<(), u8>| (answer.map_or_else(u32::from, |()| 0), 0);
+    [
+        Runner::of(codeword::G_MAX, move |out| {
+            let (header, payload) = black_box(&rattle);
+            // Slices of Rust, as above.
+            let number = unsafe {
+                library::zemrukste_build_two(
+                    header.as_ptr(),
+                    header.len(),
+                    payload.as_ptr(),
+                    payload.len(),
+                    Q,
+                    N,
+                    VERSION,
+                    g,
+                    out.as_mut_ptr(),
+                    out.len(),
+                )
+            };
+            (number, 0)
+        }),
+        Runner::of(codeword::G_MAX, move |out| {
+            let (header, payload) = black_box(&fast);
+            joined.clear();
+            joined.extend_from_slice(header);
+            joined.extend_from_slice(payload);
+            number(workspace.build_into(&joined, Q, N, VERSION, g, out))
+        }),
+        Runner::of(codeword::G_MAX, move |out| {
+            let (header, payload) = black_box(&literal);
+            number(codeword::build_two_into(header, payload, Q, N, VERSION, g, out))
+        }),
     ]
 }
 

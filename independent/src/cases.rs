@@ -17,11 +17,14 @@ pub struct Case {
     pub fill: u8,
     pub null_block: bool,
     pub null_output: bool,
+    pub null_payload: bool,
 }
 
 #[derive(Clone, Debug)]
 pub enum Asked {
     Build(Build),
+    /// The block in two slices, cut behind so many bits.
+    BuildTwo(Build, usize),
     Sizes(usize),
 }
 
@@ -63,7 +66,7 @@ impl Block {
 }
 
 /// The least and the largest A of each number of code blocks.
-const BLOCKS: [(usize, usize); 5] =
+pub(crate) const BLOCKS: [(usize, usize); 5] =
     [(1, 6_120), (6_121, 12_216), (12_217, 18_336), (18_337, 24_456), (24_457, A_MAX)];
 
 const QS: [usize; 3] = [2, 4, 6];
@@ -84,6 +87,7 @@ pub fn all(seed: u64, random: usize) -> Vec<Case> {
     maker.single_faults();
     maker.several_faults();
     maker.random_builds(random);
+    maker.two_slices();
     maker.cases
 }
 
@@ -97,8 +101,9 @@ fn blocks_of(a: usize) -> usize {
     segmentation_of(a).expect("A is in range").blocks
 }
 
-struct Maker {
-    random: Generator,
+/// Makes the cases one after another; those of two slices are in `cases_two`.
+pub(crate) struct Maker {
+    pub(crate) random: Generator,
     cases: Vec<Case>,
 }
 
@@ -220,7 +225,7 @@ impl Maker {
         self.between(from, to)
     }
 
-    fn some_codeword(&mut self, a: usize, symbol: usize) -> usize {
+    pub(crate) fn some_codeword(&mut self, a: usize, symbol: usize) -> usize {
         let (blocks, whole, most) = (blocks_of(a), turn(a) / symbol, G_MAX / symbol);
         let (from, to) = match self.random.below(8) {
             0 => (blocks, blocks + 20),
@@ -349,11 +354,11 @@ impl Maker {
 
     // Helps.
 
-    fn between(&mut self, from: usize, to: usize) -> usize {
+    pub(crate) fn between(&mut self, from: usize, to: usize) -> usize {
         from + self.random.below(to - from + 1)
     }
 
-    fn allocation(&mut self) -> (usize, usize) {
+    pub(crate) fn allocation(&mut self) -> (usize, usize) {
         (self.random.choose(&QS), self.random.choose(&NS))
     }
 
@@ -363,7 +368,7 @@ impl Maker {
     }
 
     /// A build on a random block, now and then on one of zeros or of ones.
-    fn build(
+    pub(crate) fn build(
         &mut self,
         group: &'static str,
         length: usize,
@@ -382,16 +387,17 @@ impl Maker {
 
     fn push(&mut self, group: &'static str, asked: Asked, output_length: usize) {
         let fill = self.between(2, 255) as u8;
-        self.cases.push(Case { group, asked, output_length, fill, null_block: false, null_output: false });
+        let [null_block, null_output, null_payload] = [false; 3];
+        self.cases.push(Case { group, asked, output_length, fill, null_block, null_output, null_payload });
     }
 
-    fn last(&mut self) -> &mut Case {
+    pub(crate) fn last(&mut self) -> &mut Case {
         self.cases.last_mut().expect("a case has been pushed")
     }
 
     /// Puts a byte into the block of the last case.
-    fn damage(&mut self, place: usize, byte: u8) {
-        if let Asked::Build(build) = &mut self.last().asked {
+    pub(crate) fn damage(&mut self, place: usize, byte: u8) {
+        if let Asked::Build(build) | Asked::BuildTwo(build, _) = &mut self.last().asked {
             build.block.damage = Some((place, byte));
         }
     }

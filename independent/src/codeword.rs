@@ -110,3 +110,17 @@ pub fn build_into(
     output[..g].copy_from_slice(&build(block, q, n, version, g)?);
     Ok(())
 }
+
+/// Build of a block that lies in two slices (02, E9): A is their total, and the codeword is
+/// that of their bits one after another.
+pub fn build_two_into(
+    header: &[u8],
+    payload: &[u8],
+    q: usize,
+    n: usize,
+    version: usize,
+    g: usize,
+    output: &mut [u8],
+) -> Result<(), u8> {
+    build_into(&[header, payload].concat(), q, n, version, g, output)
+}

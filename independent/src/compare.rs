@@ -99,6 +99,9 @@ fn request(case: &Case) -> Request {
         Asked::Build(Build { block, q, n, version, g }) => {
             Call::Build { block: block.bytes(), q: *q, n: *n, version: *version, g: *g }
         }
+        Asked::BuildTwo(Build { block, q, n, version, g }, cut) => {
+            Call::BuildTwo { block: block.bytes(), cut: *cut, q: *q, n: *n, version: *version, g: *g }
+        }
         Asked::Sizes(a) => Call::Sizes { a: *a },
     };
     Request {
@@ -107,6 +110,7 @@ fn request(case: &Case) -> Request {
         fill: case.fill,
         null_block: case.null_block,
         null_output: case.null_output,
+        null_payload: case.null_payload,
     }
 }
 
@@ -117,6 +121,11 @@ pub fn expected(case: &Case) -> Answer {
     let answer = match &case.asked {
         Asked::Build(Build { block, q, n, version, g }) => {
             codeword::build_into(&block.bytes(), *q, *n, *version, *g, lent)
+        }
+        Asked::BuildTwo(Build { block, q, n, version, g }, cut) => {
+            let bytes = block.bytes();
+            let (header, payload) = bytes.split_at(*cut);
+            codeword::build_two_into(header, payload, *q, *n, *version, *g, lent)
         }
         Asked::Sizes(a) => sizes_into(*a, lent),
     };
@@ -188,7 +197,8 @@ impl Report<'_> {
 
     /// How to see what this program gives, if it gives a codeword.
     fn stage(&self, case: &Case, number: u32) {
-        if let (Asked::Build(Build { block, q, n, version, g }), 0) = (&case.asked, number) {
+        if let (Asked::Build(build) | Asked::BuildTwo(build, _), 0) = (&case.asked, number) {
+            let Build { block, q, n, version, g } = build;
             let bits = bits_argument(block);
             println!("this program's: independent stage codeword {bits} {q} {n} {version} {g}");
         }
@@ -224,15 +234,20 @@ fn description(case: &Case) -> String {
     };
     match &case.asked {
         Asked::Sizes(a) => format!("Sizes: A = {a}, {lent}"),
-        Asked::Build(Build { block, q, n, version, g }) => {
+        Asked::Build(build) | Asked::BuildTwo(build, _) => {
+            let Build { block, q, n, version, g } = build;
             let content = match block.content {
-                _ if case.null_block => "null".to_string(),
+                _ if case.null_block && block.length == 0 => "null".to_string(),
                 Content::Random(seed) => format!("xorshift64* bits of seed {seed}"),
                 Content::All(bit) => format!("all {bit}"),
             };
             let damage = block.damage.map_or(String::new(), |(at, byte)| format!(", byte {at} being {byte}"));
             let a = block.length;
-            format!("Build: A = {a} ({content}{damage}), Q = {q}, N = {n}, version = {version}, G = {g}, {lent}")
+            let name = match case.asked {
+                Asked::BuildTwo(_, cut) => format!("Build of two slices, cut behind {cut} bits"),
+                _ => "Build".to_string(),
+            };
+            format!("{name}: A = {a} ({content}{damage}), Q = {q}, N = {n}, version = {version}, G = {g}, {lent}")
         }
     }
 }
@@ -278,7 +293,7 @@ fn place_name(case: &Case, number: u32, at: usize) -> String {
         return format!("{} past the output", at - case.output_length + 1);
     }
     match &case.asked {
-        Asked::Build(build) if number == 0 && at < build.g => {
+        Asked::Build(build) | Asked::BuildTwo(build, _) if number == 0 && at < build.g => {
             let s = codeword::segmentation_of(build.block.length).expect("the build was accepted");
             let mut from = at;
             for (r, share) in rate::shares(build.g, build.n * build.q, s.blocks).into_iter().enumerate() {

@@ -25,6 +25,7 @@ pub mod fast; // Build for speed
 pub mod fast_slots; // Receive and Read for speed
 pub mod protocol; // how a bridge to another program is asked and answers
 pub mod cases; // what it is asked
+mod cases_two; // and of a block in two slices
 pub mod compare; // asks it and compares
 pub mod stub; // a bridge to this program, sound or with a planted fault
 pub mod replay; // the calls of 01 as lines with answers

@@ -1,9 +1,10 @@
 //! The binary form in which a bridge is asked and answers, the same as at the top of
 //! `face/bridge.c`. Numbers are lowest byte first.
 //!
-//! A request is 56 bytes: its kind (1 Build, 2 Sizes), null pointers (1 block, 2 output),
-//! the fill, five zeros, then block length (or A), Q, N, version, G and output length as 8
-//! bytes each; Build's block comes behind it. An answer is 8 bytes: the number given back
+//! A request is 56 bytes: its kind (1 Build, 2 Sizes, 3 Build of two slices), null pointers
+//! (1 block or header, 2 output, 4 payload), the fill, a zero, the header's length as 4
+//! bytes (0 but for the third kind), then block length (or A), Q, N, version, G and output
+//! length as 8 bytes each; a Build's block comes behind it, of two slices the header first. An answer is 8 bytes: the number given back
 //! as 4, then 1 if the block is unchanged, three zeros; the output comes behind it between
 //! two guards. Before the call every byte of output and guards is the fill.
 
@@ -20,13 +21,17 @@ const REQUEST: usize = 56;
 const ANSWER: usize = 8;
 const BUILD: u8 = 1;
 const SIZES: u8 = 2;
+const BUILD_TWO: u8 = 3;
 const NULL_BLOCK: u8 = 1;
 const NULL_OUTPUT: u8 = 2;
+const NULL_PAYLOAD: u8 = 4;
 
 /// What a bridge is asked to call.
 #[derive(Debug, PartialEq, Eq)]
 pub enum Call {
     Build { block: Vec<u8>, q: usize, n: usize, version: usize, g: usize },
+    /// The header is the first `cut` bytes of the block, the payload the others.
+    BuildTwo { block: Vec<u8>, cut: usize, q: usize, n: usize, version: usize, g: usize },
     Sizes { a: usize },
 }
 
@@ -38,6 +43,7 @@ pub struct Request {
     /// Lent as null pointers, with length 0 alone.
     pub null_block: bool,
     pub null_output: bool,
+    pub null_payload: bool,
 }
 
 #[derive(Debug, PartialEq, Eq)]
@@ -51,12 +57,17 @@ pub struct Answer {
 
 impl Request {
     pub fn write(&self, to: &mut impl Write) -> io::Result<()> {
-        let (kind, block, numbers): (u8, &[u8], [usize; 5]) = match &self.call {
-            Call::Build { block, q, n, version, g } => (BUILD, block, [block.len(), *q, *n, *version, *g]),
-            Call::Sizes { a } => (SIZES, &[], [*a, 0, 0, 0, 0]),
+        let (kind, block, cut, numbers): (u8, &[u8], usize, [usize; 5]) = match &self.call {
+            Call::Build { block, q, n, version, g } => (BUILD, block, 0, [block.len(), *q, *n, *version, *g]),
+            Call::BuildTwo { block, cut, q, n, version, g } => {
+                (BUILD_TWO, block, *cut, [block.len(), *q, *n, *version, *g])
+            }
+            Call::Sizes { a } => (SIZES, &[], 0, [*a, 0, 0, 0, 0]),
         };
-        let nulls = u8::from(self.null_block) * NULL_BLOCK + u8::from(self.null_output) * NULL_OUTPUT;
-        to.write_all(&[kind, nulls, self.fill, 0, 0, 0, 0, 0])?;
+        let lent = [(self.null_block, NULL_BLOCK), (self.null_output, NULL_OUTPUT), (self.null_payload, NULL_PAYLOAD)];
+        let nulls = lent.into_iter().map(|(null, bit)| u8::from(null) * bit).sum();
+        to.write_all(&[kind, nulls, self.fill, 0])?;
+        to.write_all(&(cut as u32).to_le_bytes())?;
         for number in numbers.into_iter().chain([self.output_length]) {
             to.write_all(&(number as u64).to_le_bytes())?;
         }
@@ -73,17 +84,25 @@ impl Request {
         let numbers = head[8..].as_chunks::<8>().0;
         let number = |place: usize| u64::from_le_bytes(numbers[place]) as usize;
         let output_length = limited(number(5), OUTPUT_MAX)?;
+        let mut block = Vec::new();
+        if [BUILD, BUILD_TWO].contains(&head[0]) {
+            block.resize(limited(number(0), BLOCK_MAX)?, 0);
+            from.read_exact(&mut block)?;
+        }
+        let [q, n, version, g] = [1, 2, 3, 4].map(number);
         let call = match head[0] {
-            BUILD => {
-                let mut block = vec![0; limited(number(0), BLOCK_MAX)?];
-                from.read_exact(&mut block)?;
-                Call::Build { block, q: number(1), n: number(2), version: number(3), g: number(4) }
+            BUILD => Call::Build { block, q, n, version, g },
+            BUILD_TWO => {
+                let [.., c0, c1, c2, c3] = *head.first_chunk::<8>().expect("a head is longer");
+                let cut = limited(u32::from_le_bytes([c0, c1, c2, c3]) as usize, block.len())?;
+                Call::BuildTwo { block, cut, q, n, version, g }
             }
             SIZES => Call::Sizes { a: number(0) },
             _ => return Err(ErrorKind::InvalidData.into()),
         };
-        let [null_block, null_output] = [NULL_BLOCK, NULL_OUTPUT].map(|null| head[1] & null != 0);
-        Ok(Some(Request { call, output_length, fill: head[2], null_block, null_output }))
+        let [null_block, null_output, null_payload] =
+            [NULL_BLOCK, NULL_OUTPUT, NULL_PAYLOAD].map(|null| head[1] & null != 0);
+        Ok(Some(Request { call, output_length, fill: head[2], null_block, null_output, null_payload }))
     }
 }
 

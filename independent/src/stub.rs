@@ -31,6 +31,8 @@ pub enum Fault {
     OneSymbolTooMany,
     NoShortSize,
     SizesOrder,
+    SecondFromZero,
+    SlicesExchanged,
     EndsEarly,
     Garbles,
 }
@@ -38,7 +40,7 @@ pub enum Fault {
 use Fault::*;
 
 /// The faults by their names.
-pub const FAULTS: [(&str, Fault); 20] = [
+pub const FAULTS: [(&str, Fault); 22] = [
     ("long-first", LongFirst),                  // long code blocks come first
     ("early-shares", EarlyShares),              // the early code blocks have the larger share
     ("start-at-zero", StartAtZero),             // the walk starts at place 0
@@ -57,6 +59,8 @@ pub const FAULTS: [(&str, Fault); 20] = [
     ("one-symbol-too-many", OneSymbolTooMany),  // G just above 172,800 is refused with 5
     ("no-short-size", NoShortSize),             // K- is 0 wherever there are no short blocks
     ("sizes-order", SizesOrder),                // 5 before 1
+    ("second-from-zero", SecondFromZero),       // CRC24A is that of the second slice alone
+    ("slices-exchanged", SlicesExchanged),      // the payload's bits before the header's
     ("ends-early", EndsEarly),                  // ends after 1,000 answers
     ("garbles", Garbles),                       // answers out of form
 ];
@@ -102,7 +106,14 @@ impl Stub {
         let mut output = vec![request.fill; GUARD + length + GUARD];
         let lent = &mut output[GUARD..GUARD + length];
         let answer = match request.call {
-            Call::Build { block, q, n, version, g } => self.build(&block, q, n, version, g, lent),
+            Call::Build { block, q, n, version, g } => self.build(&block, 0, q, n, version, g, lent),
+            Call::BuildTwo { mut block, cut, q, n, version, g } => {
+                if self.has(SlicesExchanged) {
+                    block.rotate_left(cut);
+                }
+                let unseen = if self.has(SecondFromZero) { cut } else { 0 };
+                self.build(&block, unseen, q, n, version, g, lent)
+            }
             Call::Sizes { a } => self.sizes(a, lent),
         };
         if self.has(WritesBeforeOutput) && answer.is_ok() {
@@ -123,10 +134,12 @@ impl Stub {
         Ok(())
     }
 
-    /// Build for speed, unless a fault is planted.
+    /// Build for speed, unless a fault is planted; the transport check does not see so many
+    /// bits at the front.
     fn build(
         &mut self,
         block: &[u8],
+        unseen: usize,
         q: usize,
         n: usize,
         version: usize,
@@ -153,7 +166,7 @@ impl Stub {
             _ => {}
         }
         sound?;
-        output[..g].copy_from_slice(&chain(fault, &checked, q * n, version, g));
+        output[..g].copy_from_slice(&chain(fault, &checked, unseen, q * n, version, g));
         if fault == WritesPastG && output.len() > g {
             output[g] = 0;
         }
@@ -162,8 +175,8 @@ impl Stub {
 }
 
 /// The literal chain with a fault.
-fn chain(fault: Fault, block: &[u8], symbol: usize, version: usize, g: usize) -> Vec<u8> {
-    let b = crc::attach(block, &crc::CRC24A);
+fn chain(fault: Fault, block: &[u8], unseen: usize, symbol: usize, version: usize, g: usize) -> Vec<u8> {
+    let b = [block, &crc::parity(&block[unseen..], &crc::CRC24A)].concat();
     let mut s = Segmentation::of(b.len());
     if fault == LongFirst {
         s = Segmentation { longs: s.shorts, long: s.short, shorts: s.longs, short: s.long, ..s };

@@ -71,7 +71,7 @@ fn a_bridge_that_is_none() {
 fn builds(cases: &[Case]) -> impl Iterator<Item = (&Case, &Build)> {
     cases.iter().filter_map(|case| match &case.asked {
         Asked::Build(build) => Some((case, build)),
-        Asked::Sizes(_) => None,
+        Asked::BuildTwo(..) | Asked::Sizes(_) => None,
     })
 }
 
@@ -178,7 +178,7 @@ fn every_length_is_asked_of_sizes() {
         .iter()
         .filter_map(|case| match case.asked {
             Asked::Sizes(a) => Some(a),
-            Asked::Build(_) => None,
+            Asked::Build(_) | Asked::BuildTwo(..) => None,
         })
         .collect();
     assert!((0..=30_600).chain([usize::MAX, 1 << 32]).all(|a| asked.contains(&a)));
@@ -193,6 +193,7 @@ fn sizes_as_bytes() {
         fill: 9,
         null_block: false,
         null_output: false,
+        null_payload: false,
     };
     let answer = expected(&case(6_121, 26));
     let numbers = answer.output[GUARD..GUARD + 24].chunks(4).map(|four| u32::from_le_bytes(four.try_into().unwrap()));
@@ -206,7 +207,8 @@ fn sizes_as_bytes() {
 #[test]
 fn requests_and_answers_in_bytes() {
     let call = Call::Build { block: vec![1, 0, 1], q: 2, n: 1, version: 3, g: 258 };
-    let request = Request { call, output_length: 300, fill: 7, null_block: false, null_output: false };
+    let [null_block, null_output, null_payload] = [false; 3];
+    let request = Request { call, output_length: 300, fill: 7, null_block, null_output, null_payload };
     let mut bytes = Vec::new();
     request.write(&mut bytes).unwrap();
     let numbers = [3u64, 2, 1, 3, 258, 300].iter().flat_map(|number| number.to_le_bytes());
@@ -216,7 +218,7 @@ fn requests_and_answers_in_bytes() {
     assert!(Request::read(&mut &bytes[..58]).is_err());
     assert_eq!(Request::read(&mut &bytes[..0]).unwrap(), None);
     let call = Call::Sizes { a: 30_577 };
-    let request = Request { call, output_length: 0, fill: 255, null_block: false, null_output: true };
+    let request = Request { call, output_length: 0, fill: 255, null_block, null_output: true, null_payload };
     let mut bytes = Vec::new();
     request.write(&mut bytes).unwrap();
     assert_eq!((bytes.len(), &bytes[..10]), (56, &[2, 2, 255, 0, 0, 0, 0, 0, 0x71, 0x77][..]));

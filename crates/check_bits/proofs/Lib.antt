@@ -4,6 +4,7 @@ pub mod Carried
 pub mod Linear
 pub mod Stride
 pub mod Gathering
+pub mod Few
 pub mod Running
 pub mod Padding
 pub mod Putting

@@ -129,36 +129,34 @@ moved-up s d k e =
     none : s * 2 ^ k % 2 ^ k ≡ 0
     none = rw add-zero at (low s k {lo = 0} (pow-pos k))
 
--- the first k bits of 24 that are those of x
-pub led : {g : ℕ} {t : List ℕ} (bits : List ℕ) (k : ℕ) {s x : ℕ} → IsTable 24 g t → k < 24 → s < 2 ^ 24 → x < 2 ^ 24
-    → (x < 2 ^ 24 → take 24 (drop 0 bits) ≡ bitsOf 24 x)
-    → bitXor (bitAnd (s * 2 ^ k % 2 ^ 32) (2 ^ 24 - 1)) (entries t (bitXor s x / 2 ^ (24 - k))) ≡ crcFrom 24 g s (take k bits)
+-- the k bits of v in one stride
+pub strode : {g : ℕ} {t : List ℕ} (k : ℕ) {s v : ℕ} → IsTable 24 g t → k < 24 → s < 2 ^ 24 → v < 2 ^ k
+    → bitXor (bitAnd (s * 2 ^ k % 2 ^ 32) (2 ^ 24 - 1)) (entries t (bitXor (s / 2 ^ (24 - k)) v)) ≡ crcFrom 24 g s (bitsOf k v)
 unfolding after
-led {g} {t} bits k {s} {x} w few hs hx told =
-    ap₂ _⊕_ (moved-up s (24 - k) k sum) looked-up
-    ∙ sym (short-stride 23 g (24 - k) k refl sum hs (top-of 23 g (24 - k) k refl sum hx))
-    ∙ ap (crcFrom 24 g s) (sym front)
+strode {g} {t} k {s} {v} w few hs hv =
+    ap₂ _⊕_ (moved-up s (24 - k) k sum) (sym (entries-are w (s / 2 ^ (24 - k) ⊕ v) both))
+    ∙ sym (short-stride 23 g (24 - k) k refl sum hs hv)
   where
-    z : ℕ
-    z = bitXor s x / 2 ^ (24 - k)
-
-    v : ℕ
-    v = x / 2 ^ (24 - k)
-
     sum : 24 - k + k ≡ 24
     sum = omega arith
 
-    z-lt : z < 2 ^ 24
-    z-lt = among 23 g (24 - k) k refl sum (top-of 23 g (24 - k) k refl sum (xor-lt 24 s x hs hx))
+    both : s / 2 ^ (24 - k) ⊕ v < 2 ^ 24
+    both = among 23 g (24 - k) k refl sum (xor-lt k (s / 2 ^ (24 - k)) v (top-of 23 g (24 - k) k refl sum hs) hv)
 
-    looked-up : entries t z ≡ crcFrom 24 g (s / 2 ^ (24 - k) ⊕ v) (replicate 24 0)
-    looked-up = sym (entries-are w z z-lt) ∙ ap (after 24 g) (xor-shr s x (24 - k))
+-- the first k of 24 bits that are those of x
+module _ (bits : List ℕ) (k : ℕ) {x : ℕ} (few : k < 24) (small : x < 2 ^ 24) where
+  sum : 24 - k + k ≡ 24
+  sum = omega arith
 
-    front : take k bits ≡ bitsOf k v
-    front =
-        sym (take-take k 24 bits (omega arith))
-        ∙ ap (take k) (told hx ∙ ap (λ (n : ℕ). bitsOf n x) (sym (turned 23 g (24 - k) k refl sum)) ∙ bitsOf-split k (24 - k) x)
-        ∙ take-at (bitsOf k v) (bitsOf (24 - k) x) k (length-bitsOf k v)
+  pub highest-lt : x / 2 ^ (24 - k) < 2 ^ k
+  highest-lt = top-of 23 0 (24 - k) k refl sum small
+
+  pub highest : (x < 2 ^ 24 → take 24 (drop 0 bits) ≡ bitsOf 24 x) → bitsOf k (x / 2 ^ (24 - k)) ≡ take k bits
+  highest told = sym (
+      sym (take-take k 24 bits (omega arith))
+      ∙ ap (take k) (told small ∙ ap (λ (n : ℕ). bitsOf n x) (sym (turned 23 0 (24 - k) k refl sum)) ∙ bitsOf-split k (24 - k) x)
+      ∙ take-at (bitsOf k (x / 2 ^ (24 - k))) (bitsOf (24 - k) x) k (length-bitsOf k (x / 2 ^ (24 - k)))
+      )
 
 -- the bits after those by which the length is over a multiple of 24 go on from the register after these
 pub gone : {g r s : ℕ} (bits : List ℕ) → r < 2 ^ 24 → s ≡ crcFrom 24 g r (take (length bits % 24) bits) → Running 24 24 g r bits s (length bits % 24)

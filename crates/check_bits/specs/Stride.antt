@@ -4,8 +4,8 @@ use mathlib.Core.Path.{_≡_}
 use mathlib.Core.List.{List, [], _∷_}
 use Prim.Native.Nat.{ℕ, _+_, _*_, _/_, _%_, _^_, _<_}
 use lib.Bits.{bitOr}
-use lib.ListN.{getD, replicate}
-use Rattle.laws.specs.Bits.{_⊕_}
+use lib.ListN.{length, getD, replicate}
+use Rattle.laws.specs.Bits.{_⊕_, bitsOf}
 use Rattle.check_bits.specs.CheckBits.{crcFrom}
 
 -- the register s after n zeros
@@ -21,6 +21,11 @@ abbrev pub entries : List ℕ → ℕ → ℕ
 entries t s =
     getD t (s % 16) 0 ⊕ getD t (16 + s / 2 ^ 4 % 16) 0 ⊕ getD t (32 + s / 2 ^ 8 % 16) 0
     ⊕ getD t (48 + s / 2 ^ 12 % 16) 0 ⊕ getD t (64 + s / 2 ^ 16 % 16) 0 ⊕ getD t (80 + s / 2 ^ 20 % 16) 0
+
+-- the bits of a list are those of x, the first highest
+pub record FewBits (bits : List ℕ) (x : ℕ) : Type 0 where
+  pub small : x < 2 ^ length bits
+  pub told : bits ≡ bitsOf (length bits) x
 
 -- the bytes of a list as one number, the first lowest
 unfoldable pub wordOf : List ℕ → ℕ

@@ -6,7 +6,7 @@ ghost use Prim.Native.Nat.{_+_, _%_, _^_, _≤_, _<_};
 ghost use lib.ListN.{length, getD, take, drop};
 ghost use Rattle.laws.specs.Bits.{bitsOf};
 ghost use Rattle.check_bits.specs.CheckBits.{crcFrom, gCRC24A, gCRC24B};
-ghost use Rattle.check_bits.specs.Stride.{IsTable, entries, wordOf, lowest};
+ghost use Rattle.check_bits.specs.Stride.{IsTable, FewBits, entries, wordOf, lowest};
 ghost use Rattle.check_bits.specs.Put.{putCheckBits};
 
 // The transport check goes on with `bits` from an earlier remainder, which is 0 before the first bit. The bits by which the length is over a
@@ -18,10 +18,13 @@ pub fn crc24a(from: u32, bits: &[u8]) -> u32
     if 0xFF_FFFF < from {
         return one_by_one(24, 0x864CFB, from, bits);
     }
-    if bits.len() < 24 {
+    if bits.len() < 8 {
         return one_by_one(24, 0x864CFB, from, bits);
     }
     let near = table::table_a();
+    if bits.len() < 24 {
+        return few_bits(0x864CFB, &near, from, bits);
+    }
     let k = bits.len() % 24;
     let s = leading(0x864CFB, &near, from, k, bits);
     if bits.len() < 48 {
@@ -38,18 +41,20 @@ pub fn crc24b(from: u32, bits: &[u8]) -> u32
     if 0xFF_FFFF < from {
         return one_by_one(24, 0x800063, from, bits);
     }
-    if bits.len() < 24 {
+    if bits.len() < 8 {
         return one_by_one(24, 0x800063, from, bits);
     }
     let near = table::table_b();
+    if bits.len() < 24 {
+        return few_bits(0x800063, &near, from, bits);
+    }
     let k = bits.len() % 24;
     let s = leading(0x800063, &near, from, k, bits);
     let far = table::table_b_48();
     strides(0x800063, &near, &far, s, &bits[k..])
 }
 
-// The register after the first `k` bits, from the register `from` on, in one stride: its highest `k` bits and the data bits go through the
-// table together, and its other bits only move up.
+// The register after the first `k` bits, from the register `from` on: they are the highest of 24 gathered bits.
 fn leading(generator: u32, near: &[u32; 96], from: u32, k: usize, bits: &[u8]) -> u32
     requires { ⌜ IsTable 24 generator (now near) ⌝ }
     requires { ⌜ (k < 24) × (24 ≤ length (now bits)) × (from < 2 ^ 24) ⌝ }
@@ -59,7 +64,30 @@ fn leading(generator: u32, near: &[u32; 96], from: u32, k: usize, bits: &[u8]) -
     if 0xFF_FFFF < x {
         return one_by_one(24, generator, from, &bits[..k]);
     }
-    ((from << k) & 0xFF_FFFF) ^ passed(near, (from ^ x) >> (24 - k))
+    short_stride(generator, near, from, k, x >> (24 - k))
+}
+
+// The register after fewer than 24 bits, from the register `from` on.
+fn few_bits(generator: u32, near: &[u32; 96], from: u32, bits: &[u8]) -> u32
+    requires { ⌜ IsTable 24 generator (now near) ⌝ }
+    requires { ⌜ (length (now bits) < 24) × (from < 2 ^ 24) ⌝ }
+    ensures { λ r. ⌜ r ≡ crcFrom 24 generator from (now (bits .entry)) ⌝ }
+{
+    let x = gathered_few(bits);
+    if 0xFF_FFFF < x {
+        return one_by_one(24, generator, from, bits);
+    }
+    short_stride(generator, near, from, bits.len(), x)
+}
+
+// The register after the `k` bits of `x`, from the register `from` on, in one stride: its highest `k` bits and the data bits go through the
+// table together, and its other bits only move up.
+fn short_stride(generator: u32, near: &[u32; 96], from: u32, k: usize, x: u32) -> u32
+    requires { ⌜ IsTable 24 generator (now near) ⌝ }
+    requires { ⌜ (k < 24) × (from < 2 ^ 24) × (x < 2 ^ k) ⌝ }
+    ensures { λ r. ⌜ r ≡ crcFrom 24 generator from (bitsOf k x) ⌝ }
+{
+    ((from << k) & 0xFF_FFFF) ^ passed(near, (from >> (24 - k)) ^ x)
 }
 
 // The register after `bits`, from the register `from` on: 48 bits a turn, as long as each byte is 0 or 1. By linearity the register goes on
@@ -139,6 +167,24 @@ fn gathered(bits: &[u8], from: usize) -> u32
         return 0x100_0000;
     }
     (((packed(a) << 8) | packed(b)) << 8) | packed(c)
+}
+
+// Fewer than 24 bits as a number, the first highest; 2 to the 24 where a byte is neither 0 nor 1.
+fn gathered_few(bits: &[u8]) -> u32
+    requires { ⌜ length (now bits) < 24 ⌝ }
+    ensures { λ r. ⌜ (r < 2 ^ 24 → FewBits (now (bits .entry)) r) ⌝ }
+{
+    let mut x: u32 = 0;
+    let mut i = 0;
+    while i < bits.len() {
+        let b = bits[i];
+        if b > 1 {
+            return 0x100_0000;
+        }
+        x = x * 2 + (b as u32);
+        i += 1;
+    }
+    x
 }
 
 // The eight bytes from `from` on as one number, the first lowest. By halves of halves, so that the compiler makes one load of them.

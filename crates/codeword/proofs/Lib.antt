@@ -2,6 +2,7 @@ pub mod Accepted
 pub mod Seen
 pub mod Shares
 pub mod Segmented
+pub mod Joined
 pub mod Numbers
 pub mod Sent
 pub mod Rooms

@@ -1,4 +1,4 @@
-// The call Build of 01.
+// The call Build of 01, for a block in one slice or in two.
 use segmentation::Segments;
 ghost use mathlib.Core.Path.{_≡_};
 ghost use mathlib.Core.List.{_++_};
@@ -11,24 +11,49 @@ ghost use Rattle.codeword.specs.Codeword.{sentBits, codeword};
 ghost use Rattle.codeword.specs.Build.{buildNumber, buildOutput};
 ghost use Rattle.codeword.specs.Sending.{Sending, Spacious, Roomy, Accepted};
 
-// Writes the codeword of `block` over the first `g` bytes of `out`. Answers 0, or the number of the refusal, which writes nothing.
+// Writes the codeword of `block` over the first `g` bytes of `out`. Answers 0, or the number of the refusal, which writes nothing. It is the
+// build of two slices whose second is empty.
 pub fn build(block: &[u8], q: usize, n: usize, version: usize, g: usize, out: &mut [u8]) -> u8
     ensures number { λ r. ⌜ r ≡ buildNumber (now (block .entry)) q n version g (length (now (out .entry))) ⌝ }
     ensures output { λ r. ⌜ now (out .exit) ≡ buildOutput (now (block .entry)) q n version g (now (out .entry)) ⌝ }
 {
-    let number = build_number(block, q, n, version, g, out.len());
+    build_two(block, &block[..0], q, n, version, g, out)
+}
+
+// The same for a block that lies in two slices: its bits are those of `header` and then those of `payload`, either of which may be empty.
+pub fn build_two(
+    header: &[u8],
+    payload: &[u8],
+    q: usize,
+    n: usize,
+    version: usize,
+    g: usize,
+    out: &mut [u8],
+) -> u8
+    ensures number { λ r. ⌜ r ≡ buildNumber (now (header .entry) ++ now (payload .entry)) q n version g (length (now (out .entry))) ⌝ }
+    ensures output { λ r. ⌜ now (out .exit) ≡ buildOutput (now (header .entry) ++ now (payload .entry)) q n version g (now (out .entry)) ⌝ }
+{
+    let number = build_number(header, payload, q, n, version, g, out.len());
     if number != 0 {
         return number;
     }
-    write_codeword(block, q, n, version, &mut out[..g]);
+    write_codeword(header, payload, q, n, version, &mut out[..g]);
     0
 }
 
 // Build's refusals in 01's order.
-fn build_number(block: &[u8], q: usize, n: usize, version: usize, g: usize, room: usize) -> u8
-    ensures { λ r. ⌜ r ≡ buildNumber (now (block .entry)) q n version g room ⌝ }
+fn build_number(
+    header: &[u8],
+    payload: &[u8],
+    q: usize,
+    n: usize,
+    version: usize,
+    g: usize,
+    room: usize,
+) -> u8
+    ensures { λ r. ⌜ r ≡ buildNumber (now (header .entry) ++ now (payload .entry)) q n version g room ⌝ }
 {
-    let s = segmentation::segments_for(block.len());
+    let s = segmentation::segments_for_both(header.len(), payload.len());
     if s.blocks == 0 {
         return 1;
     }
@@ -41,68 +66,129 @@ fn build_number(block: &[u8], q: usize, n: usize, version: usize, g: usize, room
     if room < g {
         return 5;
     }
-    if crate::bad_bits(block) {
+    if crate::bad_bits(header) {
+        return 2;
+    }
+    if crate::bad_bits(payload) {
         return 2;
     }
     0
 }
 
 // The codeword over the whole of `out`. All of a room is cleared when it is made, so the rooms are made once, of a length that goes by K+.
-fn write_codeword(block: &[u8], q: usize, n: usize, version: usize, out: &mut [u8])
-    requires { ⌜ Accepted (now block) q n version (length (now out)) ⌝ }
-    ensures { λ r. ⌜ now (out .exit) ≡ codeword (now (block .entry)) q n version (length (now (out .entry))) ⌝ }
+fn write_codeword(header: &[u8], payload: &[u8], q: usize, n: usize, version: usize, out: &mut [u8])
+    requires { ⌜ Accepted (now header ++ now payload) q n version (length (now out)) ⌝ }
+    ensures { λ r. ⌜ now (out .exit) ≡ codeword (now (header .entry) ++ now (payload .entry)) q n version (length (now (out .entry))) ⌝ }
 {
-    let s = segmentation::segments_for(block.len());
+    let s = segmentation::segments_for_both(header.len(), payload.len());
     if s.long <= 128 {
-        write_short(block, q, n, version, s, out);
+        write_short(header, payload, q, n, version, s, out);
     } else if s.long <= 1024 {
-        write_middle(block, q, n, version, s, out);
+        write_middle(header, payload, q, n, version, s, out);
     } else {
-        write_long(block, q, n, version, s, out);
+        write_long(header, payload, q, n, version, s, out);
     }
 }
 
 // The same with rooms for a K+ of at most 128.
-fn write_short(block: &[u8], q: usize, n: usize, version: usize, s: Segments, out: &mut [u8])
-    requires { ⌜ Accepted (now block) q n version (length (now out)) ⌝ }
-    requires { ⌜ s ≡ segmentsOf (length (now block) + 24) ⌝ }
+fn write_short(
+    header: &[u8],
+    payload: &[u8],
+    q: usize,
+    n: usize,
+    version: usize,
+    s: Segments,
+    out: &mut [u8],
+)
+    requires { ⌜ Accepted (now header ++ now payload) q n version (length (now out)) ⌝ }
+    requires { ⌜ s ≡ segmentsOf (length (now header ++ now payload) + 24) ⌝ }
     requires { ⌜ s .long ≤ 128 ⌝ }
-    ensures { λ r. ⌜ now (out .exit) ≡ codeword (now (block .entry)) q n version (length (now (out .entry))) ⌝ }
+    ensures { λ r. ⌜ now (out .exit) ≡ codeword (now (header .entry) ++ now (payload .entry)) q n version (length (now (out .entry))) ⌝ }
 {
     let mut d0 = [0u8; 132];
     let mut d1 = [0u8; 132];
     let mut d2 = [0u8; 132];
-    write_in(block, q, n, version, s, &mut d0, &mut d1, &mut d2, out);
+    write_in(
+        header,
+        payload,
+        q,
+        n,
+        version,
+        s,
+        &mut d0,
+        &mut d1,
+        &mut d2,
+        out,
+    );
 }
 
 // The same with rooms for a K+ of at most 1,024.
-fn write_middle(block: &[u8], q: usize, n: usize, version: usize, s: Segments, out: &mut [u8])
-    requires { ⌜ Accepted (now block) q n version (length (now out)) ⌝ }
-    requires { ⌜ s ≡ segmentsOf (length (now block) + 24) ⌝ }
+fn write_middle(
+    header: &[u8],
+    payload: &[u8],
+    q: usize,
+    n: usize,
+    version: usize,
+    s: Segments,
+    out: &mut [u8],
+)
+    requires { ⌜ Accepted (now header ++ now payload) q n version (length (now out)) ⌝ }
+    requires { ⌜ s ≡ segmentsOf (length (now header ++ now payload) + 24) ⌝ }
     requires { ⌜ s .long ≤ 1024 ⌝ }
-    ensures { λ r. ⌜ now (out .exit) ≡ codeword (now (block .entry)) q n version (length (now (out .entry))) ⌝ }
+    ensures { λ r. ⌜ now (out .exit) ≡ codeword (now (header .entry) ++ now (payload .entry)) q n version (length (now (out .entry))) ⌝ }
 {
     let mut d0 = [0u8; 1028];
     let mut d1 = [0u8; 1028];
     let mut d2 = [0u8; 1028];
-    write_in(block, q, n, version, s, &mut d0, &mut d1, &mut d2, out);
+    write_in(
+        header,
+        payload,
+        q,
+        n,
+        version,
+        s,
+        &mut d0,
+        &mut d1,
+        &mut d2,
+        out,
+    );
 }
 
 // The same with rooms for every K+.
-fn write_long(block: &[u8], q: usize, n: usize, version: usize, s: Segments, out: &mut [u8])
-    requires { ⌜ Accepted (now block) q n version (length (now out)) ⌝ }
-    requires { ⌜ s ≡ segmentsOf (length (now block) + 24) ⌝ }
-    ensures { λ r. ⌜ now (out .exit) ≡ codeword (now (block .entry)) q n version (length (now (out .entry))) ⌝ }
+fn write_long(
+    header: &[u8],
+    payload: &[u8],
+    q: usize,
+    n: usize,
+    version: usize,
+    s: Segments,
+    out: &mut [u8],
+)
+    requires { ⌜ Accepted (now header ++ now payload) q n version (length (now out)) ⌝ }
+    requires { ⌜ s ≡ segmentsOf (length (now header ++ now payload) + 24) ⌝ }
+    ensures { λ r. ⌜ now (out .exit) ≡ codeword (now (header .entry) ++ now (payload .entry)) q n version (length (now (out .entry))) ⌝ }
 {
     let mut d0 = [0u8; 6148];
     let mut d1 = [0u8; 6148];
     let mut d2 = [0u8; 6148];
-    write_in(block, q, n, version, s, &mut d0, &mut d1, &mut d2, out);
+    write_in(
+        header,
+        payload,
+        q,
+        n,
+        version,
+        s,
+        &mut d0,
+        &mut d1,
+        &mut d2,
+        out,
+    );
 }
 
 // The same in lent rooms: each code block is written straight into its own stretch of the codeword.
 fn write_in(
-    block: &[u8],
+    header: &[u8],
+    payload: &[u8],
     q: usize,
     n: usize,
     version: usize,
@@ -112,19 +198,21 @@ fn write_in(
     d2: &mut [u8],
     out: &mut [u8],
 )
-    requires { ⌜ Accepted (now block) q n version (length (now out)) ⌝ }
-    requires { ⌜ s ≡ segmentsOf (length (now block) + 24) ⌝ }
+    requires { ⌜ Accepted (now header ++ now payload) q n version (length (now out)) ⌝ }
+    requires { ⌜ s ≡ segmentsOf (length (now header ++ now payload) + 24) ⌝ }
     requires { ⌜ Spacious (s .long) (length (now d0)) (length (now d1)) (length (now d2)) ⌝ }
-    ensures { λ r. ⌜ now (out .exit) ≡ codeword (now (block .entry)) q n version (length (now (out .entry))) ⌝ }
+    ensures { λ r. ⌜ now (out .exit) ≡ codeword (now (header .entry) ++ now (payload .entry)) q n version (length (now (out .entry))) ⌝ }
 {
-    let remainder = check_bits::crc24a(0, block);
+    let first = check_bits::crc24a(0, header);
+    let remainder = check_bits::crc24a(first, payload);
     let g = out.len();
     let mut at = 0;
     let mut r = 0;
     while r < s.blocks {
         let end = at + crate::share_of(s.blocks, q, n, g, r);
         send_within(
-            block,
+            header,
+            payload,
             remainder,
             s,
             r,
@@ -141,7 +229,8 @@ fn write_in(
 
 // Code block r, turbo coded and rate matched, over the whole of `stretch`, in the fronts of lent rooms.
 fn send_within(
-    block: &[u8],
+    header: &[u8],
+    payload: &[u8],
     remainder: u32,
     s: Segments,
     r: usize,
@@ -151,13 +240,14 @@ fn send_within(
     d2: &mut [u8],
     stretch: &mut [u8],
 )
-    requires { ⌜ Sending (now block) s r version ⌝ }
-    requires { ⌜ Spacious (sizeOf (length (now block) + 24) r) (length (now d0)) (length (now d1)) (length (now d2)) ⌝ }
-    ensures { λ _. ⌜ now (stretch .exit) ≡ sentBits (now (block .entry) ++ bitsOf 24 remainder) version r (length (now (stretch .entry))) ⌝ }
+    requires { ⌜ Sending (now header ++ now payload) s r version ⌝ }
+    requires { ⌜ Spacious (sizeOf (length (now header ++ now payload) + 24) r) (length (now d0)) (length (now d1)) (length (now d2)) ⌝ }
+    ensures { λ _. ⌜ now (stretch .exit) ≡ sentBits ((now (header .entry) ++ now (payload .entry)) ++ bitsOf 24 remainder) version r (length (now (stretch .entry))) ⌝ }
 {
     let d = segmentation::block::size_of(s, r) + 4;
     send_in(
-        block,
+        header,
+        payload,
         remainder,
         s,
         r,
@@ -171,7 +261,8 @@ fn send_within(
 
 // The same in lent rooms of the right lengths, K + 4 places for each of the three streams. The code block's bits are put where stream 0 has them.
 fn send_in(
-    block: &[u8],
+    header: &[u8],
+    payload: &[u8],
     remainder: u32,
     s: Segments,
     r: usize,
@@ -181,12 +272,12 @@ fn send_in(
     d2: &mut [u8],
     stretch: &mut [u8],
 )
-    requires { ⌜ Sending (now block) s r version ⌝ }
-    requires { ⌜ Roomy (sizeOf (length (now block) + 24) r) (length (now d0)) (length (now d1)) (length (now d2)) ⌝ }
-    ensures { λ _. ⌜ now (stretch .exit) ≡ sentBits (now (block .entry) ++ bitsOf 24 remainder) version r (length (now (stretch .entry))) ⌝ }
+    requires { ⌜ Sending (now header ++ now payload) s r version ⌝ }
+    requires { ⌜ Roomy (sizeOf (length (now header ++ now payload) + 24) r) (length (now d0)) (length (now d1)) (length (now d2)) ⌝ }
+    ensures { λ _. ⌜ now (stretch .exit) ≡ sentBits ((now (header .entry) ++ now (payload .entry)) ++ bitsOf 24 remainder) version r (length (now (stretch .entry))) ⌝ }
 {
     let k = d0.len() - 4;
-    segmentation::block::code_block(block, remainder, r, &mut d0[..k]);
+    segmentation::block::code_block(header, payload, remainder, r, &mut d0[..k]);
     let row = segmentation::block::row_of(s, r);
     let filler = segmentation::block::filler_of(s, r);
     turbo::encode(row, filler, d0, d1, d2);

@@ -8,3 +8,4 @@ pub use allocation::bad_layers;
 pub use allocation::bad_modulation;
 pub use allocation::share_of;
 pub use call::build;
+pub use call::build_two;

@@ -1,4 +1,5 @@
 // The face to C: what include/zemrukste.h declares, thin over the proved libraries.
+ghost use mathlib.Core.List.{_++_};
 ghost use mathlib.Core.Path.{_≡_};
 ghost use Prim.Native.Nat.{_*_};
 ghost use lib.ListN.{length};
@@ -19,6 +20,23 @@ pub extern "C" fn zemrukste_build(
     ensures output { λ r. ⌜ now (out .exit) ≡ buildOutput (now (block .entry)) q n version g (now (out .entry)) ⌝ }
 {
     codeword::build(block, q, n, version, g, out) as u32
+}
+
+// Build of a block that lies in two slices, the header's bits before the payload's.
+#[no_mangle]
+pub extern "C" fn zemrukste_build_two(
+    header: &[u8],
+    payload: &[u8],
+    q: usize,
+    n: usize,
+    version: usize,
+    g: usize,
+    out: &mut [u8],
+) -> u32
+    ensures number { λ r. ⌜ r ≡ buildNumber (now (header .entry) ++ now (payload .entry)) q n version g (length (now (out .entry))) ⌝ }
+    ensures output { λ r. ⌜ now (out .exit) ≡ buildOutput (now (header .entry) ++ now (payload .entry)) q n version g (now (out .entry)) ⌝ }
+{
+    codeword::build_two(header, payload, q, n, version, g, out) as u32
 }
 
 // Sizes: the six numbers as bytes over the front of `out`, or the number of the refusal, which writes nothing.

@@ -183,9 +183,6 @@ module _ {a c : List ℕ} {C r zeros from : ℕ} (p : Pieces a c C r zeros from)
     inner-long : length (midOf from (from + (length c - zeros) - from) a) ≡ length c - zeros
     inner-long = length-mid from (from + (length c - zeros)) a (p .inner h) ∙ add-sub-cancel-left from (length c - zeros)
 
-    pub inner-fits : zeros + length (midOf from (from + (length c - zeros) - from) a) ≤ length c
-    inner-fits = rw inner-long (omega (arith, p .spare))
-
     pub inner-put : (x : ℕ) {put : List ℕ} → put ≡ replicate {A = ℕ} zeros 0 ++ (midOf from (from + (length c - zeros) - from) a
         ++ drop (zeros + length (midOf from (from + (length c - zeros) - from) a)) c) → put ≡ payload (a ++ bitsOf 24 x) r
     inner-put x e = e ∙ ap (λ (l : List ℕ). replicate {A = ℕ} zeros 0 ++ l) piece ∙ sym (p .told x)
@@ -211,11 +208,8 @@ module _ {a c : List ℕ} {C r zeros from : ℕ} (p : Pieces a c C r zeros from)
     last-long : length (midOf from (length a - from) a) ≡ length a - from
     last-long = length-mid from (length a) a (omega arith)
 
-    last-room : zeros + (length a - from) + 24 ≡ length c
+    pub last-room : zeros + (length a - from) + 24 ≡ length c
     last-room = omega (arith, p .last h, p .spare)
-
-    pub last-fits : zeros + length (midOf from (length a - from) a) ≤ length c
-    last-fits = rw last-long (omega (arith, last-room))
 
     pub last-put : (x : ℕ) {put check : List ℕ} → put ≡ replicate {A = ℕ} zeros 0 ++ (midOf from (length a - from) a ++ drop (zeros + length (midOf from (length a - from) a)) c)
         → check ≡ putCheckBits x (midOf (length c - 24) (length put - (length c - 24)) put)

@@ -5,7 +5,7 @@ use mathlib.Core.List.{List, _++_}
 use mathlib.Core.Path.{_≡_}
 use Prim.Native.Nat.{ℕ, _+_, _-_, _≤_, _<_}
 use lib.Dec.{eqb, ltb}
-use lib.ListN.{length}
+use lib.ListN.{length, drop, replicate}
 use Rattle.laws.specs.Bits.{bitsOf}
 use Rattle.segmentation.specs.declared.Segments.{Segments}
 use Rattle.segmentation.specs.Segmentation.{checkLength, blocks, filler, sizeOf}
@@ -23,6 +23,10 @@ codeBlockInto a remainder r c = cond (fitsBlock (length a) r (length c)) (codeBl
 -- where code block r's part of B bits begins, filler left out
 unfoldable pub startOf : ℕ → ℕ → ℕ
 startOf B r = takenBefore B r - filler B
+
+-- c with zeros and a part after them over its front
+abbrev pub filledWith : ℕ → List ℕ → List ℕ → List ℕ
+filledWith zeros part c = replicate {A = ℕ} zeros 0 ++ (part ++ drop (zeros + length part) c)
 
 -- s is the segmentation of a block of A bits, A in range, and r is one of its code blocks
 pub record Segmented (A : ℕ) (s : Segments) (r : ℕ) : Type 0 where

@@ -1,21 +1,21 @@
-// The bits of a code block, taken straight from the transport block.
+// The bits of a code block, taken straight from the transport block, which lies in two slices.
 use crate::Segments;
 ghost use mathlib.Core.Bool.{cond};
 ghost use mathlib.Core.List.{_++_};
 ghost use mathlib.Core.Path.{_≡_};
-ghost use Prim.Native.Nat.{ℕ, _+_, _-_, _≤_};
+ghost use Prim.Native.Nat.{ℕ, min, _+_, _-_, _≤_};
 ghost use lib.Dec.{eqb, ltb};
-ghost use lib.ListN.{length, drop, replicate};
+ghost use lib.ListN.{length, take, drop, replicate};
 ghost use Rattle.laws.specs.Bits.{bitsOf};
 ghost use Rattle.segmentation.specs.CodeBlocks.{payload};
-ghost use Rattle.segmentation.specs.Into.{codeBlockInto, startOf, Segmented, Room};
+ghost use Rattle.segmentation.specs.Into.{codeBlockInto, filledWith, startOf, Segmented, Room};
 
-// Writes code block `r` of the block `a` with the transport check `remainder` over `c`. Writes nothing where the length of `a` is out
-// of range, there is no such code block, or `c` has another length than it.
-pub fn code_block(a: &[u8], remainder: u32, r: usize, c: &mut [u8])
-    ensures { λ _. ⌜ now (c .exit) ≡ codeBlockInto (now (a .entry)) remainder r (now (c .entry)) ⌝ }
+// Writes code block `r` of the block whose bits are those of `first` and then those of `second`, with the transport check `remainder`, over
+// `c`. Writes nothing where the length of the block is out of range, there is no such code block, or `c` has another length than it.
+pub fn code_block(first: &[u8], second: &[u8], remainder: u32, r: usize, c: &mut [u8])
+    ensures { λ _. ⌜ now (c .exit) ≡ codeBlockInto (now (first .entry) ++ now (second .entry)) remainder r (now (c .entry)) ⌝ }
 {
-    let s = crate::segments_for(a.len());
+    let s = crate::segments_for_both(first.len(), second.len());
     if r >= s.blocks {
         return;
     }
@@ -23,36 +23,59 @@ pub fn code_block(a: &[u8], remainder: u32, r: usize, c: &mut [u8])
         return;
     }
     if s.blocks == 1 {
-        put_payload(a, remainder, s, r, c);
+        put_payload(first, second, remainder, s, r, c);
         return;
     }
     let end = c.len() - 24;
-    put_payload(a, remainder, s, r, &mut c[..end]);
+    put_payload(first, second, remainder, s, r, &mut c[..end]);
     let check = check_bits::crc24b(0, &c[..end]);
     check_bits::put_check_bits(check, &mut c[end..]);
 }
 
-// Writes the payload over the whole of `c`: filler, the part of `a`, and in the last code block the transport check.
-fn put_payload(a: &[u8], remainder: u32, s: Segments, r: usize, c: &mut [u8])
-    requires { ⌜ Room (now a) s r (now c) ⌝ }
-    ensures { λ _. ⌜ now (c .exit) ≡ payload (now (a .entry) ++ bitsOf 24 remainder) r ⌝ }
+// Writes the code block's payload over the whole of `c`: filler, the part of the block, and in the last code block the transport check.
+fn put_payload(first: &[u8], second: &[u8], remainder: u32, s: Segments, r: usize, c: &mut [u8])
+    requires { ⌜ Room (now first ++ now second) s r (now c) ⌝ }
+    ensures { λ _. ⌜ now (c .exit) ≡ payload ((now (first .entry) ++ now (second .entry)) ++ bitsOf 24 remainder) r ⌝ }
 {
     let zeros = filler_of(s, r);
-    let from = start_of(a.len(), s, r);
+    let len = first.len() + second.len();
+    let from = start_of(len, s, r);
     if r + 1 < s.blocks {
         let to = from + (c.len() - zeros);
-        fill(zeros, &a[from..to], c);
+        fill_both(zeros, first, second, from, to, c);
     } else {
         let end = c.len() - 24;
-        fill(zeros, &a[from..], c);
+        fill_both(zeros, first, second, from, len, c);
         check_bits::put_check_bits(remainder, &mut c[end..]);
     }
+}
+
+// Writes zeros, and after them the bits of the block from `from` to `to`, over the front of `c`. They are those that the first slice has of
+// them and then those that the second has.
+fn fill_both(zeros: usize, first: &[u8], second: &[u8], from: usize, to: usize, c: &mut [u8])
+    requires { ⌜ (from ≤ to) × (to ≤ length (now first) + length (now second)) × (zeros + (to - from) ≤ length (now c)) ⌝ }
+    ensures { λ _. ⌜ now (c .exit) ≡ filledWith zeros (take (to - from) (drop from (now (first .entry) ++ now (second .entry)))) (now (c .entry)) ⌝ }
+{
+    let cut = first.len();
+    let a = least(from, cut);
+    let b = least(to, cut);
+    fill(zeros, &first[a..b], c);
+    let at = zeros + (b - a);
+    let start = from - a;
+    let end = to - b;
+    bytes::copy(&second[start..end], &mut c[at..]);
+}
+
+fn least(x: usize, y: usize) -> usize
+    ensures { λ r. ⌜ r ≡ min x y ⌝ }
+{
+    if x < y { x } else { y }
 }
 
 // Writes zeros, and `part` after them, over the front of `c`.
 fn fill(zeros: usize, part: &[u8], c: &mut [u8])
     requires { ⌜ zeros + length (now part) ≤ length (now c) ⌝ }
-    ensures { λ _. ⌜ now (c .exit) ≡ replicate {A = ℕ} zeros 0 ++ (now (part .entry) ++ drop (zeros + length (now (part .entry))) (now (c .entry))) ⌝ }
+    ensures { λ _. ⌜ now (c .exit) ≡ filledWith zeros (now (part .entry)) (now (c .entry)) ⌝ }
 {
     clear(&mut c[..zeros]);
     bytes::copy(part, &mut c[zeros..]);

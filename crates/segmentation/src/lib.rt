@@ -2,7 +2,7 @@
 pub mod block;
 
 ghost use mathlib.Core.Path.{_≡_};
-ghost use Prim.Native.Nat.{_*_, _≤_, _<_};
+ghost use Prim.Native.Nat.{_+_, _*_, _≤_, _<_};
 ghost use Rattle.interleaver.specs.Table.{rowCount};
 ghost use Rattle.segmentation.specs.Segmentation.{firstRow};
 ghost use Rattle.segmentation.specs.Sizes.{badSize, segmentsOf, segmentsFor, sizesAnswer};
@@ -56,6 +56,20 @@ pub fn segments_for(a: usize) -> Segments
     }
     let b = a + 24;
     if b <= 6144 { single(b) } else { several(b) }
+}
+
+// The segmentation of a block that lies in two slices, of `first` and `second` bits. Where one alone is too long no sum is taken: a wrong
+// length that C hands over is then refused and does not wrap.
+pub fn segments_for_both(first: usize, second: usize) -> Segments
+    ensures { λ r. ⌜ r ≡ segmentsFor (first + second) ⌝ }
+{
+    if first > 30576 {
+        return segments_for(first);
+    }
+    if second > 30576 {
+        return segments_for(second);
+    }
+    segments_for(first + second)
 }
 
 // The call Sizes of 01: the numbers of a block of `a` bits, or refusal 1.

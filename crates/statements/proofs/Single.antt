@@ -1,11 +1,11 @@
 -- Every statement of a public call admits a single outcome: one law for all of them (01, 'How firm the statements must be').
 -- Assumes nothing.
-use mathlib.Core.Path.{_≡_, sym, _∙_}
-use mathlib.Core.List.{List}
+use mathlib.Core.Path.{_≡_, sym, _∙_, ap}
+use mathlib.Core.List.{List, [], append-nil}
 use Prim.Native.Nat.{ℕ}
 use Rattle.slots.specs.declared.State.{State}
 use Rattle.statements.specs.Outcome.{Given, Gives, SingleOutcome}
-use Rattle.statements.specs.Calls.{SizesStatement, BuildStatement, SizesToCStatement, NewStatement, OpenStatement, ReceiveStatement, ReadStatement, StreamsStatement, CloseStatement}
+use Rattle.statements.specs.Calls.{SizesStatement, BuildStatement, BuildTwoStatement, SizesToCStatement, NewStatement, OpenStatement, ReceiveStatement, ReadStatement, StreamsStatement, CloseStatement}
 
 -- the law: what an answer and the bytes afterwards are said to be, they are
 pub single : {A B : Type 0} (answer : A) (after : B) → SingleOutcome (Gives answer after)
@@ -17,6 +17,13 @@ sizes-single A = single _ _
 
 pub build-single : (a : List ℕ) (Q N v G : ℕ) (out : List ℕ) → SingleOutcome (BuildStatement a Q N v G out)
 build-single a Q N v G out = single _ _
+
+pub build-two-single : (header payload : List ℕ) (Q N v G : ℕ) (out : List ℕ) → SingleOutcome (BuildTwoStatement header payload Q N v G out)
+build-two-single header payload Q N v G out = single _ _
+
+-- with an empty second slice it is Build
+pub empty-second : (a : List ℕ) (Q N v G : ℕ) (out : List ℕ) → BuildTwoStatement a [] Q N v G out ≡ BuildStatement a Q N v G out
+empty-second a Q N v G out = ap (λ (l : List ℕ). BuildStatement l Q N v G out) (append-nil a)
 
 pub sizes-to-c-single : (A : ℕ) (out : List ℕ) → SingleOutcome (SizesToCStatement A out)
 sizes-to-c-single A out = single _ _

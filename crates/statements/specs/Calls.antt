@@ -1,6 +1,6 @@
 -- The statements of the public calls, as their contracts put them: the answer, and every lent byte afterwards.
 -- Assumes nothing.
-use mathlib.Core.List.{List}
+use mathlib.Core.List.{List, _++_}
 use Prim.Native.Nat.{ℕ}
 use lib.ListN.{length}
 use Rattle.segmentation.specs.declared.SizesAnswer.{SizesAnswer}
@@ -19,7 +19,11 @@ SizesStatement A = Gives (sizesAnswer A) tt
 abbrev pub BuildStatement : List ℕ → ℕ → ℕ → ℕ → ℕ → List ℕ → Given ℕ (List ℕ) → Type 0
 BuildStatement a Q N v G out = Gives (buildNumber a Q N v G (length out)) (buildOutput a Q N v G out)
 
--- zemrukste_sizes; zemrukste_build is Build
+-- Build of a block that lies in two slices: that of the joined slices
+abbrev pub BuildTwoStatement : List ℕ → List ℕ → ℕ → ℕ → ℕ → ℕ → List ℕ → Given ℕ (List ℕ) → Type 0
+BuildTwoStatement header payload Q N v G out = BuildStatement (header ++ payload) Q N v G out
+
+-- zemrukste_sizes; zemrukste_build and zemrukste_build_two are Build
 abbrev pub SizesToCStatement : ℕ → List ℕ → Given ℕ (List ℕ) → Type 0
 SizesToCStatement A out = Gives (sizesNumber A (length out)) (sizesBytes A out)
 

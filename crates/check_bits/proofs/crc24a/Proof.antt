@@ -12,9 +12,9 @@ use Rattle.check_bits.proofs.crc24a.Statement.{statement}
 use Rattle.check_bits.proofs.crc24a.Tie as tie
 
 -- the bits that are left go on from the register after the first ones
-onward : (c : tie.After-leading) → let start = c .before .before .before .before .before .before in
+onward : (c : tie.After-leading) → let start = c .before .before .before .before .before .before .before in
     Running 24 24 gCRC24A (start .args .from) (start .args .bits .now) (c .leading .result) (length (start .args .bits .now) % 24)
-onward c = gone (c .before .before .before .before .before .before .args .bits .now) (omega arith) (c .leading .ensures)
+onward c = gone (c .before .before .before .before .before .before .before .args .bits .now) (omega arith) (c .leading .ensures)
 
 one-by-one-requires : tie.Need-one-by-one-requires
 one-by-one-requires c κs = search needs
@@ -31,6 +31,12 @@ returns-2 c = search needs
 table-a-requires : tie.Need-table-a-requires
 table-a-requires c κs = search needs
 
+few-bits-requires : tie.Need-few-bits-requires
+few-bits-requires c κs = search needs
+
+returns-3 : tie.Need-returns-3
+returns-3 c = search needs
+
 leading-requires : tie.Need-leading-requires
 leading-requires c κs = search needs
 
@@ -44,10 +50,10 @@ part-last-stride-end : tie.Need-part-last-stride-end
 part-last-stride-end c = search needs
 
 last-stride-requires : tie.Need-last-stride-requires
-last-stride-requires c κs = let led = c .before .before .before in (led .before .before .table-a .ensures, onward led .small)
+last-stride-requires c κs = let led = c .before .before .before in (led .before .before .before .table-a .ensures, onward led .small)
 
-returns-3 : tie.Need-returns-3
-returns-3 c = c .last-stride .ensures ∙ rest (onward (c .before .before .before .before))
+returns-4 : tie.Need-returns-4
+returns-4 c = c .last-stride .ensures ∙ rest (onward (c .before .before .before .before))
 
 table-a-48-requires : tie.Need-table-a-48-requires
 table-a-48-requires c κs = search needs
@@ -65,10 +71,10 @@ strides-requires : tie.Need-strides-requires
 strides-requires c κs =
     let far = c .before .before .before in
     let led = far .before .before in
-    (led .before .before .table-a .ensures, (far .table-a-48 .ensures, onward led .small))
+    (led .before .before .before .table-a .ensures, (far .table-a-48 .ensures, onward led .small))
 
-returns-4 : tie.Need-returns-4
-returns-4 c = c .strides .ensures ∙ rest (onward (c .before .before .before .before .before .before))
+returns-5 : tie.Need-returns-5
+returns-5 c = c .strides .ensures ∙ rest (onward (c .before .before .before .before .before .before))
 
 pub crc24a-spec : {M : Type 1} → statement M
 crc24a-spec =
@@ -79,15 +85,17 @@ crc24a-spec =
     one-by-one-requires-2
     returns-2
     table-a-requires
+    few-bits-requires
+    returns-3
     leading-requires
     sub-last-stride
     part-last-stride-start
     part-last-stride-end
     last-stride-requires
-    returns-3
+    returns-4
     table-a-48-requires
     sub-strides
     part-strides-start
     part-strides-end
     strides-requires
-    returns-4)
+    returns-5)

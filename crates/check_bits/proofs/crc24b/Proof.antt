@@ -12,9 +12,9 @@ use Rattle.check_bits.proofs.crc24b.Statement.{statement}
 use Rattle.check_bits.proofs.crc24b.Tie as tie
 
 -- the bits that are left go on from the register after the first ones
-onward : (c : tie.After-leading) → let start = c .before .before .before .before .before .before in
+onward : (c : tie.After-leading) → let start = c .before .before .before .before .before .before .before in
     Running 24 24 gCRC24B (start .args .from) (start .args .bits .now) (c .leading .result) (length (start .args .bits .now) % 24)
-onward c = gone (c .before .before .before .before .before .before .args .bits .now) (omega arith) (c .leading .ensures)
+onward c = gone (c .before .before .before .before .before .before .before .args .bits .now) (omega arith) (c .leading .ensures)
 
 one-by-one-requires : tie.Need-one-by-one-requires
 one-by-one-requires c κs = search needs
@@ -30,6 +30,12 @@ returns-2 c = search needs
 
 table-b-requires : tie.Need-table-b-requires
 table-b-requires c κs = search needs
+
+few-bits-requires : tie.Need-few-bits-requires
+few-bits-requires c κs = search needs
+
+returns-3 : tie.Need-returns-3
+returns-3 c = search needs
 
 leading-requires : tie.Need-leading-requires
 leading-requires c κs = search needs
@@ -50,10 +56,10 @@ strides-requires : tie.Need-strides-requires
 strides-requires c κs =
     let far = c .before .before .before in
     let led = far .before in
-    (led .before .before .table-b .ensures, (far .table-b-48 .ensures, onward led .small))
+    (led .before .before .before .table-b .ensures, (far .table-b-48 .ensures, onward led .small))
 
-returns-3 : tie.Need-returns-3
-returns-3 c = c .strides .ensures ∙ rest (onward (c .before .before .before .before .before))
+returns-4 : tie.Need-returns-4
+returns-4 c = c .strides .ensures ∙ rest (onward (c .before .before .before .before .before))
 
 pub crc24b-spec : {M : Type 1} → statement M
 crc24b-spec =
@@ -64,10 +70,12 @@ crc24b-spec =
     one-by-one-requires-2
     returns-2
     table-b-requires
+    few-bits-requires
+    returns-3
     leading-requires
     table-b-48-requires
     sub-strides
     part-strides-start
     part-strides-end
     strides-requires
-    returns-3)
+    returns-4)

@@ -1,8 +1,10 @@
 -- `check_bits::leading` meets its contract: the first of 24 gathered bits in one stride, or one by one where a byte is no bit.
 -- Assumes nothing.
+use mathlib.Core.Path.{_∙_, ap}
 use native.Mathlib.Omega.{arith}
 use Rattle.laws.proofs.Parts.{front-count}
-use Rattle.check_bits.proofs.Padding.{led}
+use Rattle.check_bits.specs.CheckBits.{crcFrom}
+use Rattle.check_bits.proofs.Padding.{highest-lt, highest}
 use borrow.Author.Needs.{needs}
 use Rattle.check_bits.proofs.leading.Statement.{statement}
 use Rattle.check_bits.proofs.leading.Tie as tie
@@ -19,31 +21,28 @@ one-by-one-requires c κs = search needs
 returns : tie.Need-returns
 returns c = search needs
 
-cast-result : tie.Need-cast-result
-cast-result c = search needs
+sub-short-stride : tie.Need-sub-short-stride
+sub-short-stride c = search needs
 
-shl-result : tie.Need-shl-result
-shl-result c = search needs
+cast-short-stride : tie.Need-cast-short-stride
+cast-short-stride c = search needs
 
-sub-passed : tie.Need-sub-passed
-sub-passed c = search needs
+shr-short-stride : tie.Need-shr-short-stride
+shr-short-stride c = search needs
 
-cast-passed : tie.Need-cast-passed
-cast-passed c = search needs
-
-shr-passed : tie.Need-shr-passed
-shr-passed c = search needs
-
-passed-requires : tie.Need-passed-requires
-passed-requires c κs = search needs
+short-stride-requires : tie.Need-short-stride-requires
+short-stride-requires c κs =
+    let start = c .before .before .before in
+    let given = start .pre .1 in
+    (start .pre .0, (given .0, given .2, highest-lt (start .args .bits .now) (start .args .k) (given .0) (omega arith)))
 
 returns-2 : tie.Need-returns-2
 returns-2 c =
     let looked = c .before .before in
     let start = looked .before .before in
-    let given = start .pre .1 in
-    rw (c .passed .ensures)
-    (led (start .args .bits .now) (start .args .k) (start .pre .0) (given .0) (given .2) (omega arith) (looked .gathered .ensures))
+    c .short-stride .ensures
+    ∙ ap (crcFrom 24 (start .args .generator) (start .args .from))
+    (highest (start .args .bits .now) (start .args .k) (start .pre .1 .0) (omega arith) (looked .gathered .ensures))
 
 pub leading-spec : {M : Type 1} → statement M
 leading-spec =
@@ -53,10 +52,8 @@ leading-spec =
     slice-aggregate-one-by-one
     one-by-one-requires
     returns
-    cast-result
-    shl-result
-    sub-passed
-    cast-passed
-    shr-passed
-    passed-requires
+    sub-short-stride
+    cast-short-stride
+    shr-short-stride
+    short-stride-requires
     returns-2)

@@ -3,39 +3,42 @@
 use borrow.Author.Needs.{needs}
 use mathlib.Core.Path.{_≡_, sym, _∙_, ap}
 use mathlib.Core.Bool.{Bool, true, false}
+use mathlib.Core.List.{_++_}
 use Prim.Native.Nat.{ℕ, _+_}
 use lib.ListN.{length}
 use denote.Ref.{now}
 use Rattle.segmentation.specs.Segmentation.{blocks}
-use Rattle.codeword.specs.Build.{badAllocation}
+use Rattle.segmentation.specs.Sizes.{segmentsFor}
+use Rattle.segmentation.proofs.Both.{of-joined}
+use Rattle.codeword.specs.Build.{badAllocation, badBits}
+use Rattle.codeword.proofs.Joined.{bad-first, bad-second}
 use Rattle.codeword.proofs.Segmented.{Sized, sized, unsized}
 use Rattle.codeword.proofs.Numbers.{bad-size-is, bad-allocation-is, bad-version-is, short-output-is, bad-bits-is, accepted-is}
 use Rattle.codeword.proofs.call.build_number.Statement.{statement}
 use Rattle.codeword.proofs.call.build_number.Tie as tie
 
+-- the segmentation is that of the joined slices
+told : (c : tie.After-segments-for-both) → let a = c .before .before .before .args in
+    c .segments-for-both .result ≡ segmentsFor (length (now (a .header) ++ now (a .payload)))
+told c = let a = c .before .before .before .args in of-joined (now (a .header)) (now (a .payload)) (c .segments-for-both .ensures)
+
 -- past the first test the size is in range, and C is what the rules ask of
-in-range : (c : tie.Else1) → Sized (length (now (c .before .before .before .before .args .block))) (c .before .before .segments-for .result)
-in-range c = sized _ _ (c .before .before .segments-for .ensures) (c .if1 .left)
+in-range : (c : tie.Else1) → let a = c .before .before .before .before .before .args in
+    Sized (length (now (a .header) ++ now (a .payload))) (c .before .before .segments-for-both .result)
+in-range c = sized _ _ (told (c .before .before)) (c .if1 .left)
 
 -- the test of the allocation is that of the rules
-allocation : (c : tie.After-bad-allocation)
-    → c .bad-allocation .result
-    ≡ badAllocation (blocks (length (now (c .before .before .before .before .before .args .block)) + 24))
-    (c .before .before .before .before .before .args .q)
-    (c .before .before .before .before .before .args .n)
-    (c .before .before .before .before .before .args .g)
+allocation : (c : tie.After-bad-allocation) → let a = c .before .before .before .before .before .before .args in
+    c .bad-allocation .result ≡ badAllocation (blocks (length (now (a .header) ++ now (a .payload)) + 24)) (a .q) (a .n) (a .g)
 allocation c =
-    c .bad-allocation .ensures
-    ∙ ap
-    (λ (C : ℕ). badAllocation C (c .before .before .before .before .before .args .q) (c .before .before .before .before .before .args .n)
-    (c .before .before .before .before .before .args .g))
-    (in-range (c .before) .count)
+    let a = c .before .before .before .before .before .before .args in
+    c .bad-allocation .ensures ∙ ap (λ (C : ℕ). badAllocation C (a .q) (a .n) (a .g)) (in-range (c .before) .count)
 
-segments-for-requires : tie.Need-segments-for-requires
-segments-for-requires c κs = search needs
+segments-for-both-requires : tie.Need-segments-for-both-requires
+segments-for-both-requires c κs = search needs
 
 returns : tie.Need-returns
-returns c = bad-size-is _ _ _ _ _ _ (unsized _ _ (c .before .before .segments-for .ensures) (c .if1 .taken))
+returns c = bad-size-is _ _ _ _ _ _ (unsized _ _ (told (c .before .before)) (c .if1 .taken))
 
 bad-allocation-requires : tie.Need-bad-allocation-requires
 bad-allocation-requires c κs = search needs
@@ -62,25 +65,46 @@ bad-bits-requires c κs = search needs
 
 returns-5 : tie.Need-returns-5
 returns-5 c =
-    bad-bits-is _ _ _ _ _ _ (in-range (c .before .before .before .before .before .before) .size)
-    (sym (allocation (c .before .before .before .before .before)) ∙ c .before .before .before .before .if2 .left)
-    (c .before .before .before .if3 .left)
-    (c .before .before .if4 .left)
-    (sym (c .before .bad-bits .ensures) ∙ c .if5 .taken)
+    let enough = c .before .before in
+    bad-bits-is _ _ _ _ _ _ (in-range (enough .before .before .before .before) .size)
+    (sym (allocation (enough .before .before .before)) ∙ enough .before .before .if2 .left)
+    (enough .before .if3 .left)
+    (enough .if4 .left)
+    (bad-first _ _ (sym (c .before .bad-bits .ensures) ∙ c .if5 .taken))
+
+bad-bits-requires-2 : tie.Need-bad-bits-requires-2
+bad-bits-requires-2 c κs = search needs
+
+-- what both slices tell of the joined bits
+given : (c : tie.After-bad-bits2) → let a = c .before .before .before .before .before .before .before .before .before .before .before .before .args in
+    badBits (now (a .header) ++ now (a .payload)) ≡ c .bad-bits2 .result
+given c =
+    let a = c .before .before .before .before .before .before .before .before .before .before .before .before .args in
+    bad-second (now (a .header)) (now (a .payload)) (sym (c .before .before .bad-bits .ensures) ∙ c .before .if5 .left) ∙ sym (c .bad-bits2 .ensures)
 
 returns-6 : tie.Need-returns-6
 returns-6 c =
-    accepted-is _ _ _ _ _ _ (in-range (c .before .before .before .before .before .before) .size)
-    (sym (allocation (c .before .before .before .before .before)) ∙ c .before .before .before .before .if2 .left)
-    (c .before .before .before .if3 .left)
-    (c .before .before .if4 .left)
-    (sym (c .before .bad-bits .ensures) ∙ c .if5 .left)
+    let enough = c .before .before .before .before in
+    bad-bits-is _ _ _ _ _ _ (in-range (enough .before .before .before .before) .size)
+    (sym (allocation (enough .before .before .before)) ∙ enough .before .before .if2 .left)
+    (enough .before .if3 .left)
+    (enough .if4 .left)
+    (given (c .before) ∙ c .if6 .taken)
+
+returns-7 : tie.Need-returns-7
+returns-7 c =
+    let enough = c .before .before .before .before in
+    accepted-is _ _ _ _ _ _ (in-range (enough .before .before .before .before) .size)
+    (sym (allocation (enough .before .before .before)) ∙ enough .before .before .if2 .left)
+    (enough .before .if3 .left)
+    (enough .if4 .left)
+    (given (c .before) ∙ c .if6 .left)
 
 pub build-number-spec : {M : Type 1} → statement M
 build-number-spec =
     tie.close
     (tie.spec
-    segments-for-requires
+    segments-for-both-requires
     returns
     bad-allocation-requires
     returns-2
@@ -88,4 +112,6 @@ build-number-spec =
     returns-4
     bad-bits-requires
     returns-5
-    returns-6)
+    bad-bits-requires-2
+    returns-6
+    returns-7)

@@ -2,6 +2,7 @@
 -- Assumes nothing.
 use borrow.Author.Needs.{needs}
 use mathlib.Core.Path.{_≡_, _∙_, ap}
+use mathlib.Core.List.{_++_}
 use Prim.Native.Nat.{ℕ, _+_, _≤_}
 use native.Mathlib.Omega.{arith}
 use lib.ListN.{length}
@@ -15,41 +16,43 @@ use Rattle.codeword.proofs.call.send_within.Tie as tie
 
 -- K of the code block
 size-is : (c : tie.After-size-of)
-    → c .size-of .result ≡ sizeOf (length (now (c .before .before .before .before .before .before .args .block)) + 24) (c .before .before .before .before .before .before .args .r)
-size-is c = size-told (c .before .before .before .before .before .before .pre .0) (c .size-of .ensures)
+    → let a = c .before .before .before .before .before .before .before .args in
+    c .size-of .result ≡ sizeOf (length (now (a .header) ++ now (a .payload)) + 24) (a .r)
+size-is c = size-told (c .before .before .before .before .before .before .before .pre .0) (c .size-of .ensures)
 
 -- a stream fits a room of its length
-stream-fits : (c : tie.After-size-of) {n : ℕ} → sizeOf (length (now (c .before .before .before .before .before .before .args .block)) + 24) (c .before .before .before .before .before .before .args .r) + 4 ≤ n → c .size-of .result + 4 ≤ n
+stream-fits : (c : tie.After-size-of) {n : ℕ} → let a = c .before .before .before .before .before .before .before .args in
+    sizeOf (length (now (a .header) ++ now (a .payload)) + 24) (a .r) + 4 ≤ n → c .size-of .result + 4 ≤ n
 stream-fits c h = omega (arith, size-is c)
 
 size-of-requires : tie.Need-size-of-requires
 size-of-requires c κs = search needs
 
 add-d : tie.Need-add-d
-add-d c = omega (arith, size-is c, size-most-told (c .before .before .before .before .before .before .pre .0))
+add-d c = omega (arith, size-is c, size-most-told (c .before .before .before .before .before .before .before .pre .0))
 
 slice-relend-prefix-send-in : tie.Need-slice-relend-prefix-send-in
-slice-relend-prefix-send-in c = stream-fits c (c .before .before .before .before .before .before .pre .1 .first)
+slice-relend-prefix-send-in c = stream-fits c (c .before .before .before .before .before .before .before .pre .1 .first)
 
 slice-aggregate-send-in : tie.Need-slice-aggregate-send-in
-slice-aggregate-send-in c = front-count _ _ (stream-fits (c .before) (c .before .before .before .before .before .before .before .pre .1 .first))
+slice-aggregate-send-in c = front-count _ _ (stream-fits (c .before) (c .before .before .before .before .before .before .before .before .pre .1 .first))
 
 slice-relend-prefix-send-in-2 : tie.Need-slice-relend-prefix-send-in-2
-slice-relend-prefix-send-in-2 c = stream-fits (c .before) (c .before .before .before .before .before .before .before .pre .1 .second)
+slice-relend-prefix-send-in-2 c = stream-fits (c .before) (c .before .before .before .before .before .before .before .before .pre .1 .second)
 
 slice-aggregate-send-in-2 : tie.Need-slice-aggregate-send-in-2
-slice-aggregate-send-in-2 c = front-count _ _ (stream-fits (c .before .before) (c .before .before .before .before .before .before .before .before .pre .1 .second))
+slice-aggregate-send-in-2 c = front-count _ _ (stream-fits (c .before .before) (c .before .before .before .before .before .before .before .before .before .pre .1 .second))
 
 slice-relend-prefix-send-in-3 : tie.Need-slice-relend-prefix-send-in-3
-slice-relend-prefix-send-in-3 c = stream-fits (c .before .before) (c .before .before .before .before .before .before .before .before .pre .1 .third)
+slice-relend-prefix-send-in-3 c = stream-fits (c .before .before) (c .before .before .before .before .before .before .before .before .before .pre .1 .third)
 
 slice-aggregate-send-in-3 : tie.Need-slice-aggregate-send-in-3
-slice-aggregate-send-in-3 c = front-count _ _ (stream-fits (c .before .before .before) (c .before .before .before .before .before .before .before .before .before .pre .1 .third))
+slice-aggregate-send-in-3 c = front-count _ _ (stream-fits (c .before .before .before) (c .before .before .before .before .before .before .before .before .before .before .pre .1 .third))
 
 send-in-requires : tie.Need-send-in-requires
 send-in-requires c κs =
     let k = c .before .before .before .before in
-    let start = k .before .before .before .before .before .before in
+    let start = k .before .before .before .before .before .before .before in
     let places = ap (λ (n : ℕ). n + 4) (size-is k) in (
       start .pre .0,
       record {

@@ -2,29 +2,34 @@
 -- Assumes nothing.
 use borrow.Author.Needs.{needs}
 use mathlib.Core.Path.{_≡_}
+use mathlib.Core.List.{_++_}
 use Prim.Native.Nat.{_+_}
 use lib.ListN.{length}
 use denote.Ref.{now}
 use Rattle.segmentation.specs.Sizes.{segmentsOf}
+use Rattle.segmentation.proofs.Both.{of-joined}
 use Rattle.codeword.proofs.Segmented.{sized-in}
 use Rattle.codeword.proofs.call.write_codeword.Statement.{statement}
 use Rattle.codeword.proofs.call.write_codeword.Tie as tie
 
 -- the segmentation is the block's
-told : (c : tie.After-segments-for) → c .segments-for .result ≡ segmentsOf (length (now (c .before .before .before .args .block)) + 24)
-told c = sized-in _ _ (c .before .before .before .pre .size) (c .segments-for .ensures) .told
+told : (c : tie.After-segments-for-both) → let a = c .before .before .before .before .args in
+    c .segments-for-both .result ≡ segmentsOf (length (now (a .header) ++ now (a .payload)) + 24)
+told c =
+    let start = c .before .before .before .before in
+    sized-in _ _ (start .pre .size) (of-joined (now (start .args .header)) (now (start .args .payload)) (c .segments-for-both .ensures)) .told
 
-segments-for-requires : tie.Need-segments-for-requires
-segments-for-requires c κs = search needs
+segments-for-both-requires : tie.Need-segments-for-both-requires
+segments-for-both-requires c κs = search needs
 
 write-short-requires : tie.Need-write-short-requires
-write-short-requires c κs = let sized = c .before .before .before in (sized .before .before .before .pre, (told sized, c .before .if1 .taken))
+write-short-requires c κs = let sized = c .before .before .before in (sized .before .before .before .before .pre, (told sized, c .before .if1 .taken))
 
 write-middle-requires : tie.Need-write-middle-requires
-write-middle-requires c κs = let sized = c .before .before .before .before .before in (sized .before .before .before .pre, (told sized, c .before .if2 .taken))
+write-middle-requires c κs = let sized = c .before .before .before .before .before in (sized .before .before .before .before .pre, (told sized, c .before .if2 .taken))
 
 write-long-requires : tie.Need-write-long-requires
-write-long-requires c κs = let sized = c .before .before .before .before .before in (sized .before .before .before .pre, told sized)
+write-long-requires c κs = let sized = c .before .before .before .before .before in (sized .before .before .before .before .pre, told sized)
 
 same-length : tie.Need-same-length
 same-length c = search needs
@@ -48,7 +53,7 @@ pub write-codeword-spec : {M : Type 1} → statement M
 write-codeword-spec =
     tie.close
     (tie.spec
-    segments-for-requires
+    segments-for-both-requires
     write-short-requires
     write-middle-requires
     write-long-requires

@@ -3,10 +3,12 @@
 -- Assumes nothing.
 use borrow.Author.Needs.{needs}
 use mathlib.Core.Path.{sym, _∙_}
+use mathlib.Core.List.{_++_}
 use Prim.Native.Nat.{_-_}
 use native.Mathlib.Omega.{arith}
+use denote.Ref.{now}
 use Rattle.check_bits.specs.CheckBits.{gCRC24A}
-use Rattle.check_bits.proofs.Register.{from-zero}
+use Rattle.codeword.proofs.Joined.{check-joined}
 use Rattle.codeword.proofs.Rooms.{Lent, lent, enough}
 use Rattle.codeword.proofs.Segmented.{count-told}
 use Rattle.codeword.proofs.Sent.{size-within}
@@ -15,19 +17,24 @@ use Rattle.codeword.proofs.call.write_in.Statement.{statement}
 use Rattle.codeword.proofs.call.write_in.Tie as tie
 
 abbrev Inv-loop : tie.InvT-loop
-Inv-loop block q n version s d0₀ d1₀ d2₀ out₀ remainder g at₀ r₀ d0 d1 d2 out at r =
-    Stretching block q n version out₀ s (s .blocks) remainder g out at r × Lent (s .long) d0₀ d1₀ d2₀ d0 d1 d2
+Inv-loop header payload q n version s d0₀ d1₀ d2₀ out₀ first remainder g at₀ r₀ d0 d1 d2 out at r =
+    Stretching (header ++ payload) q n version out₀ s (s .blocks) remainder g out at r × Lent (s .long) d0₀ d1₀ d2₀ d0 d1 d2
 
 abbrev μ-loop : tie.MeasureT-loop
-μ-loop block q n version s d0₀ d1₀ d2₀ out₀ remainder g at₀ r₀ d0 d1 d2 out at r = s .blocks - r
+μ-loop header payload q n version s d0₀ d1₀ d2₀ out₀ first remainder g at₀ r₀ d0 d1 d2 out at r = s .blocks - r
 
 crc24a-requires : tie.Need-crc24a-requires Inv-loop μ-loop
 crc24a-requires c κs = search needs
 
+crc24a-requires-2 : tie.Need-crc24a-requires-2 Inv-loop μ-loop
+crc24a-requires-2 c κs = search needs
+
 loop-holds : tie.Need-loop-holds Inv-loop μ-loop
 loop-holds c =
-    let given = c .before .before .before .before .before .before .pre in
-    (start (given .0) (given .1 .0) (count-told _ (given .1 .0)) (c .crc24a .ensures ∙ from-zero 24 gCRC24A _) (search needs), lent (given .1 .1))
+    let entry = c .before .before .before .before .before .before .before .before in
+    let given = entry .pre in
+    let check = check-joined (now (entry .args .header)) (now (entry .args .payload)) 24 gCRC24A (c .before .crc24a .ensures) (c .crc24a2 .ensures) in
+    (start (given .0) (given .1 .0) (count-told _ (given .1 .0)) check (search needs), lent (given .1 .1))
 
 share-of-requires : tie.Need-share-of-requires Inv-loop μ-loop
 share-of-requires c κs = search needs
@@ -95,6 +102,7 @@ write-in-spec =
     Inv-loop
     μ-loop
     crc24a-requires
+    crc24a-requires-2
     loop-holds
     share-of-requires
     add-end

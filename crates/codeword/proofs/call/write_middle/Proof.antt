@@ -15,7 +15,7 @@ slice-aggregate-write-in-3 : tie.Need-slice-aggregate-write-in-3
 slice-aggregate-write-in-3 c = search needs
 
 write-in-requires : tie.Need-write-in-requires
-write-in-requires c κs = let given = c .before .before .before .before .before .before .pre in (given .0, (given .1 .0, fresh-rooms 1024 (given .1 .1)))
+write-in-requires c κs = let given = c .before .before .before .before .before .before .before .pre in (given .0, (given .1 .0, fresh-rooms 1024 (given .1 .1)))
 
 same-length : tie.Need-same-length
 same-length c = search needs

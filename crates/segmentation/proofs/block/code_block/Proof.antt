@@ -7,26 +7,32 @@ use native.Mathlib.Omega.{arith}
 use lib.ListN.{length, drop}
 use lib.Seq.{length-front}
 use Rattle.laws.proofs.Parts.{front-count}
+use Rattle.segmentation.specs.Sizes.{segmentsFor}
+use Rattle.segmentation.proofs.Both.{of-joined}
 use Rattle.segmentation.proofs.Into.{Found, Sized, none-such, other-size, single-room, single-put, several-size, several-room, several-put}
 use borrow.Author.Needs.{needs}
 use Rattle.segmentation.proofs.block.code_block.Statement.{statement}
 use Rattle.segmentation.proofs.block.code_block.Tie as tie
 
--- past the first test, and past the second
-found : (c : tie.Else1) → Found (c .before .before .before .before .before .args .a .now) (c .before .before .segments-for .result)
-    (c .before .before .before .before .before .args .r)
-found c = record { told = c .before .before .segments-for .ensures; below = c .if1 .left }
+-- the segmentation of the joined slices
+told : (c : tie.After-segments-for-both) → let a = c .before .before .before .before .args in
+    c .segments-for-both .result ≡ segmentsFor (length (a .first .now ++ a .second .now))
+told c = let a = c .before .before .before .before .args in of-joined (a .first .now) (a .second .now) (c .segments-for-both .ensures)
 
-sized : (c : tie.Else2) → Sized (c .before .before .before .before .before .before .before .args .a .now)
-    (c .before .before .before .before .before .before .before .args .c .now) (c .before .before .before .before .segments-for .result)
-    (c .before .before .before .before .before .before .before .args .r)
+-- past the first test, and past the second
+found : (c : tie.Else1) → let a = c .before .before .before .before .before .before .args in
+    Found (a .first .now ++ a .second .now) (c .before .before .segments-for-both .result) (a .r)
+found c = record { told = told (c .before .before); below = c .if1 .left }
+
+sized : (c : tie.Else2) → let a = c .before .before .before .before .before .before .before .before .args in
+    Sized (a .first .now ++ a .second .now) (a .c .now) (c .before .before .before .before .segments-for-both .result) (a .r)
 sized c = record { found = found (c .before .before); size = c .if2 .left ∙ c .before .size-of .ensures }
 
-segments-for-requires : tie.Need-segments-for-requires
-segments-for-requires c κs = search needs
+segments-for-both-requires : tie.Need-segments-for-both-requires
+segments-for-both-requires c κs = search needs
 
 returns : tie.Need-returns
-returns c = none-such _ _ _ _ (c .before .before .segments-for .ensures) (c .if1 .taken)
+returns c = none-such _ _ _ _ (told (c .before .before)) (c .if1 .taken)
 
 size-of-requires : tie.Need-size-of-requires
 size-of-requires c κs = search needs
@@ -62,10 +68,10 @@ slice-reshare-prefix-crc24b c = search needs
 
 slice-aggregate-crc24b : tie.Need-slice-aggregate-crc24b
 slice-aggregate-crc24b c =
-    let whole = c .before .before .before .before .before .before .before .before .before .before .before .before .before .before .args .c .now in
+    let whole = c .before .before .before .before .before .before .before .before .before .before .before .before .before .before .before .args .c .now in
     let lent = c .before .before .before in
-    let kept : length (lent .put-payload2 .last .1 .1 .1 .1 .0 ++ drop (length whole - 24) whole) ≡ length whole =
-    length-front whole (lent .put-payload2 .last .1 .1 .1 .1 .0) (length whole - 24) (lent .put-payload2 .kept .1 .1 .1 .1 .0)
+    let kept : length (lent .put-payload2 .last .1 .1 .1 .1 .1 .0 ++ drop (length whole - 24) whole) ≡ length whole =
+    length-front whole (lent .put-payload2 .last .1 .1 .1 .1 .1 .0) (length whole - 24) (lent .put-payload2 .kept .1 .1 .1 .1 .1 .0)
     in
     front-count _ _ (omega arith)
 
@@ -98,7 +104,7 @@ pub code-block-spec : {M : Type 1} → statement M
 code-block-spec =
     tie.close
     (tie.spec
-    segments-for-requires
+    segments-for-both-requires
     returns
     size-of-requires
     returns-2

@@ -1,7 +1,12 @@
 -- `block::put_payload` meets its contract: both arms write the payload by its pieces (`Payload`).
 -- Assumes nothing.
+use mathlib.Core.Path.{_≡_, sym, _∙_, ap}
+use mathlib.Core.List.{_++_}
+use Prim.Native.Nat.{ℕ, _+_}
 use native.Mathlib.Omega.{arith}
-use Rattle.segmentation.proofs.Payload.{Pieces, pieces, inner-fits, inner-put, last-starts, last-fits, last-put}
+use lib.ListN.{length, length-append}
+use Rattle.segmentation.specs.Into.{startOf}
+use Rattle.segmentation.proofs.Payload.{Pieces, pieces, inner-put, last-starts, last-room, last-put}
 use borrow.Author.Needs.{needs}
 use Rattle.segmentation.proofs.block.put_payload.Statement.{statement}
 use Rattle.segmentation.proofs.block.put_payload.Tie as tie
@@ -9,13 +14,25 @@ use Rattle.segmentation.proofs.block.put_payload.Tie as tie
 filler-of-requires : tie.Need-filler-of-requires
 filler-of-requires c κs = search needs
 
+add-len : tie.Need-add-len
+add-len c = search needs
+
 start-of-requires : tie.Need-start-of-requires
-start-of-requires c κs = search needs
+start-of-requires c κs = let a = c .before .before .before .before in rw (length-append (a .args .first .now) (a .args .second .now)) at (a .pre .segmented)
 
 -- the pieces, where both arms begin
-here : (c : tie.After-start-of) → Pieces (c .before .before .before .before .args .a .now) (c .before .before .before .before .args .c .now)
-    (c .before .before .before .before .args .s .blocks) (c .before .before .before .before .args .r) (c .before .filler-of .result) (c .start-of .result)
-here c = pieces (c .before .before .before .before .pre) (c .before .filler-of .ensures) (c .start-of .ensures)
+here : (c : tie.After-start-of) → let a = c .before .before .before .before .before .args in
+    Pieces (a .first .now ++ a .second .now) (a .c .now) (a .s .blocks) (a .r) (c .before .filler-of .result) (c .start-of .result)
+here c =
+    let a = c .before .before .before .before .before in
+    let x = a .args .first .now in
+    let y = a .args .second .now in
+    pieces (a .pre) (c .before .filler-of .ensures) (c .start-of .ensures ∙ ap (λ (n : ℕ). startOf (n + 24) (a .args .r)) (sym (length-append x y)))
+
+-- the length of the block
+long : (c : tie.After-start-of) → let a = c .before .before .before .before .before .args in
+    length (a .first .now ++ a .second .now) ≡ length (a .first .now) + length (a .second .now)
+long c = let a = c .before .before .before .before .before .args in length-append (a .first .now) (a .second .now)
 
 add-if1 : tie.Need-add-if1
 add-if1 c = omega (arith, here c .few)
@@ -26,32 +43,20 @@ sub-to c = omega (arith, here (c .before .before) .spare)
 add-to : tie.Need-add-to
 add-to c = omega (arith, here (c .before .before) .inner (c .if1 .taken))
 
-sub-fill : tie.Need-sub-fill
-sub-fill c = search needs
-
-part-fill-start : tie.Need-part-fill-start
-part-fill-start c = search needs
-
-part-fill-end : tie.Need-part-fill-end
-part-fill-end c = here (c .before .before) .inner (c .if1 .taken)
-
-fill-requires : tie.Need-fill-requires
-fill-requires c κs = inner-fits (here (c .before .before .before .before)) (c .before .before .if1 .taken)
+fill-both-requires : tie.Need-fill-both-requires
+fill-both-requires c κs =
+    let at = c .before .before .before in
+    let fits = here at .inner (c .before .if1 .taken) in
+    (omega arith, omega (arith, fits, long at), omega (arith, here at .spare))
 
 sub-end : tie.Need-sub-end
 sub-end c = omega (arith, here (c .before .before) .spare)
 
-sub-fill-2 : tie.Need-sub-fill-2
-sub-fill-2 c = last-starts (here (c .before .before)) (c .if1 .left)
-
-part-fill-start-2 : tie.Need-part-fill-start-2
-part-fill-start-2 c = last-starts (here (c .before .before)) (c .if1 .left)
-
-part-fill-end-2 : tie.Need-part-fill-end-2
-part-fill-end-2 c = search needs
-
-fill-requires-2 : tie.Need-fill-requires-2
-fill-requires-2 c κs = last-fits (here (c .before .before .before .before)) (c .before .before .if1 .left)
+fill-both-requires-2 : tie.Need-fill-both-requires-2
+fill-both-requires-2 c κs =
+    let at = c .before .before .before in
+    let last = c .before .if1 .left in
+    (omega (arith, last-starts (here at) last, long at), omega arith, omega (arith, last-room (here at) last, long at))
 
 sub-put-check-bits : tie.Need-sub-put-check-bits
 sub-put-check-bits c = search needs
@@ -70,8 +75,8 @@ same-length c = search needs
 
 returns : tie.Need-returns
 returns c =
-    let arm = c .before .before .before .before .before in
-    inner-put (here (arm .before .before)) (arm .if1 .taken) (arm .before .before .before .before .before .before .args .remainder) (c .before .before .fill .ensures)
+    let arm = c .before .before .before .before in
+    inner-put (here (arm .before .before)) (arm .if1 .taken) _ (c .before .before .fill-both .ensures)
 
 same-length-2 : tie.Need-same-length-2
 same-length-2 c = search needs
@@ -79,27 +84,23 @@ same-length-2 c = search needs
 returns-2 : tie.Need-returns-2
 returns-2 c =
     let filled = c .before .before .before .before .before .before in
-    let arm = filled .before .before .before in
-    last-put (here (arm .before .before)) (arm .if1 .left) (arm .before .before .before .before .before .before .args .remainder) (filled .fill2 .ensures) (c .before .before .put-check-bits .ensures)
+    let arm = filled .before .before in
+    let at = arm .before .before in
+    last-put (here at) (arm .if1 .left) _ (rw (← long at) at (filled .fill-both2 .ensures)) (c .before .before .put-check-bits .ensures)
 
 pub put-payload-spec : {M : Type 1} → statement M
 put-payload-spec =
     tie.close
     (tie.spec
     filler-of-requires
+    add-len
     start-of-requires
     add-if1
     sub-to
     add-to
-    sub-fill
-    part-fill-start
-    part-fill-end
-    fill-requires
+    fill-both-requires
     sub-end
-    sub-fill-2
-    part-fill-start-2
-    part-fill-end-2
-    fill-requires-2
+    fill-both-requires-2
     sub-put-check-bits
     part-put-check-bits-start
     part-put-check-bits-end
