@@ -143,7 +143,7 @@ fn mother_code(a: usize) -> Row {
     Row { a, g: (places - 2 * segmentation.filler) / (N * Q) * (N * Q) }
 }
 
-/// 0 or the number of a refusal, and how many data places lack a bit where that is told.
+/// 0 or the number of a refusal, and the number that comes with the answer where one does.
 type Answer = (u32, usize);
 
 /// One of the three: a call, and what it writes.
@@ -175,6 +175,7 @@ fn told(answer: Result<usize, Refusal>) -> Answer {
     match answer {
         Ok(lacking) => (0, lacking),
         Err(Refusal::Lacking(lacking)) => (slots::LACKING.into(), lacking),
+        Err(Refusal::CodeBlockWrong(r)) => (slots::CODE_BLOCK_WRONG.into(), r),
         Err(Refusal::Number(number)) => (number.into(), 0),
     }
 }

@@ -300,7 +300,7 @@ fn unpack_some(word: u64, bits: &mut [u8]) {
 pub(crate) type CrcTables = [[u32; 256]; 8];
 
 pub(crate) static CRC24A: CrcTables = crc_tables(0x86_4CFB);
-static CRC24B: CrcTables = crc_tables(0x80_0063);
+pub(crate) static CRC24B: CrcTables = crc_tables(0x80_0063);
 
 /// From the generator, highest power first, to tables with the highest power lowest.
 const fn crc_tables(generator: u32) -> CrcTables {

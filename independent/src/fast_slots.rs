@@ -5,11 +5,12 @@
 //!   reception is copies, and no place is looked at.
 //! - A later bit replaces an earlier one, so of many turns only the last one or two are put.
 //! - Lacking places are counted run by run, in bytes.
-//! - The block is put together column by column, its check taken 64 bits a step.
+//! - The block is put together column by column, its checks taken 64 bits a step; the check
+//!   bits of a code block are overwritten by the next.
 
 use crate::codeword::{allocation_fits, A_MAX};
 use crate::codeword::{BAD_ALLOCATION, BAD_BIT, BAD_VERSION, SHORT_OUTPUT};
-use crate::fast::{crc, first_row, Layout, Plan, CRC24A, PARITY, START};
+use crate::fast::{crc, first_row, Layout, Plan, CRC24A, CRC24B, PARITY, START};
 use crate::rate::{COLUMNS, P};
 use crate::slots::{Answer, Refusal, State, BLOCKS_MAX, ROOM_OF_BLOCK, SLOTS_MAX};
 use crate::slots::{BAD_SLOT, BAD_STATE, CHECK_WRONG, CLOSED, OTHER_TERMINAL, SHORT_STORE};
@@ -59,7 +60,7 @@ pub fn receive(
 /// is never read.
 #[derive(Default)]
 pub struct Workspace {
-    /// The block with its check, as it was heard.
+    /// The block with its check, as it was heard, and room for the last code block's check.
     sequence: Vec<u8>,
 }
 
@@ -84,22 +85,25 @@ impl Workspace {
             0 => {}
             count => return Err(Refusal::Lacking(count)),
         }
-        if self.sequence.len() < a + PARITY {
-            self.sequence.resize(a + PARITY, 0);
+        if self.sequence.len() < a + 2 * PARITY {
+            self.sequence.resize(a + 2 * PARITY, 0);
         }
-        let sequence = &mut self.sequence[..a + PARITY];
-        let own_parity = if plan.blocks > 1 { PARITY } else { 0 };
-        let mut rest = &mut sequence[..];
+        let several = plan.blocks > 1;
+        let mut rest = &mut self.sequence[..];
         for (r, part) in parts() {
             let layout = plan.layout(r);
-            let (mine, later) = rest.split_at_mut(layout.k - own_parity - layout.filler);
+            let mine = &mut rest[..layout.k - layout.filler];
             gather(&layout, part, mine);
-            rest = later;
+            // Filler is zeros in front, which change no remainder.
+            if several && crc(&CRC24B, mine) != 0 {
+                return Err(Refusal::CodeBlockWrong(r));
+            }
+            rest = &mut rest[layout.k - layout.filler - if several { PARITY } else { 0 }..];
         }
-        if crc(&CRC24A, sequence) != 0 {
+        if crc(&CRC24A, &self.sequence[..a + PARITY]) != 0 {
             return Err(CHECK_WRONG.into());
         }
-        output[..a].copy_from_slice(&sequence[..a]);
+        output[..a].copy_from_slice(&self.sequence[..a]);
         Ok(())
     }
 }

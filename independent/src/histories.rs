@@ -21,7 +21,7 @@ const WORDS: [&str; 9] =
     ["new", "open", "receive", "read", "streams", "close", "build", "sizes", "worst"];
 
 /// The largest refusal number.
-const NUMBERS: usize = 15;
+const NUMBERS: usize = 16;
 
 pub struct Options {
     pub seed: u64,

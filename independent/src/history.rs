@@ -52,6 +52,7 @@ fn history(number: usize, seed: u64) -> History {
         _ if number % 20 == 2 => maker.large(2 + number / 20 % 2),
         _ if number % 40 == 3 => maker.large(1),
         _ if number % 10 == 4 => maker.repeats(),
+        _ if number % 40 == 5 => maker.checks(2 + number / 40 % 2),
         _ => maker.small(),
     }
     // The last line of a comparison lacks its newline, and must show whether it counts.
@@ -100,6 +101,15 @@ impl Car {
     fn version(&self) -> usize {
         self.order[self.sent % 4]
     }
+}
+
+/// What stands where the check of a code block belongs.
+#[derive(Clone, Copy)]
+enum Check {
+    OneBitOff,
+    AllBitsOff,
+    /// CRC24A, as the partner's unit wrote it.
+    TransportKind,
 }
 
 /// What is wrong with a transmission.
@@ -155,6 +165,10 @@ impl Maker {
         self.say(format!("receive 0 7 2 1 0 {}", run(&codeword)));
         self.say("read 0 7");
         self.say("close 0 7");
+        self.say("new 1 2");
+        self.say("open 0 7 6121");
+        self.say(format!("receive 0 7 2 1 0 {}", "1".repeat(18_840)));
+        self.say("read 0 7"); // 16 with 0
     }
 
     /// Lines at their limit and past it, the longest reception and the longest blocks.
@@ -207,6 +221,43 @@ impl Maker {
             self.finish_some();
             let open: Vec<usize> = (0..self.s).filter(|slot| self.cars[*slot].is_some()).collect();
             open.into_iter().for_each(|slot| self.close(slot));
+        }
+    }
+
+    /// Blocks of so many code blocks, heard whole with the check of one of them wrong, of two,
+    /// of all, or with the transport check wrong and no other; filler or none, sometimes zeros
+    /// alone; then heard rightly.
+    fn checks(&mut self, blocks: usize) {
+        let (from, to) = [(6_121, 12_216), (12_217, 18_336)][blocks - 2];
+        self.begin(1, blocks);
+        let all: Vec<usize> = (0..blocks).collect();
+        for wrong in
+            [&all[..0], &all[..1], &all[blocks / 2..][..1], &all[blocks - 1..], &all[blocks - 2..], &all]
+        {
+            let between = self.between(from, to);
+            let a = self.random.choose(&[from, to, between, between]);
+            let terminal = self.random.choose(&TERMINALS);
+            self.open(0, terminal, a);
+            if self.random.below(3) == 0 {
+                self.car_mut(0).block.fill(0);
+            }
+            let check = self.random.choose(&[Check::OneBitOff, Check::AllBitsOff, Check::TransportKind]);
+            let mut b = crc::attach(&self.car(0).block, &crc::CRC24A);
+            if wrong.is_empty() || self.random.below(3) == 0 {
+                b[a] ^= 1; // 12, which comes after 16
+            }
+            let (q, n) = self.allocation();
+            let g = self.car(0).whole(q * n);
+            let version = self.random.below(4);
+            let wrong = wrong.iter().map(|r| (*r, check)).collect::<Vec<_>>();
+            let bits = self.codeword_of(&b, (q * n, version, g), &wrong);
+            self.receive(0, (q, n, version), bits);
+            self.own(0, "read", "");
+            if self.random.below(2) == 0 {
+                let (version, g) = (self.car(0).version(), self.car(0).whole(2));
+                self.hear(0, version, g);
+            }
+            self.close(0);
         }
     }
 
@@ -482,7 +533,11 @@ impl Maker {
             }
             _ => {}
         }
-        let mut bits = codeword_of(&b, symbol, version, g, matches!(slip, Slip::CodeBlockChecks));
+        let wrong = match slip {
+            Slip::CodeBlockChecks => self.some_checks(self.car(slot).segmentation().blocks),
+            _ => Vec::new(),
+        };
+        let mut bits = self.codeword_of(&b, (symbol, version, g), &wrong);
         let flips = match slip {
             Slip::OneBit => 1,
             Slip::ManyBits => 1 + bits.len() / 5,
@@ -493,6 +548,43 @@ impl Maker {
             bits[place] ^= 1;
         }
         bits
+    }
+
+    /// One or more code blocks of several, and what stands for their checks.
+    fn some_checks(&mut self, blocks: usize) -> Vec<(usize, Check)> {
+        if blocks == 1 {
+            return Vec::new();
+        }
+        let chosen = 1 + self.random.below((1 << blocks) - 1);
+        let checks = [Check::OneBitOff, Check::AllBitsOff, Check::TransportKind];
+        let wrong = (0..blocks).filter(|r| chosen >> r & 1 > 0);
+        wrong.map(|r| (r, self.random.choose(&checks))).collect()
+    }
+
+    /// The codeword of a block with its transport check as given, right or wrong; in place of
+    /// the checks of some code blocks something else.
+    fn codeword_of(
+        &mut self,
+        b: &[u8],
+        (symbol, version, g): (usize, usize, usize),
+        wrong: &[(usize, Check)],
+    ) -> Vec<u8> {
+        let s = Segmentation::of(b.len());
+        let shares = rate::shares(g, symbol, s.blocks);
+        let mut codeword = Vec::new();
+        let mut code_blocks = segmentation::code_blocks(b, &s);
+        for &(r, check) in wrong {
+            let (data, parity) = code_blocks[r].split_at_mut(s.size(r) - s.parity);
+            match check {
+                Check::OneBitOff => parity[self.random.below(s.parity)] ^= 1,
+                Check::AllBitsOff => parity.iter_mut().for_each(|bit| *bit ^= 1),
+                Check::TransportKind => parity.copy_from_slice(&crc::parity(data, &crc::CRC24A)),
+            }
+        }
+        for (r, c) in code_blocks.into_iter().enumerate() {
+            codeword.extend(rate::match_block(&turbo::encode(&c, s.filler_in(r)), version, shares[r]));
+        }
+        codeword
     }
 
     /// 3, 4, 2, or several of them at once.
@@ -688,6 +780,10 @@ impl Maker {
         self.cars[slot].as_ref().expect("a step on an open slot")
     }
 
+    fn car_mut(&mut self, slot: usize) -> &mut Car {
+        self.cars[slot].as_mut().expect("a step on an open slot")
+    }
+
     fn between(&mut self, from: usize, to: usize) -> usize {
         from + self.random.below(to - from + 1)
     }
@@ -703,20 +799,4 @@ impl Maker {
     fn bits(&mut self, length: usize) -> String {
         run(&self.block(length))
     }
-}
-
-/// The codeword of a block with its transport check as given, right or wrong; the checks of
-/// code blocks wrong if asked for.
-fn codeword_of(b: &[u8], symbol: usize, version: usize, g: usize, wrong_checks: bool) -> Vec<u8> {
-    let s = Segmentation::of(b.len());
-    let mut codeword = Vec::new();
-    let shares = rate::shares(g, symbol, s.blocks);
-    for (r, mut c) in segmentation::code_blocks(b, &s).into_iter().enumerate() {
-        if wrong_checks && s.blocks > 1 {
-            let parity = c.len() - s.parity;
-            c[parity..].iter_mut().for_each(|bit| *bit ^= 1);
-        }
-        codeword.extend(rate::match_block(&turbo::encode(&c, s.filler_in(r)), version, shares[r]));
-    }
-    codeword
 }

@@ -17,9 +17,9 @@
 //! ```
 //!
 //! Fields of an answer are parted by one tab. A refusal is `refused`, the number, and the
-//! count with 11; a line that can't be read is refused with 15 and changes nothing. An empty
-//! line and one that begins with `#` have no answer. Before the first `new` the state is that
-//! of a refused New. The store has room for S * M = 3, begins as zeros and is never cleared.
+//! count with 11 or the code block with 16; a line that can't be read is refused with 15 and
+//! changes nothing. An empty line and one that begins with `#` have no answer. Before the
+//! first `new` the state is that of a refused New. The store has room for S * M = 3, begins as zeros and is never cleared.
 
 use crate::codeword;
 use crate::sizes::{self, UNREADABLE};
@@ -200,6 +200,7 @@ pub fn text(outcome: Outcome) -> String {
     match outcome {
         Ok(fields) => fields.into_iter().fold("ok".to_string(), |line, field| line + "\t" + &field),
         Err(Refusal::Lacking(count)) => format!("refused\t{}\t{count}", slots::LACKING),
+        Err(Refusal::CodeBlockWrong(r)) => format!("refused\t{}\t{r}", slots::CODE_BLOCK_WRONG),
         Err(Refusal::Number(number)) => format!("refused\t{number}"),
     }
 }

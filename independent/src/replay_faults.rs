@@ -27,8 +27,12 @@ pub enum Fault {
     AlwaysVersion0,
     RefusedStores,
     CheckSkipped,
-    CodeBlockChecks,
-    CodeBlockChecksAlone,
+    BlockChecksSkipped,
+    BlockChecksAlone,
+    LastWrongBlock,
+    TransportCheckFirst,
+    TransportKindOnBlocks,
+    SingleBlockCompared,
     FillerUnheard,
     FirstBlockAlone,
     NoShortSize,
@@ -47,7 +51,7 @@ pub enum Fault {
 use Fault::*;
 
 /// The faults by their names.
-pub const FAULTS: [(&str, Fault); 33] = [
+pub const FAULTS: [(&str, Fault); 37] = [
     ("open_keeps", OpenKeeps),                     // open does not clear the room: June
     ("open_clears_one_block", OpenClearsOneBlock), // or its first code block alone
     ("first_bit_stays", FirstBitStays),            // a later bit does not replace an earlier one
@@ -66,8 +70,12 @@ pub const FAULTS: [(&str, Fault); 33] = [
     ("always_version_0", AlwaysVersion0),          // every reception is taken as version 0
     ("refused_stores", RefusedStores),             // a reception refused with 2 is stored
     ("check_skipped", CheckSkipped),               // the transport check is not looked at
-    ("code_block_checks", CodeBlockChecks),        // CRC24B is compared too
-    ("code_block_checks_alone", CodeBlockChecksAlone), // CRC24B is compared in CRC24A's stead, for C above 1
+    ("block_checks_skipped", BlockChecksSkipped),  // CRC24B is not compared: the partner's unit
+    ("block_checks_alone", BlockChecksAlone),      // CRC24B is compared in CRC24A's stead, for C above 1
+    ("last_wrong_block", LastWrongBlock),          // 16 comes with the last wrong code block
+    ("transport_check_first", TransportCheckFirst), // 12 before 16
+    ("transport_kind_on_blocks", TransportKindOnBlocks), // CRC24A is compared where CRC24B belongs
+    ("single_block_compared", SingleBlockCompared), // CRC24B is compared for C = 1 too
     ("filler_unheard", FillerUnheard),             // streams gives 2 for absent filler
     ("first_block_alone", FirstBlockAlone),        // streams gives code block 0 whichever is asked
     ("no_short_size", NoShortSize),                // K- is 0 wherever there are no short blocks
@@ -277,14 +285,33 @@ impl Spoiled {
         self.sound.store = store;
         match (self.fault, &outcome) {
             (CheckSkipped, Err(Refusal::Number(slots::CHECK_WRONG))) => self.unchecked(slot, terminal),
-            (CodeBlockChecks | CodeBlockChecksAlone, Ok(_)) if !self.blocks_check(slot, terminal)? => {
-                Err(slots::CHECK_WRONG.into())
-            }
-            (CodeBlockChecksAlone, Err(Refusal::Number(slots::CHECK_WRONG)))
-                if sizes(self.sound.state.heads[slot].a)?.blocks > 1
-                    && self.blocks_check(slot, terminal)? =>
+            (BlockChecksSkipped, Err(Refusal::CodeBlockWrong(_))) => self.transport_checked(slot, terminal),
+            (BlockChecksAlone, Err(Refusal::Number(slots::CHECK_WRONG)))
+                if sizes(self.sound.state.heads[slot].a)?.blocks > 1 =>
             {
                 self.unchecked(slot, terminal)
+            }
+            (LastWrongBlock, Err(Refusal::CodeBlockWrong(_))) => {
+                let wrong = self.wrong_blocks(slot, terminal, &crc::CRC24B)?;
+                Err(Refusal::CodeBlockWrong(wrong[wrong.len() - 1]))
+            }
+            (TransportCheckFirst, Err(Refusal::CodeBlockWrong(_))) => {
+                self.transport_checked(slot, terminal).and(outcome)
+            }
+            (TransportKindOnBlocks, Ok(_) | Err(Refusal::CodeBlockWrong(_))) => {
+                match self.wrong_blocks(slot, terminal, &crc::CRC24A)?[..] {
+                    [first, ..] => Err(Refusal::CodeBlockWrong(first)),
+                    [] => self.transport_checked(slot, terminal),
+                }
+            }
+            (SingleBlockCompared, Ok(_)) if sizes(self.sound.state.heads[slot].a)?.blocks == 1 => {
+                let block: Vec<u8> =
+                    self.data_runs(slot, terminal)?.concat().bytes().map(|digit| digit - b'0').collect();
+                let (data, parity) = block.split_at(block.len() - 4 - 24);
+                match crc::parity(data, &crc::CRC24B) == parity[..24] {
+                    true => outcome,
+                    false => Err(Refusal::CodeBlockWrong(0)),
+                }
             }
             (TailsCounted, Err(Refusal::Lacking(_))) => Err(Refusal::Lacking(self.unheard(slot, terminal)?)),
             _ => self.ownership(terminal, outcome),
@@ -358,24 +385,45 @@ impl Spoiled {
         Ok(self.data_runs(slot, terminal)?.concat().matches('2').count())
     }
 
-    /// Whether CRC24B is right in every code block that has it.
-    fn blocks_check(&mut self, slot: usize, terminal: u16) -> Result<bool, Refusal> {
+    /// The code blocks, if there are several, that do not end in a check of this kind.
+    fn wrong_blocks(
+        &mut self,
+        slot: usize,
+        terminal: u16,
+        kind: &crc::Generator,
+    ) -> Result<Vec<usize>, Refusal> {
         let s = sizes(self.sound.state.heads[slot].a)?;
-        let right = |(r, run): (usize, &String)| {
+        let wrong = |r: usize, run: &String| {
             let c: Vec<u8> = run.bytes().take(s.size(r)).map(|digit| digit - b'0').collect();
             let (data, parity) = c.split_at(c.len() - s.parity);
-            s.parity == 0 || crc::parity(data, &crc::CRC24B) == parity
+            s.parity > 0 && crc::parity(data, kind) != parity
         };
-        Ok(self.data_runs(slot, terminal)?.iter().enumerate().all(right))
+        let runs = self.data_runs(slot, terminal)?;
+        Ok(runs.iter().enumerate().filter(|(r, run)| wrong(*r, run)).map(|(r, _)| r).collect())
+    }
+
+    /// The A bits on the transport check alone.
+    fn transport_checked(&mut self, slot: usize, terminal: u16) -> Outcome {
+        let a = self.sound.state.heads[slot].a;
+        let bits: Vec<u8> = self.sequence(slot, terminal)?.bytes().map(|digit| digit - b'0').collect();
+        match crc::parity(&bits[..a], &crc::CRC24A) == bits[a..] {
+            true => self.unchecked(slot, terminal),
+            false => Err(slots::CHECK_WRONG.into()),
+        }
+    }
+
+    /// The block and its transport check as they were heard.
+    fn sequence(&mut self, slot: usize, terminal: u16) -> Result<String, Refusal> {
+        let s = sizes(self.sound.state.heads[slot].a)?;
+        let runs = self.data_runs(slot, terminal)?;
+        let parts = runs.iter().enumerate().map(|(r, run)| &run[s.filler_in(r)..s.size(r) - s.parity]);
+        Ok(parts.collect())
     }
 
     /// The A bits whatever the check says.
     fn unchecked(&mut self, slot: usize, terminal: u16) -> Outcome {
         let a = self.sound.state.heads[slot].a;
-        let s = sizes(a)?;
-        let runs = self.data_runs(slot, terminal)?;
-        let parts = runs.iter().enumerate().map(|(r, run)| &run[s.filler_in(r)..s.size(r) - s.parity]);
-        Ok(vec![parts.collect::<String>()[..a].to_string()])
+        Ok(vec![self.sequence(slot, terminal)?[..a].to_string()])
     }
 }
 

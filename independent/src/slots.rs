@@ -33,6 +33,9 @@ pub const CHECK_WRONG: u8 = 12;
 pub const BAD_STATE: u8 = 13;
 pub const BAD_CODE_BLOCK: u8 = 14;
 
+/// The refusal number of 02, E1.
+pub const CODE_BLOCK_WRONG: u8 = 16;
+
 /// One slot's head: closed, or open with a terminal number and A.
 #[derive(Clone, Copy, Debug, Default, PartialEq, Eq)]
 pub struct Head {
@@ -52,10 +55,12 @@ pub struct State {
 /// What a call refuses with.
 #[derive(Clone, Copy, Debug, PartialEq, Eq)]
 pub enum Refusal {
-    /// Any number of 01 but 11.
+    /// Any number but 11 and 16.
     Number(u8),
     /// Number 11, with how many data places lack a bit.
     Lacking(usize),
+    /// Number 16, with the first code block whose check is wrong.
+    CodeBlockWrong(usize),
 }
 
 impl Refusal {
@@ -63,6 +68,7 @@ impl Refusal {
         match self {
             Refusal::Number(number) => number,
             Refusal::Lacking(_) => LACKING,
+            Refusal::CodeBlockWrong(_) => CODE_BLOCK_WRONG,
         }
     }
 }
@@ -165,7 +171,8 @@ fn may_receive(
     Ok(segmentation)
 }
 
-/// Read: A bits into the first A bytes of the output, on the transport check alone.
+/// Read: A bits into the first A bytes of the output, on the checks of the code blocks, where
+/// there are several, and on the transport check.
 pub fn read(state: State, store: &[u8], slot: usize, terminal: u16, output: &mut [u8]) -> (State, Answer) {
     let block = released(&state, store, slot, terminal, output.len());
     (state, block.map(|block| output[..block.len()].copy_from_slice(&block)))
@@ -193,9 +200,13 @@ fn released(
     let mut b = Vec::new();
     for r in 0..segmentation.blocks {
         let heard = data_places(&segmentation, r).into_iter().map(|place| room[place]);
-        let mut c: Vec<u8> = heard.collect();
-        c.truncate(c.len() - segmentation.parity);
-        b.extend(c);
+        let mut c = vec![0; segmentation.filler_in(r)];
+        c.extend(heard);
+        let parity = c.split_off(c.len() - segmentation.parity);
+        if segmentation.blocks > 1 && parity != crc::parity(&c, &crc::CRC24B) {
+            return Err(Refusal::CodeBlockWrong(r));
+        }
+        b.extend(&c[segmentation.filler_in(r)..]);
     }
     let parity = b.split_off(a);
     if parity != crc::parity(&b, &crc::CRC24A) {

@@ -2,10 +2,14 @@
 //! and bytes.
 
 use independent::codeword::{build, G_MAX};
+use independent::crc;
 use independent::fast_slots::{self, Workspace};
+use independent::rate;
+use independent::segmentation::{self, Segmentation};
 use independent::sizes::sizes;
 use independent::slots::{self, Head, Refusal, State, ROOM_OF_BLOCK, UNHEARD};
 use independent::table::TABLE;
+use independent::turbo;
 use independent::xorshift::{self, Generator};
 
 const CAR: u16 = 7;
@@ -117,7 +121,9 @@ fn every_number_of_code_blocks_allocation_and_version() {
 
 #[test]
 fn several_turns_and_the_longest_reception() {
-    for (case, a) in [1, 2, 15, 16, 17, 40, 488, 489, 1_000, 6_120, 6_121, 12_217, 30_576].into_iter().enumerate() {
+    for (case, a) in
+        [1, 2, 15, 16, 17, 40, 488, 489, 1_000, 6_120, 6_121, 12_217, 30_576].into_iter().enumerate()
+    {
         for version in 0..4 {
             let (q, n) = ([2, 4, 6][(case + version) % 3], 1 + (case + version / 2) % 4);
             let g = allowed(5 * mother_code(a) / 2, q, n, a);
@@ -158,15 +164,69 @@ fn other_rooms_and_what_they_hold() {
 #[test]
 fn a_damaged_bit_is_refused_by_both() {
     // Code blocks of one size, so that every share is a whole turn.
-    for a in [40, 12_216] {
+    for (a, refusal) in [(40, Refusal::Number(12)), (12_216, Refusal::CodeBlockWrong(0))] {
         let block = xorshift::block(a, 1);
         let mut bits = build(&block, 2, 1, 0, mother_code(a)).unwrap();
         bits[0] ^= 1;
         let mut both = Both::of(a);
         assert_eq!(both.receive([2, 1, 0], &bits), Ok(0));
-        assert_eq!(both.read(a), Err(Refusal::Number(12)));
+        assert_eq!(both.read(a), Err(refusal));
         bits[1] = 2;
         assert_eq!(both.receive([2, 1, 0], &bits), Err(Refusal::Number(2)));
+    }
+}
+
+/// The codeword of a block with its transport check as given, one turn of each circle, with
+/// something else for the checks of some code blocks.
+fn with_checks(b: &[u8], wrong: &[usize], check: impl Fn(&[u8], &mut [u8])) -> Vec<u8> {
+    let s = Segmentation::of(b.len());
+    let mut code_blocks = segmentation::code_blocks(b, &s);
+    for r in wrong {
+        let (data, parity) = code_blocks[*r].split_at_mut(s.size(*r) - 24);
+        check(data, parity);
+    }
+    let shares = rate::shares(s.blocks * 3 * (s.long + 4), 2, s.blocks);
+    let sent = code_blocks.iter().enumerate();
+    sent.flat_map(|(r, c)| rate::match_block(&turbo::encode(c, s.filler_in(r)), 0, shares[r])).collect()
+}
+
+#[test]
+fn the_first_wrong_code_block_is_named() {
+    // With filler in block 0 and without, of two, three and five code blocks.
+    for a in [6_121, 12_216, 12_217, 18_336, 30_576] {
+        let last = sizes(a).unwrap().blocks - 1;
+        for block in [xorshift::block(a, 2), vec![0; a]] {
+            let b = crc::attach(&block, &crc::CRC24A);
+            let mut off = b.clone();
+            off[a] ^= 1;
+            for wrong in [&[0][..], &[last / 2], &[last], &[0, last], &[last - 1, last]] {
+                for b in [&b, &off] {
+                    let mut both = Both::of(a);
+                    let bits = with_checks(b, wrong, |_, parity| parity[23] ^= 1);
+                    assert_eq!(both.receive([2, 1, 0], &bits), Ok(0));
+                    assert_eq!(both.read(a), Err(Refusal::CodeBlockWrong(wrong[0])));
+                }
+            }
+            let mut both = Both::of(a);
+            assert_eq!(both.receive([2, 1, 0], &with_checks(&off, &[], |_, _| ())), Ok(0));
+            assert_eq!(both.read(a), Err(Refusal::Number(12)));
+        }
+    }
+}
+
+#[test]
+fn the_partner_s_check_is_seen_but_on_zeros() {
+    let a = 6_121;
+    let both_wrong =
+        |data: &[u8], parity: &mut [u8]| parity.copy_from_slice(&crc::parity(data, &crc::CRC24A));
+    for (block, answer) in [
+        (xorshift::block(a, 1), Err(Refusal::CodeBlockWrong(0))),
+        (vec![0; a], Ok(vec![0; a])), // both checks of zeros are zeros
+    ] {
+        let bits = with_checks(&crc::attach(&block, &crc::CRC24A), &[0, 1], both_wrong);
+        let mut both = Both::of(a);
+        assert_eq!(both.receive([2, 1, 0], &bits), Ok(0));
+        assert_eq!(both.read(a), answer);
     }
 }
 
@@ -178,7 +238,11 @@ fn refusals_in_their_order() {
     for _ in 0..20_000 {
         let mut state = State { s: random.below(10), m: random.below(7), ..State::default() };
         for at in &mut state.heads {
-            *at = head(random.below(2) == 0, random.below(2) as u16, [40, sizes[random.below(7)]][random.below(2)]);
+            *at = head(
+                random.below(2) == 0,
+                random.below(2) as u16,
+                [40, sizes[random.below(7)]][random.below(2)],
+            );
         }
         let mut literal = vec![FILL; random.below(9) * random.below(6) * ROOM_OF_BLOCK];
         let mut quick = literal.clone();
@@ -192,6 +256,10 @@ fn refusals_in_their_order() {
         let mut output = vec![FILL; [0, 39, 40, 30_576][random.below(4)]];
         let answer = slots::read(state, &literal, slot, terminal, &mut output).1;
         let mut output = vec![FILL; output.len()];
-        assert_eq!(Workspace::default().read(&state, &quick, slot, terminal, &mut output), answer, "{state:?}");
+        assert_eq!(
+            Workspace::default().read(&state, &quick, slot, terminal, &mut output),
+            answer,
+            "{state:?}"
+        );
     }
 }

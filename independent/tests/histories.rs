@@ -136,9 +136,9 @@ fn the_first_history_meets_every_refusal() {
     let answers = all(1, 1)[0].iter().filter_map(|line| replay.answer(line)).collect::<Vec<String>>();
     let numbers = answers.iter().filter_map(|answer| answer.strip_prefix("refused\t"));
     let expected =
-        ["13", "13", "5", "6", "8", "1", "10", "7", "9", "11\t40", "3", "4", "2", "14", "12", "15"];
+        ["13", "13", "5", "6", "8", "1", "10", "7", "9", "11\t40", "3", "4", "2", "14", "12", "15", "16\t0"];
     assert_eq!(numbers.collect::<Vec<&str>>(), expected);
-    assert_eq!(answers.iter().filter(|answer| answer.starts_with("ok")).count(), answers.len() - 16);
+    assert_eq!(answers.iter().filter(|answer| answer.starts_with("ok")).count(), answers.len() - 17);
 }
 
 /// What a comparison meets, by the answers of this program: a kind and C, counted.
@@ -180,7 +180,7 @@ fn every_answer_is_met() {
         ("new", &[13]),
         ("open", &[13, 5, 6, 7, 1, 10]),
         ("receive", &[13, 5, 6, 8, 9, 3, 4, 2]),
-        ("read", &[13, 5, 6, 8, 9, 11, 12]),
+        ("read", &[13, 5, 6, 8, 9, 11, 16, 12]),
         ("streams", &[13, 5, 8, 9, 14]),
         ("close", &[13, 6, 8, 9]),
         ("build", &[1, 3, 4, 2]),
@@ -199,6 +199,8 @@ fn every_answer_is_met() {
         for kind in ["open ok", "receive ok", "read ok", "read refused 11", "read refused 12", "streams ok"] {
             assert!(count(kind) >= 10, "{kind} with C = {blocks}: {}", count(kind));
         }
+        let wrong = count("read refused 16");
+        assert!(if blocks == 1 { wrong == 0 } else { wrong >= 100 }, "16 with C = {blocks}: {wrong}");
     }
 }
 

@@ -2,8 +2,12 @@
 //! lines are parted.
 
 use independent::codeword::build;
+use independent::crc;
+use independent::rate;
 use independent::replay::{run as digits, Call, Replay, LINE_MAX, STORE};
 use independent::replay_faults::run;
+use independent::segmentation::{self, Segmentation};
+use independent::turbo;
 use independent::xorshift;
 use std::io::{BufReader, Read};
 use std::process::{Command, Stdio};
@@ -100,6 +104,9 @@ fn receptions_that_are_refused() {
     let ones = format!("receive 0 7 2 1 0 {}", "1".repeat(132));
     assert_eq!(last(&[OPEN[0], OPEN[1], &ones]), "ok\t0");
     assert_eq!(last(&[OPEN[0], OPEN[1], &ones, "read 0 7"]), "refused\t12");
+    // Of two code blocks, both of all ones, the first is named.
+    let ones = format!("receive 0 7 2 1 0 {}", "1".repeat(18_840));
+    assert_eq!(last(&["new 1 2", "open 0 7 6121", &ones, "read 0 7"]), "refused\t16\t0");
 }
 
 #[test]
@@ -386,4 +393,43 @@ fn each_answer_comes_at_once() {
     }
     drop(input);
     assert!(child.wait().unwrap().success());
+}
+
+fn example(name: &str) -> String {
+    std::fs::read_to_string(format!("{}/../examples/{name}", env!("CARGO_MANIFEST_DIR"))).unwrap()
+}
+
+#[test]
+fn the_stories_are_answered_as_they_say() {
+    for name in ["june", "partner"] {
+        let (log, answers) = (example(&format!("{name}.txt")), example(&format!("{name}-answers.txt")));
+        let mut replay = Replay::default();
+        let given: Vec<String> = log.lines().filter_map(|line| replay.answer(line.as_bytes())).collect();
+        assert!(given == answers.lines().collect::<Vec<&str>>(), "{name}");
+    }
+}
+
+/// The partner's first transmission is that of the block built later, with CRC24A on its code blocks.
+#[test]
+fn the_partner_s_unit_writes_the_other_check() {
+    let log = example("partner.txt");
+    let runs = |call: &str| {
+        let lines = log.lines().filter(|line| line.starts_with(call));
+        lines.map(|line| bits(line.rsplit(' ').next().unwrap())).collect::<Vec<_>>()
+    };
+    let (block, received) = (&runs("build")[0], runs("receive"));
+    let b = crc::attach(block, &crc::CRC24A);
+    let s = Segmentation::of(b.len());
+    let shares = rate::shares(received[0].len(), 2, s.blocks);
+    let mut sent = Vec::new();
+    for (r, mut c) in segmentation::code_blocks(&b, &s).into_iter().enumerate() {
+        let (data, parity) = c.split_at_mut(s.size(r) - s.parity);
+        parity.copy_from_slice(&crc::parity(data, &crc::CRC24A));
+        sent.extend(rate::match_block(&turbo::encode(&c, s.filler_in(r)), 0, shares[r]));
+    }
+    assert!(received == [sent, build(block, 2, 1, 0, received[0].len()).unwrap()]);
+}
+
+fn bits(run: &str) -> Vec<u8> {
+    run.bytes().map(|digit| digit - b'0').collect()
 }

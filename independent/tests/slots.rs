@@ -114,7 +114,7 @@ fn a_later_bit_replaces_an_earlier_one() {
 }
 
 #[test]
-fn code_block_parity_must_be_heard_but_is_not_compared() {
+fn code_block_parity_must_be_heard_and_is_compared() {
     let block = xorshift::block(6_121, 6);
     let (state, mut store) = opened(6_121);
     let g = 2 * 3 * 3_140;
@@ -128,7 +128,7 @@ fn code_block_parity_must_be_heard_but_is_not_compared() {
     assert!(parity.len() >= 48);
     parity.iter().for_each(|at| bits[*at] ^= 1);
     assert_eq!(receive(state, &mut store, 0, CAR, 2, 1, 0, &bits), (state, Ok(0)));
-    assert_eq!(block_read(state, &store, 6_121), Ok(block));
+    assert_eq!(block_read(state, &store, 6_121), Err(Refusal::CodeBlockWrong(0)));
     // Everything but the last parity bits: as many data places are lacking as were cut off.
     let (state, mut store) = opened(6_121);
     let short = &bits[..2 * (parity[0] / 2)];

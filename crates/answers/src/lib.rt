@@ -13,9 +13,6 @@ ghost use Rattle.answers.specs.Rows.{digitsOf, answerRow, refusalRow, ru
 ghost use Rattle.answers.specs.SizesRow.{sizesRow};
 ghost use Rattle.answers.specs.WorstRow.{worstRow};
 
-// The number of a read that lacks bits.
-const LACKING: usize = 11;
-
 const ZERO: u8 = 48;
 
 // The room of a word with its tab and of six numbers, each with its tab or newline: 8 + 6 * 21.
@@ -35,11 +32,12 @@ pub fn put_answer(answer: Answer, out: &mut [u8]) -> usize
             let numbers = [lacking];
             put_told(b"ok\t", &numbers, out)
         }
-        Answer::Lacking(lacking) => {
-            let numbers = [LACKING, lacking];
+        Answer::Refused(number) => put_refusal(number as usize, out),
+        Answer::RefusedWith(number, value) => {
+            let refusal = number as usize;
+            let numbers = [refusal, value];
             put_told(b"refused\t", &numbers, out)
         }
-        Answer::Refused(number) => put_refusal(number as usize, out),
     }
 }
 

@@ -13,6 +13,6 @@ use Rattle.slots.specs.Answers.{valuesOf}
 unfoldable pub openSlot : ℕ → ℕ → State
 openSlot M A = withHead (newState 1 M) 0 (record { opened = true; terminal = 0; size = A })
 
--- how many data places an answer tells to lack a bit, over what stood there before
-unfoldable pub countOf : Answer → ℕ → ℕ
-countOf answer before = getD (valuesOf answer) 0 before
+-- the number that comes with an answer, over what stood there before
+unfoldable pub valueOf : Answer → ℕ → ℕ
+valueOf answer before = getD (valuesOf answer) 0 before

@@ -6,7 +6,7 @@ ghost use mathlib.Core.Path.{_≡_};
 ghost use lib.ListN.{length};
 ghost use Rattle.slots.specs.Calls.{receiveOutcome, receiveStore, readOutcome, readOutput};
 ghost use Rattle.slots.specs.Answers.{numberOf};
-ghost use Rattle.heard.specs.Slot.{openSlot, countOf};
+ghost use Rattle.heard.specs.Slot.{openSlot, valueOf};
 
 // The state after New for one slot of m code blocks and Open of it for terminal 0 with a block of `a` bits.
 fn open_slot(m: usize, a: usize) -> State
@@ -37,20 +37,20 @@ fn number(answer: Answer) -> u32
     match answer {
         Answer::Done => 0,
         Answer::Heard(_) => 0,
-        Answer::Lacking(_) => 11,
         Answer::Refused(number) => number as u32,
+        Answer::RefusedWith(number, _) => number as u32,
     }
 }
 
-// How many data places lack a bit, where the answer tells it; else what stood there before.
-fn count(answer: Answer, before: usize) -> usize
-    ensures { λ r. ⌜ r ≡ countOf answer before ⌝ }
+// The number that comes with an answer, where one does; else what stood there before.
+fn value(answer: Answer, before: usize) -> usize
+    ensures { λ r. ⌜ r ≡ valueOf answer before ⌝ }
 {
     match answer {
         Answer::Done => before,
-        Answer::Heard(lacking) => lacking,
-        Answer::Lacking(lacking) => lacking,
+        Answer::Heard(value) => value,
         Answer::Refused(_) => before,
+        Answer::RefusedWith(_, value) => value,
     }
 }
 
@@ -69,30 +69,30 @@ pub extern "C" fn heard_receive(
     ensures number { λ r. ⌜ r ≡ numberOf (receiveOutcome (openSlot m a) 0 0 q n version (now (bits .entry)) (now (store .entry)) .answer) ⌝ }
     ensures stored { λ r. ⌜ now (store .exit) ≡ receiveStore (openSlot m a) 0 0 q n version (now (bits .entry)) (now (store .entry)) ⌝ }
     ensures count { λ r. ⌜ now (lacking .exit)
-        ≡ countOf (receiveOutcome (openSlot m a) 0 0 q n version (now (bits .entry)) (now (store .entry)) .answer) (now (lacking .entry)) ⌝ }
+        ≡ valueOf (receiveOutcome (openSlot m a) 0 0 q n version (now (bits .entry)) (now (store .entry)) .answer) (now (lacking .entry)) ⌝ }
 {
     let outcome = reception::receive(open_slot(m, a), 0, 0, q, n, version, bits, store);
     let answer = outcome.answer;
-    *lacking = count(answer, *lacking);
+    *lacking = value(answer, *lacking);
     number(answer)
 }
 
-// Read: 0 with the block in `out`, 11 with the count in `lacking`, or the number of another refusal.
+// Read: 0 with the block in `out`, 11 with the count or 16 with the code block in `told`, or the number of another refusal.
 #[no_mangle]
 pub extern "C" fn heard_read(
     m: usize,
     a: usize,
     store: &[u8],
     out: &mut [u8],
-    lacking: &mut usize,
+    told: &mut usize,
 ) -> u32
     ensures number { λ r. ⌜ r ≡ numberOf (readOutcome (openSlot m a) (now (store .entry)) 0 0 (length (now (out .entry))) .answer) ⌝ }
     ensures output { λ r. ⌜ now (out .exit) ≡ readOutput (openSlot m a) (now (store .entry)) 0 0 (now (out .entry)) ⌝ }
-    ensures count { λ r. ⌜ now (lacking .exit)
-        ≡ countOf (readOutcome (openSlot m a) (now (store .entry)) 0 0 (length (now (out .entry))) .answer) (now (lacking .entry)) ⌝ }
+    ensures told { λ r. ⌜ now (told .exit)
+        ≡ valueOf (readOutcome (openSlot m a) (now (store .entry)) 0 0 (length (now (out .entry))) .answer) (now (told .entry)) ⌝ }
 {
     let outcome = reading::read(open_slot(m, a), 0, 0, store, out);
     let answer = outcome.answer;
-    *lacking = count(answer, *lacking);
+    *told = value(answer, *told);
     number(answer)
 }

@@ -1,7 +1,7 @@
 -- What an answer depends on, 01 'Slots': the arguments, S, M, the lent lengths, this head and this room, and through number 13 the other heads.
 -- Assumes nothing.
 use mathlib.Core.Path.{_≡_, refl, sym, _∙_, ap, ap₂, subst, subst₂}
-use mathlib.Core.Bool.{Bool, true, false, cond, not}
+use mathlib.Core.Bool.{Bool, true, false, cond}
 use mathlib.Core.List.{List, _++_}
 use Prim.Native.Nat.{ℕ, _+_, _*_, _≤_, _<_}
 use native.Mathlib.Decide.{decLt}
@@ -12,16 +12,16 @@ use borrow.Author.Tests.{eqb-true}
 use Rattle.segmentation.specs.Segmentation.{blocks, sizeOf}
 use Rattle.segmentation.specs.Sizes.{badSize}
 use Rattle.slots.specs.declared.Answer.{Answer}
-use Rattle.slots.specs.declared.Answer.the-variants.{Done, Heard, Lacking, Refused}
+use Rattle.slots.specs.declared.Answer.the-variants.{Heard, Refused}
 use Rattle.slots.specs.declared.Head.{Head}
 use Rattle.slots.specs.declared.Outcome.{Outcome}
 use Rattle.slots.specs.declared.State.{State}
 use Rattle.slots.specs.State.{storeLength, closedHead, roomLength, roomStart, headAt, badState}
-use Rattle.slots.specs.Answers.{unlessRefused}
+use Rattle.slots.specs.Answers.{isDone, unlessRefused}
 use Rattle.slots.specs.Room.{cleared}
 use Rattle.slots.specs.Reception.{received}
-use Rattle.slots.specs.Reading.{lacking, wrongCheck, heardBlock, threeStreams}
-use Rattle.slots.specs.Calls.{withHead, storeRules, ownerRules, sizeAtHead, openNumber, openOutcome, receiveNumber, receiveOutcome, readNumber, lackingAt, wrongAt, readOutcome, released, readOutput, streamsNumber, streamsOutcome, streamsOutput, closeNumber, closeOutcome}
+use Rattle.slots.specs.Reading.{lacking, heardAnswer, heardBlock, threeStreams}
+use Rattle.slots.specs.Calls.{withHead, storeRules, ownerRules, sizeAtHead, openNumber, openOutcome, receiveNumber, receiveOutcome, readNumber, readOutcome, released, readOutput, streamsNumber, streamsOutcome, streamsOutput, closeNumber, closeOutcome}
 use Rattle.slots.proofs.RoomLaws.{room-within, cleared-in}
 use Rattle.slots.proofs.HeadLaws.{open-size, its-head, no-head, closed-head}
 use Rattle.slots.proofs.Acceptance.{receives, reads, streams}
@@ -30,14 +30,14 @@ use Rattle.history.specs.Run.{outcomeOf, storeAfterCall}
 use Rattle.history.specs.Accepted.{headsAfterCall}
 use Rattle.history.specs.Answered.{answerTo, slotOf, SameRoom, SameSlot}
 use Rattle.history.proofs.State.{room-lent, open-writes, receive-writes}
-use Rattle.history.proofs.SameRoom.{same-lacking, same-wrong, same-block, same-streams, same-received}
+use Rattle.history.proofs.SameRoom.{same-lacking, same-answer, same-block, same-streams, same-received}
 use Rattle.history.proofs.Others.{reception-fits}
 
 -- the same number, and where it is 0 the same answer
-same-answer : (number number′ : ℕ) (state state′ : State) (o o′ : Outcome) → number ≡ number′ → (number ≡ 0 → o .answer ≡ o′ .answer)
+same-given : (number number′ : ℕ) (state state′ : State) (o o′ : Outcome) → number ≡ number′ → (number ≡ 0 → o .answer ≡ o′ .answer)
     → unlessRefused number state o .answer ≡ unlessRefused number′ state′ o′ .answer
 unfolding unlessRefused
-same-answer number number′ state state′ o o′ e f = rw (← e) (go (eqb number 0) refl)
+same-given number number′ state state′ o o′ e f = rw (← e) (go (eqb number 0) refl)
   where
     go : (b : Bool) → eqb number 0 ≡ b
         → cond b o (record { answer = Refused number; state = state }) .answer ≡ cond b o′ (record { answer = Refused number; state = state′ }) .answer
@@ -94,13 +94,8 @@ module _ (slot : ℕ) (state other : State) (store otherStore : List ℕ) (same 
         law (state .blocks) slot (sizeAtHead state slot) (size .0) (size .1) store otherStore (same .room)
         ∙ ap₂ (λ (M A : ℕ). f M slot A otherStore) (same .blocks) same-size
 
-    same-lackingAt : lackingAt state slot store ≡ lackingAt other slot otherStore
-    unfolding lackingAt
-    same-lackingAt = at-slot lacking same-lacking
-
-    same-wrongAt : wrongAt state slot store ≡ wrongAt other slot otherStore
-    unfolding wrongAt
-    same-wrongAt = at-slot wrongCheck same-wrong
+    same-answerAt : heardAnswer (state .blocks) slot (sizeAtHead state slot) store ≡ heardAnswer (other .blocks) slot (sizeAtHead other slot) otherStore
+    same-answerAt = at-slot heardAnswer same-answer
 
     same-blockAt : heardBlock (state .blocks) slot (sizeAtHead state slot) store ≡ heardBlock (other .blocks) slot (sizeAtHead other slot) otherStore
     same-blockAt = at-slot heardBlock same-block
@@ -183,24 +178,15 @@ module _ (slot : ℕ) (state other : State) (store otherStore : List ℕ) (same 
 
   pub answer-depends : (call : Call) → slotOf call ≡ slot → answerTo state store call ≡ answerTo other otherStore call
   unfolding answerTo outcomeOf slotOf storeAfterCall openOutcome receiveOutcome readOutcome streamsOutcome closeOutcome
-  answer-depends (opening s terminal A) e = rw e (same-answer _ _ state other _ _ (same-open A) (λ z. refl))
+  answer-depends (opening s terminal A) e = rw e (same-given _ _ state other _ _ (same-open A) (λ z. refl))
   answer-depends (receiving s terminal x) e =
-      rw e (same-answer _ _ state other _ _ (same-receive terminal (x .Q) (x .N) (x .version) (x .bits)) (λ z. ap Heard (same-heard terminal x z)))
-  answer-depends (reading s terminal size) e = rw e (same-answer _ _ state other _ _ (same-read terminal size) read)
-    where
-      read : readNumber state (length store) slot terminal size ≡ 0
-          → _≡_ {A = Answer} (cond (eqb (lackingAt state slot store) 0) (cond (wrongAt state slot store) (Refused 12) Done) (Lacking (lackingAt state slot store)))
-          (cond (eqb (lackingAt other slot otherStore) 0) (cond (wrongAt other slot otherStore) (Refused 12) Done) (Lacking (lackingAt other slot otherStore)))
-      read z =
-          let a = reads state (length store) slot terminal size z in
-          ap₂ (λ (n : ℕ) (b : Bool). cond (eqb n 0) (cond b (Refused 12) Done) (Lacking n))
-          (same-lackingAt (a .sound) (a .below) (a .opened))
-          (same-wrongAt (a .sound) (a .below) (a .opened))
-  answer-depends (streaming s terminal block size) e = rw e (same-answer _ _ state other _ _ (same-stream terminal block size) (λ z. refl))
-  answer-depends (closing s terminal) e = rw e (same-answer _ _ state other _ _ (same-close terminal) (λ z. refl))
+      rw e (same-given _ _ state other _ _ (same-receive terminal (x .Q) (x .N) (x .version) (x .bits)) (λ z. ap Heard (same-heard terminal x z)))
+  answer-depends (reading s terminal size) e = rw e (same-given _ _ state other _ _ (same-read terminal size) (λ z. let a = reads state (length store) slot terminal size z in same-answerAt (a .sound) (a .below) (a .opened)))
+  answer-depends (streaming s terminal block size) e = rw e (same-given _ _ state other _ _ (same-stream terminal block size) (λ z. refl))
+  answer-depends (closing s terminal) e = rw e (same-given _ _ state other _ _ (same-close terminal) (λ z. refl))
 
   pub read-depends : (terminal : ℕ) (out : List ℕ) → readOutput state store slot terminal out ≡ readOutput other otherStore slot terminal out
-  unfolding readOutput released
+  unfolding readOutput released readOutcome unlessRefused isDone
   read-depends terminal out = rw (← same-read terminal (length out)) (go (eqb number 0) refl)
     where
       number : ℕ
@@ -209,17 +195,17 @@ module _ (slot : ℕ) (state other : State) (store otherStore : List ℕ) (same 
       -- what is written if the read releases
       written : State → List ℕ → Bool → List ℕ
       written t l b =
-          cond (cond b (cond (eqb (lackingAt t slot l) 0) (not (wrongAt t slot l)) false) false)
+          cond
+          (isDone
+          (cond {A = Outcome} b (record { answer = heardAnswer (t .blocks) slot (sizeAtHead t slot) l; state = t }) (record { answer = Refused number; state = t }) .answer))
           (heardBlock (t .blocks) slot (sizeAtHead t slot) l ++ drop (sizeAtHead t slot) out)
           out
 
       go : (b : Bool) → eqb number 0 ≡ b → written state store b ≡ written other otherStore b
       go true z =
           let a = reads state (length store) slot terminal (length out) (eqb-true number 0 z) in
-          ap₂ (λ (t : Bool) (l : List ℕ). cond t l out)
-          (ap₂ (λ (n : ℕ) (b : Bool). cond (eqb n 0) (not b) false)
-          (same-lackingAt (a .sound) (a .below) (a .opened))
-          (same-wrongAt (a .sound) (a .below) (a .opened)))
+          ap₂ (λ (x : Answer) (l : List ℕ). cond (isDone x) l out)
+          (same-answerAt (a .sound) (a .below) (a .opened))
           (ap₂ (λ (l : List ℕ) (A : ℕ). l ++ drop A out) (same-blockAt (a .sound) (a .below) (a .opened)) same-size)
       go false z = refl
 

@@ -8,13 +8,14 @@ use lib.Dec.{T, eqb}
 use lib.ListN.{length, length-set}
 use borrow.Author.Tests.{eqb-true, eqb-false}
 use Rattle.refusals.specs.Refusals.{Rule, rule, firstOf}
-use Rattle.slots.specs.declared.Answer.the-variants.{Done, Lacking, Refused}
+use Rattle.slots.specs.declared.Answer.the-variants.{Done, Refused}
 use Rattle.slots.specs.declared.Head.{Head}
 use Rattle.slots.specs.declared.Outcome.{Outcome}
 use Rattle.slots.specs.declared.State.{State}
 use Rattle.slots.specs.State.{closedHead, newState, broken, badShape, badState}
-use Rattle.slots.specs.Answers.{numberOf, unlessRefused}
-use Rattle.slots.specs.Calls.{withHead, storeRules, ownerRules, newOutcome, openNumber, openOutcome, receiveNumber, receiveOutcome, readNumber, lackingAt, wrongAt, readOutcome, streamsNumber, streamsOutcome, closeNumber, closeOutcome}
+use Rattle.slots.specs.Answers.{numberOf, Lacking, WrongBlock, unlessRefused}
+use Rattle.slots.specs.Reading.{lacking, firstWrong, someWrong, wrongCheck, heardAnswer}
+use Rattle.slots.specs.Calls.{withHead, storeRules, ownerRules, sizeAtHead, newOutcome, openNumber, openOutcome, receiveNumber, receiveOutcome, readNumber, readOutcome, streamsNumber, streamsOutcome, closeNumber, closeOutcome}
 use Rattle.slots.proofs.Accepted.{openable}
 use Rattle.slots.proofs.Heads.{closed-unbroken}
 use Rattle.slots.proofs.HeadLaws.{fitting-unbroken, good-with, good-new}
@@ -118,15 +119,22 @@ module _ (state : State) (sound : badState state ≡ false) where
       go false = f
 
   answer-not-13 : (store : List ℕ) (call : Call) → numberOf (answerTo state store call) ≡ 13 → ⊥
-  unfolding answerTo outcomeOf openOutcome openNumber receiveOutcome receiveNumber readOutcome readNumber streamsOutcome streamsNumber closeOutcome closeNumber storeRules ownerRules numberOf
+  unfolding answerTo outcomeOf openOutcome openNumber receiveOutcome receiveNumber readOutcome readNumber streamsOutcome streamsNumber closeOutcome closeNumber storeRules ownerRules numberOf heardAnswer
   answer-not-13 store (opening slot terminal A) = not-13 _ _ (behind _ tt) (eqb-false 0 13 refl)
   answer-not-13 store (receiving slot terminal r) = not-13 _ _ (behind _ tt) (eqb-false 0 13 refl)
-  answer-not-13 store (reading slot terminal size) = not-13 _ _ (behind _ tt) (read (eqb (lackingAt state slot store) 0) (wrongAt state slot store))
+  answer-not-13 store (reading slot terminal size) = not-13 _ _ (behind _ tt) (read (eqb (lacking M slot A store) 0) (someWrong M slot A store) (wrongCheck M slot A store))
     where
-      read : (a b : Bool) → numberOf (cond a (cond b (Refused 12) Done) (Lacking (lackingAt state slot store))) ≡ 13 → ⊥
-      read true true = eqb-false 12 13 refl
-      read true false = eqb-false 0 13 refl
-      read false b = eqb-false 11 13 refl
+      M : ℕ
+      M = state .blocks
+
+      A : ℕ
+      A = sizeAtHead state slot
+
+      read : (a b w : Bool) → numberOf (cond a (cond b (WrongBlock (firstWrong M slot A store)) (cond w (Refused 12) Done)) (Lacking (lacking M slot A store))) ≡ 13 → ⊥
+      read true true w = eqb-false 16 13 refl
+      read true false true = eqb-false 12 13 refl
+      read true false false = eqb-false 0 13 refl
+      read false b w = eqb-false 11 13 refl
   answer-not-13 store (streaming slot terminal block size) = not-13 _ _ (behind _ tt) (eqb-false 0 13 refl)
   answer-not-13 store (closing slot terminal) = not-13 _ _ (behind _ tt) (eqb-false 0 13 refl)
 

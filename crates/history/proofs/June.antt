@@ -1,7 +1,7 @@
 -- The June incident, demand 3: what a slot's room held before an opening never counts, so that no block is released of which a data place was not sent since.
 -- Assumes nothing.
 use mathlib.Core.Path.{_≡_, refl, sym, _∙_, ap, subst}
-use mathlib.Core.Bool.{Bool, true, false, cond, not, _&&_}
+use mathlib.Core.Bool.{Bool, true, false, cond, _&&_}
 use mathlib.Core.List.{List, [], _∷_, _++_}
 use Prim.Native.Nat.{ℕ, _≤_}
 use native.Mathlib.Omega.{arith}
@@ -10,12 +10,12 @@ use lib.ListN.{length, drop, replicate, length-replicate}
 use borrow.Author.Tests.{eq-eqb, ne-eqb, eqb-true}
 use Rattle.laws.specs.Bits.{AreBits}
 use Rattle.laws.proofs.AreBits.{zero-bits}
-use Rattle.slots.specs.declared.Answer.the-variants.{Done, Lacking, Refused}
+use Rattle.slots.specs.declared.Answer.the-variants.{Done, Refused}
 use Rattle.slots.specs.declared.Outcome.{Outcome}
 use Rattle.slots.specs.declared.State.{State}
-use Rattle.slots.specs.Answers.{unlessRefused}
-use Rattle.slots.specs.Reading.{heardBlock}
-use Rattle.slots.specs.Calls.{sizeAtHead, openNumber, receiveNumber, readNumber, lackingAt, wrongAt, readOutcome, released, readOutput}
+use Rattle.slots.specs.Answers.{Lacking, isDone, unlessRefused}
+use Rattle.slots.specs.Reading.{heardAnswer, heardBlock}
+use Rattle.slots.specs.Calls.{sizeAtHead, openNumber, receiveNumber, readNumber, readOutcome, released, readOutput}
 use Rattle.slots.proofs.Accepted.{openable}
 use Rattle.history.specs.Calls.{Reception, opening, receiving, History}
 use Rattle.history.specs.Accepted.{lentLength, headsAfter, sinceCall, since}
@@ -49,9 +49,11 @@ module _ (state : State) (store : List ℕ) (slot terminal : ℕ) (out : List �
   refused-answer e d = refused-is refusal state _ e d
 
   refused-output : eqb refusal 0 ≡ false → readOutput state store slot terminal out ≡ out
-  unfolding readOutput released
+  unfolding readOutput released readOutcome unlessRefused isDone
   refused-output e =
-      ap (λ (b : Bool). cond (cond b (cond (eqb (lackingAt state slot store) 0) (not (wrongAt state slot store)) false) false)
+      ap (λ (b : Bool). cond
+      (isDone
+      (cond {A = Outcome} b (record { answer = heardAnswer (state .blocks) slot (sizeAtHead state slot) store; state = state }) (record { answer = Refused refusal; state = state }) .answer))
       (heardBlock (state .blocks) slot (sizeAtHead state slot) store ++ drop (sizeAtHead state slot) out)
       out) e
 

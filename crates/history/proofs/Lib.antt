@@ -9,6 +9,7 @@ pub mod Own
 pub mod ReleaseMeet
 pub mod ReleaseTrue
 pub mod ReleaseCount
+pub mod ReleaseBlocks
 pub mod ReleaseSequence
 pub mod ReleaseAnswers
 pub mod Release

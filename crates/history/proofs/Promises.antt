@@ -1,7 +1,7 @@
 -- Demand 3 in one place, in its own order: each promise with all its premises, and as its proof the theorem that shows it.
 -- S, M, store₀ and h are any numbers, any bytes and any history; what a history, a state after it and an accepted reception are, specs/ says.
 -- Assumes nothing.
-use mathlib.Core.Path.{_≡_}
+use mathlib.Core.Path.{_≡_, refl}
 use mathlib.Core.Bool.{true, false, cond}
 use mathlib.Core.List.{List, [], _∷_, _++_}
 use Prim.Native.Nat.{ℕ, _+_, _*_, _≤_, _<_}
@@ -9,10 +9,13 @@ use lib.Dec.{eqb}
 use lib.ListN.{length, drop}
 use Rattle.laws.specs.Bits.{AreBits}
 use Rattle.segmentation.specs.Segmentation.{blocks}
-use Rattle.slots.specs.declared.Answer.the-variants.{Done, Heard, Lacking}
+use Rattle.slots.specs.declared.Answer.the-variants.{Done, Heard}
 use Rattle.slots.specs.declared.State.{State}
 use Rattle.slots.specs.State.{headAt, badShape}
-use Rattle.slots.specs.Answers.{numberOf}
+use Rattle.slots.specs.Answers.{numberOf, valuesOf, Lacking}
+use Rattle.slots.specs.Reading.{heardBlock}
+use Rattle.slots.specs.Checks.{blocksAt, RightBlock, RightTransport}
+use Rattle.slots.proofs.Checks as checking
 use Rattle.slots.specs.Calls.{sizeAtHead, receiveNumber, receiveOutcome, readNumber, readOutcome, readOutput, streamsOutput}
 use Rattle.history.specs.Calls.{Reception, Call, opening, receiving, Made, History}
 use Rattle.history.specs.Run.{run}
@@ -93,6 +96,38 @@ pub at-once : (S M : ℕ) (store₀ : List ℕ) (h : History) (past : List ℕ) 
     → (readOutcome state store slot terminal (length out) ≡ record { answer = Done; state = state })
     × (readOutput state store slot terminal out ≡ a ++ drop (length a) out)
 at-once = incident.at-once
+
+-- Whatever was received, 02 E1: where a read gives a block, the bits that it gives were heard with their transport check after them, and with more than
+-- one code block each of them was heard with its CRC24B at its end, filler counted as 0. Any state and store, no history is asked for.
+pub checks-right : (state : State) (store : List ℕ) (slot terminal : ℕ) (out : List ℕ)
+    → numberOf (readOutcome state store slot terminal (length out) .answer) ≡ 0
+    → (readOutput state store slot terminal out
+    ≡ heardBlock (state .blocks) slot (sizeAtHead state slot) store ++ drop (sizeAtHead state slot) out)
+    × RightTransport state store slot
+    × (1 < blocksAt state slot → (r : ℕ) → r < blocksAt state slot → RightBlock state store slot r)
+checks-right state store slot terminal out e =
+    let right = checking.released-right state store slot terminal (length out) e in
+    (checking.released-given state store slot terminal (length out) out refl e, right .0, right .1)
+
+-- Where it answers 16 with r there are several code blocks, all before r are right, and r is wrong.
+-- The number and its value are those of 01's table.
+pub wrong-block-named : (state : State) (store : List ℕ) (slot terminal size r : ℕ)
+    → numberOf (readOutcome state store slot terminal size .answer) ≡ 16
+    → valuesOf (readOutcome state store slot terminal size .answer) ≡ r ∷ []
+    → (1 < blocksAt state slot)
+    × (r < blocksAt state slot)
+    × ((q : ℕ) → q < r → RightBlock state store slot q)
+    × (RightBlock state store slot r → ⊥)
+wrong-block-named = checking.block-wrong
+
+-- Where it comes to the room and answers 12, every one of several code blocks is right: 16 comes first.
+-- What was heard after the block is not its transport check.
+pub wrong-transport-last : (state : State) (store : List ℕ) (slot terminal size : ℕ)
+    → readNumber state (length store) slot terminal size ≡ 0
+    → numberOf (readOutcome state store slot terminal size .answer) ≡ 12
+    → (1 < blocksAt state slot → (r : ℕ) → r < blocksAt state slot → RightBlock state store slot r)
+    × (RightTransport state store slot → ⊥)
+wrong-transport-last = checking.transport-wrong
 
 -- ---- the count
 

@@ -10,8 +10,9 @@ use lib.Dec.{eqb}
 use lib.ListN.{length, drop}
 use Rattle.laws.specs.Bits.{AreBits}
 use Rattle.segmentation.specs.Segmentation.{blocks}
-use Rattle.slots.specs.declared.Answer.the-variants.{Done, Heard, Lacking}
+use Rattle.slots.specs.declared.Answer.the-variants.{Done, Heard}
 use Rattle.slots.specs.declared.State.{State}
+use Rattle.slots.specs.Answers.{Lacking}
 use Rattle.slots.specs.State.{perBlock, storeLength, newState, headAt, badShape, badState}
 use Rattle.slots.specs.Room.{byteOf}
 use Rattle.slots.specs.Calls.{sizeAtHead, receiveNumber, receiveOutcome, readNumber, readOutcome, readOutput}

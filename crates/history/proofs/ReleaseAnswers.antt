@@ -1,7 +1,7 @@
 -- What Read and Receive answer over a room that holds the last bits of true transmissions, demand 3: the block exactly when nothing is unsent, else how many data places are.
 -- Assumes nothing.
 use mathlib.Core.Path.{_≡_, refl, _∙_, ap, ap₂}
-use mathlib.Core.Bool.{Bool, true, false, cond, not}
+use mathlib.Core.Bool.{Bool, true, false, cond}
 use mathlib.Core.List.{List, _∷_, _++_}
 use Prim.Native.Nat.{ℕ, _+_, _<_}
 use native.Mathlib.Omega.{arith}
@@ -11,15 +11,15 @@ use borrow.Author.Tests.{eq-eqb, eqb-true}
 use Rattle.segmentation.specs.Sizes.{badSize}
 use Rattle.laws.specs.Bits.{AreBits}
 use Rattle.slots.specs.declared.Answer.{Answer}
-use Rattle.slots.specs.declared.Answer.the-variants.{Done, Heard, Lacking, Refused}
+use Rattle.slots.specs.declared.Answer.the-variants.{Done, Heard, Refused}
 use Rattle.slots.specs.declared.Outcome.{Outcome}
 use Rattle.slots.specs.declared.State.{State}
 use Rattle.slots.specs.State.{storeLength}
 use Rattle.slots.specs.Room.{byteOf}
 use Rattle.slots.specs.Reception.{received}
-use Rattle.slots.specs.Reading.{lacking, heardBlock}
-use Rattle.slots.specs.Answers.{unlessRefused}
-use Rattle.slots.specs.Calls.{sizeAtHead, receiveNumber, receiveStore, receiveOutcome, readNumber, lackingAt, wrongAt, readOutcome, released, readOutput}
+use Rattle.slots.specs.Reading.{lacking, firstWrong, someWrong, wrongCheck, heardAnswer, heardBlock}
+use Rattle.slots.specs.Answers.{Lacking, WrongBlock, isDone, unlessRefused}
+use Rattle.slots.specs.Calls.{sizeAtHead, receiveNumber, receiveStore, receiveOutcome, readNumber, readOutcome, released, readOutput}
 use Rattle.slots.proofs.RoomLaws.{room-within, byte-in-room}
 use Rattle.slots.proofs.HeadLaws.{open-size}
 use Rattle.slots.proofs.Acceptance.{receives, reads}
@@ -29,7 +29,7 @@ use Rattle.history.specs.Sent.{True, AllTrue, unsent}
 use Rattle.history.proofs.Received.{brought, received-here}
 use Rattle.history.proofs.Others.{reception-fits}
 use Rattle.history.proofs.ReleaseCount.{HoldsLast, count}
-use Rattle.history.proofs.ReleaseSequence.{right-check, true-block}
+use Rattle.history.proofs.ReleaseSequence.{right-blocks, right-check, true-block}
 
 -- an accepted call's outcome
 accepted-is : (number : ℕ) (state : State) (o : Outcome) → number ≡ 0 → unlessRefused number state o ≡ o
@@ -45,13 +45,25 @@ module _ (state : State) (store : List ℕ) (slot terminal : ℕ) (a : List ℕ)
         let w = reads state (length store) slot terminal size came in
         rw size-is at (open-size state (w .sound) slot (w .below) (w .opened) .0)
 
-    lacking-is : lackingAt state slot store ≡ unsent (length a) xs
-    unfolding lackingAt
-    lacking-is = rw size-is (count a admitted bits xs true-all (state .blocks) slot store kept)
+    -- what the room tells: the count of what is unsent, and where nothing is all checks are right
+    room-answer : heardAnswer (state .blocks) slot (length a) store ≡ cond (eqb (unsent (length a) xs) 0) Done (Lacking (unsent (length a) xs))
+    unfolding heardAnswer
+    room-answer =
+        ap (λ (n : ℕ). cond (eqb n 0) heard (Lacking n)) (count a admitted bits xs true-all (state .blocks) slot store kept)
+        ∙ go (eqb (unsent (length a) xs) 0) refl
+      where
+        heard : Answer
+        heard =
+            cond (someWrong (state .blocks) slot (length a) store) (WrongBlock (firstWrong (state .blocks) slot (length a) store))
+            (cond (wrongCheck (state .blocks) slot (length a) store) (Refused 12) Done)
 
-    right-at : unsent (length a) xs ≡ 0 → wrongAt state slot store ≡ false
-    unfolding wrongAt
-    right-at e = rw size-is (right-check a admitted bits xs true-all (state .blocks) slot store kept e)
+        go : (t : Bool) → eqb (unsent (length a) xs) 0 ≡ t → cond t heard (Lacking (unsent (length a) xs)) ≡ cond t Done (Lacking (unsent (length a) xs))
+        go true e =
+            let none : unsent (length a) xs ≡ 0 = eqb-true (unsent (length a) xs) 0 e in
+            ap₂ (λ (b w : Bool). cond b (WrongBlock (firstWrong (state .blocks) slot (length a) store)) (cond w (Refused 12) Done))
+            (right-blocks a admitted bits xs true-all (state .blocks) slot store kept none)
+            (right-check a admitted bits xs true-all (state .blocks) slot store kept none)
+        go false e = refl
 
     -- Read answers Done exactly when nothing is unsent, and else the count
     pub read-answer : readOutcome state store slot terminal size
@@ -59,39 +71,22 @@ module _ (state : State) (store : List ℕ) (slot terminal : ℕ) (a : List ℕ)
     unfolding readOutcome
     read-answer =
         accepted-is (readNumber state (length store) slot terminal size) state _ came
-        ∙ ap (λ (x : Answer). record { answer = x; state = state })
-        (ap (λ (n : ℕ). cond (eqb n 0) (cond (wrongAt state slot store) (Refused 12) Done) (Lacking n)) lacking-is
-        ∙ go (eqb (unsent (length a) xs) 0) refl)
-      where
-        go : (t : Bool) → eqb (unsent (length a) xs) 0 ≡ t
-            → cond t (cond (wrongAt state slot store) (Refused 12) Done) (Lacking (unsent (length a) xs)) ≡ cond t Done (Lacking (unsent (length a) xs))
-        go true e = ap (λ (b : Bool). cond b (Refused 12) Done) (right-at (eqb-true (unsent (length a) xs) 0 e))
-        go false e = refl
+        ∙ ap (λ (x : Answer). record { answer = x; state = state }) (ap (λ (A : ℕ). heardAnswer (state .blocks) slot A store) size-is ∙ room-answer)
 
   -- the output has the block in front exactly when nothing is unsent, and else is as it was
   pub read-output : (out : List ℕ) → readNumber state (length store) slot terminal (length out) ≡ 0
       → readOutput state store slot terminal out ≡ cond (eqb (unsent (length a) xs) 0) (a ++ drop (length a) out) out
-  unfolding readOutput released
+  unfolding readOutput released isDone
   read-output out came =
-      ap (λ (b : Bool). cond b (heardBlock (state .blocks) slot (sizeAtHead state slot) store ++ drop (sizeAtHead state slot) out) out) released-is
+      ap (λ (o : Outcome). cond (isDone (o .answer)) (heardBlock (state .blocks) slot (sizeAtHead state slot) store ++ drop (sizeAtHead state slot) out) out)
+      (read-answer (length out) came)
       ∙ output (eqb (unsent (length a) xs) 0) refl
     where
-      release : (t : Bool) → eqb (unsent (length a) xs) 0 ≡ t → cond t (not (wrongAt state slot store)) false ≡ t
-      release true e = ap not (right-at (length out) came (eqb-true (unsent (length a) xs) 0 e))
-      release false e = refl
-
-      released-is : released state store slot terminal (length out) ≡ eqb (unsent (length a) xs) 0
-      released-is =
-          ap (λ (b : Bool). cond b (cond (eqb (lackingAt state slot store) 0) (not (wrongAt state slot store)) false) false)
-          (eq-eqb (readNumber state (length store) slot terminal (length out)) 0 came)
-          ∙ ap (λ (n : ℕ). cond (eqb n 0) (not (wrongAt state slot store)) false) (lacking-is (length out) came)
-          ∙ release (eqb (unsent (length a) xs) 0) refl
-
       block : unsent (length a) xs ≡ 0 → heardBlock (state .blocks) slot (sizeAtHead state slot) store ≡ a
       block e = rw size-is (true-block a (admitted (length out) came) bits xs true-all (state .blocks) slot store kept e)
 
       output : (t : Bool) → eqb (unsent (length a) xs) 0 ≡ t
-          → cond t (heardBlock (state .blocks) slot (sizeAtHead state slot) store ++ drop (sizeAtHead state slot) out) out
+          → cond (isDone (cond t Done (Lacking (unsent (length a) xs)))) (heardBlock (state .blocks) slot (sizeAtHead state slot) store ++ drop (sizeAtHead state slot) out) out
           ≡ cond t (a ++ drop (length a) out) out
       output true e = ap₂ (λ (l : List ℕ) (n : ℕ). l ++ drop n out) (block (eqb-true (unsent (length a) xs) 0 e)) size-is
       output false e = refl

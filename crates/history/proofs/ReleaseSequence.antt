@@ -8,7 +8,7 @@ use native.Mathlib.Omega.{arith}
 use lib.Dec.{eqb·suc-zero}
 use lib.ListN.{length, getD, take, drop, length-drop, take-append-drop, drop-of-length-le}
 use lib.Seq.{ext-getD, length-take-le, getD-take, getD-drop, drop-drop, take-at}
-use borrow.Author.Tests.{eq-eqb}
+use borrow.Author.Tests.{eq-eqb, le-ltb}
 use Rattle.laws.specs.Lists.{tabFrom}
 use Rattle.laws.proofs.Tab.{length-tabFrom, getD-tabFrom}
 use Rattle.check_bits.specs.CheckBits.{crc, checkBits, gCRC24A}
@@ -22,11 +22,12 @@ use Rattle.laws.specs.Bits.{AreBits}
 use Rattle.codeword.proofs.Data.{filler-over, carries}
 use Rattle.codeword.proofs.Taken.{length-withCheck}
 use Rattle.slots.specs.Room.{unheard}
-use Rattle.slots.specs.Reading.{keptAt, heardIn, heardFrom, heardSequence, wrongCheck, heardBlock}
+use Rattle.slots.specs.Reading.{keptAt, firstWrong, someWrong, heardIn, heardFrom, heardSequence, wrongCheck, heardBlock}
 use Rattle.history.specs.Calls.{Reception}
 use Rattle.history.specs.Sent.{AllTrue, unsent}
 use Rattle.history.proofs.DataPlaces.{none-unsent}
 use Rattle.history.proofs.ReleaseCount.{HoldsLast, kept-data}
+use Rattle.history.proofs.ReleaseBlocks.{none-wrong}
 
 -- ---- the bits of b that each code block carries, in order
 
@@ -85,17 +86,29 @@ module _ (B : ℕ) (low : 24 ≤ B) (high : B ≤ 30600) (b : List ℕ) (long : 
 
 module _ (a : List ℕ) (admitted : badSize (length a) ≡ false) (bits : AreBits a) (xs : List Reception) (true-all : AllTrue a xs)
     (M slot : ℕ) (store : List ℕ) (kept : HoldsLast M slot (length a) xs store) (all : unsent (length a) xs ≡ 0) where
+  -- each data place holds the code block's bit
+  held : (r i : ℕ) → r < blocks (length a + 24) → fillerOf (length a + 24) r ≤ i → i < sizeOf (length a + 24) r
+      → keptAt M slot (length a + 24) store r 0 i ≡ getD (codeBlock (withCheck a) r) i 0
+  held r i h l m =
+      kept-data a admitted bits xs true-all M slot store kept r i h l m
+      ∙ ap (λ (s : Bool). cond s (getD (codeBlock (withCheck a) r) i 0) unheard) (none-unsent (length a) xs all r i (record { block = h; past-filler = l; below-size = m }))
+
   -- what is heard is the block with its transport check
   pub sequence : heardSequence M slot (length a) store ≡ withCheck a
   unfolding heardSequence
   sequence =
       let range = in-range (length a) admitted in
-      heard-all (length a + 24) (omega arith) (omega arith) (withCheck a) (length-withCheck a) M slot store
-      (λ r i h l m.
-      kept-data a admitted bits xs true-all M slot store kept r i h l m
-      ∙ ap (λ (s : Bool). cond s (getD (codeBlock (withCheck a) r) i 0) unheard) (none-unsent (length a) xs all r i (record { block = h; past-filler = l; below-size = m })))
+      heard-all (length a + 24) (omega arith) (omega arith) (withCheck a) (length-withCheck a) M slot store held
 
-  -- so the transport check is right
+  -- so no code block is wrong
+  pub right-blocks : someWrong M slot (length a) store ≡ false
+  unfolding someWrong firstWrong
+  right-blocks =
+      let range = in-range (length a) admitted in
+      let first = none-wrong (length a + 24) (omega arith) (omega arith) (withCheck a) (length-withCheck a) M slot store held in
+      le-ltb _ (blocks (length a + 24)) (omega (arith, first))
+
+  -- nor the transport check
   pub right-check : wrongCheck M slot (length a) store ≡ false
   unfolding wrongCheck withCheck
   right-check = ap not (eq-eqb _ 0 (ap (crc 24 gCRC24A) sequence ∙ checked 24 gCRC24A a))

@@ -14,7 +14,7 @@ use Rattle.rate_matching.specs.Places.{placeNumber}
 use Rattle.slots.specs.State.{perBlock, roomLength, roomStart}
 use Rattle.slots.specs.Room.{byteOf}
 use Rattle.slots.specs.Reception.{received}
-use Rattle.slots.specs.Reading.{keptAt, lacking, heardSequence, wrongCheck, heardBlock, threeStreams}
+use Rattle.slots.specs.Reading.{keptAt, lacking, heardSequence, heardAnswer, heardBlock, threeStreams}
 use Rattle.slots.proofs.RoomLaws.{AllPlaces, by-place, byte-in-room, received-past}
 use Rattle.slots.proofs.PlaceBounds.{place-below}
 use Rattle.slots.proofs.SameKept as SameKept
@@ -40,8 +40,9 @@ module _ (M slot A : ℕ) (admitted : badSize A ≡ false) (fits : blocks (A + 2
   pub same-sequence : heardSequence M slot A store ≡ heardSequence M slot A other
   same-sequence = SameKept.same-sequence A M slot M slot store other same-kept
 
-  pub same-wrong : wrongCheck M slot A store ≡ wrongCheck M slot A other
-  same-wrong = SameKept.same-wrong A M slot M slot store other same-kept
+  -- what Read answers
+  pub same-answer : heardAnswer M slot A store ≡ heardAnswer M slot A other
+  same-answer = SameKept.same-answer A M slot M slot store other same-kept
 
   pub same-block : heardBlock M slot A store ≡ heardBlock M slot A other
   same-block = SameKept.same-block A M slot M slot store other same-kept

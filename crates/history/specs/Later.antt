@@ -6,8 +6,8 @@ use mathlib.Core.List.{List, [], _∷_, _++_}
 use Prim.Native.Nat.{ℕ}
 use lib.Dec.{eqb}
 use lib.ListN.{length}
-use Rattle.slots.specs.declared.Answer.the-variants.{Lacking}
 use Rattle.slots.specs.declared.State.{State}
+use Rattle.slots.specs.Answers.{Lacking}
 use Rattle.slots.specs.Calls.{openNumber, readOutcome, readOutput, closeNumber}
 use Rattle.history.specs.Calls.{Reception, Call, opening, receiving, reading, streaming, closing, History}
 use Rattle.history.specs.Accepted.{lentLength, headsAfter, sinceCall}

@@ -1,7 +1,7 @@
 -- The calls Read and Streams of 01, from what their parts tell: the refusals in order, what their absence tells, and the outcome with the output.
 -- Assumes nothing.
-use mathlib.Core.Path.{_≡_, refl, _∙_, ap}
-use mathlib.Core.Bool.{Bool, true, false, cond, not}
+use mathlib.Core.Path.{_≡_, refl, sym, _∙_, ap}
+use mathlib.Core.Bool.{true, false, cond, not}
 use mathlib.Core.List.{List, [], _∷_, _++_}
 use Prim.Native.Nat.{ℕ, _+_, _-_, _*_, _≤_, _<_}
 use native.Mathlib.Nat.{mul-le-mul-right}
@@ -23,14 +23,14 @@ use Rattle.slots.specs.declared.Answer.{Answer}
 use Rattle.slots.specs.declared.Answer.the-variants.{Done, Refused}
 use Rattle.slots.specs.State.{perBlock, roomLength, roomStart, headAt}
 use Rattle.slots.specs.Room.{byteOf}
-use Rattle.slots.specs.Answers.{unlessRefused}
-use Rattle.slots.specs.Calls.{storeRules, ownerRules, sizeAtHead, readNumber, lackingAt, wrongAt, readOutcome, released, readOutput, streamsNumber, streamsOutcome, streamsOutput}
-use Rattle.slots.specs.Reading.{lacking, wrongCheck, heardBlock}
+use Rattle.slots.specs.Answers.{isDone, unlessRefused}
+use Rattle.slots.specs.Calls.{storeRules, ownerRules, sizeAtHead, readNumber, readOutcome, released, readOutput, streamsNumber, streamsOutcome, streamsOutput}
+use Rattle.slots.specs.Reading.{heardAnswer, heardBlock}
 use Rattle.slots.proofs.Accepted.{Fitting, Stored, stored, owned, served}
 use Rattle.reading.specs.Circle.{streamsOn, Stretch}
-use Rattle.reading.specs.Room.{roomFits, releasedInto, roomAnswer, roomOutput}
+use Rattle.reading.specs.Room.{roomFits, roomOutput}
 use Rattle.reading.proofs.Blocks.{streams, filler-below, stretch, blocks-told, size-told, filler-told}
-use Rattle.reading.proofs.Lent.{lacking-lent, wrong-lent, block-lent, room-fits, streams-lent}
+use Rattle.reading.proofs.Lent.{answer-lent, block-lent, room-fits, streams-lent}
 
 fitting-good : {M A : ℕ} → Fitting M A → badSize A ≡ false
 fitting-good {M} {A} w = good-size A (w .size-some) (w .size-most)
@@ -54,13 +54,8 @@ pub record Reading (state : State) (store : List ℕ) (slot terminal : ℕ) (out
 pub read-refused : (state : State) (store : List ℕ) (slot terminal : ℕ) (out : List ℕ) {n : ℕ}
     → n ≡ readNumber state (length store) slot terminal (length out) → (n ≡ 0 → ⊥)
     → (record { answer = Refused n; state = state } ≡ readOutcome state store slot terminal (length out)) × (out ≡ readOutput state store slot terminal out)
-unfolding readOutcome unlessRefused readOutput released
+unfolding readOutcome unlessRefused readOutput released isDone
 read-refused state store slot terminal out e h = (rw (← e, ne-eqb _ 0 h), rw (← e, ne-eqb _ 0 h))
-
-by-release : (l w : Bool) (x y : List ℕ) → cond l (cond w y x) y ≡ cond (cond l (not w) false) x y
-by-release true true x y = refl
-by-release true false x y = refl
-by-release false w x y = refl
 
 -- one that comes to the room: what `read_room` gives for it is what the call gives
 module _ {state : State} {store : List ℕ} {slot terminal : ℕ} {out : List ℕ} {n : ℕ} {head : Head} (w : Reading state store slot terminal out n head) where
@@ -100,13 +95,9 @@ module _ {state : State} {store : List ℕ} {slot terminal : ℕ} {out : List �
   good : badSize (sizeAtHead state slot) ≡ false
   good = fitting-good (size-fits)
 
-  lack : lacking 1 0 (sizeAtHead state slot) room ≡ lackingAt state slot store
-  unfolding lackingAt roomStart roomLength
-  lack = lacking-lent (state .blocks) slot (sizeAtHead state slot) store good (size-fits .few) refl refl
-
-  wrong : wrongCheck 1 0 (sizeAtHead state slot) room ≡ wrongAt state slot store
-  unfolding wrongAt roomStart roomLength
-  wrong = wrong-lent (state .blocks) slot (sizeAtHead state slot) store good (size-fits .few) refl refl
+  answers : heardAnswer 1 0 (sizeAtHead state slot) room ≡ heardAnswer (state .blocks) slot (sizeAtHead state slot) store
+  unfolding roomStart roomLength
+  answers = answer-lent (state .blocks) slot (sizeAtHead state slot) store good (size-fits .few) refl refl
 
   block : heardBlock 1 0 (sizeAtHead state slot) room ≡ heardBlock (state .blocks) slot (sizeAtHead state slot) store
   unfolding roomStart roomLength
@@ -116,13 +107,16 @@ module _ {state : State} {store : List ℕ} {slot terminal : ℕ} {out : List �
   unfolding sizeAtHead
   size-is = ap (λ (x : Head). x .size) (w .found)
 
-  pub answer-told : {answer : Answer} → answer ≡ roomAnswer (head .size) room → record { answer = answer; state = state } ≡ readOutcome state store slot terminal (length out)
-  unfolding readOutcome unlessRefused roomAnswer
-  answer-told a = rw (← (w .number), w .zero) (ap (λ (x : Answer). record { answer = x; state = state }) (a ∙ rw (size-is, lack, wrong)))
+  outcome : readOutcome state store slot terminal (length out) ≡ record { answer = heardAnswer (state .blocks) slot (sizeAtHead state slot) store; state = state }
+  unfolding readOutcome unlessRefused
+  outcome = rw (← (w .number), w .zero)
+
+  pub answer-told : {answer : Answer} → answer ≡ heardAnswer 1 0 (head .size) room → record { answer = answer; state = state } ≡ readOutcome state store slot terminal (length out)
+  answer-told a = ap (λ (x : Answer). record { answer = x; state = state }) (a ∙ rw (size-is, answers)) ∙ sym outcome
 
   pub output-told : {out′ : List ℕ} → out′ ≡ roomOutput (head .size) room out → out′ ≡ readOutput state store slot terminal out
-  unfolding readOutput released roomOutput releasedInto
-  output-told o = o ∙ rw (size-is, lack, wrong, block, ← (w .number), w .zero) (by-release (eqb (lackingAt state slot store) 0) (wrongAt state slot store) _ out)
+  unfolding readOutput released roomOutput
+  output-told o = o ∙ rw (size-is, answers, block, outcome)
 
 -- ---- Streams
 

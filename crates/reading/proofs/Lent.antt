@@ -20,9 +20,9 @@ use Rattle.segmentation.specs.Sizes.{badSize}
 use Rattle.rate_matching.specs.Places.{placeNumber}
 use Rattle.slots.specs.State.{perBlock, roomLength, roomStart}
 use Rattle.slots.specs.Room.{heard, byteOf}
-use Rattle.slots.specs.Reading.{keptAt, lacking, wrongCheck, heardBlock, streamByte, threeStreams}
+use Rattle.slots.specs.Reading.{keptAt, lacking, heardAnswer, heardBlock, streamByte, threeStreams}
 use Rattle.slots.proofs.PlaceBounds.{place-below}
-use Rattle.slots.proofs.SameKept.{same-lacking, same-wrong, same-block}
+use Rattle.slots.proofs.SameKept.{same-lacking, same-answer, same-block}
 use Rattle.reading.specs.Circle.{keptOn, shown, streamOn, streamsOn}
 use Rattle.reading.specs.Room.{roomFits}
 
@@ -59,12 +59,12 @@ module _ (M slot A : ℕ) {from long : ℕ} (store : List ℕ) (good : badSize A
         block : r < M
         block = omega arith
 
-    -- how many data places lack a bit
+    -- how many data places lack a bit, what Read answers, and the block
     pub lacking-lent : lacking 1 0 A (midOf from (from + long - from) store) ≡ lacking M slot A store
     lacking-lent = same-lacking A 1 0 M slot room store room-keeps
 
-    pub wrong-lent : wrongCheck 1 0 A (midOf from (from + long - from) store) ≡ wrongCheck M slot A store
-    wrong-lent = same-wrong A 1 0 M slot room store room-keeps
+    pub answer-lent : heardAnswer 1 0 A (midOf from (from + long - from) store) ≡ heardAnswer M slot A store
+    answer-lent = same-answer A 1 0 M slot room store room-keeps
 
     pub block-lent : heardBlock 1 0 A (midOf from (from + long - from) store) ≡ heardBlock M slot A store
     block-lent = same-block A 1 0 M slot room store room-keeps

@@ -5,6 +5,7 @@ pub mod Rows
 pub mod Gathering
 pub mod Blocks
 pub mod Lent
+pub mod Zeros
 pub mod Lacking
 pub mod Sequence
 pub mod Release

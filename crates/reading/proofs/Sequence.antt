@@ -1,7 +1,7 @@
--- The sequence as it was heard, 01 'Read': put together code block by code block, each from its circle, and its data places counted.
+-- The sequence as it was heard, 01 'Read' and 02, E1: put together code block by code block, each from its circle, its data places counted and its check compared.
 -- Assumes nothing.
 use mathlib.Core.Path.{_≡_, refl, sym, _∙_, ap}
-use mathlib.Core.Bool.{Bool, true, false, cond, not, _&&_, true≢false}
+use mathlib.Core.Bool.{Bool, true, false, cond, not, _&&_, _||_, true≢false}
 use mathlib.Core.List.{List, [], _++_, append-assoc, append-nil}
 use Prim.Native.Nat.{ℕ, suc, _+_, _-_, _*_, _^_, _≤_, _<_}
 use native.Mathlib.Nat.{sub-zero, add-sub-cancel-left, mul-le-mul-right}
@@ -11,11 +11,13 @@ use native.Mathlib.Omega.{arith}
 use lib.Dec.{eqb, ltb, leb, eqb·suc-zero}
 use lib.ListN.{length, take, drop}
 use lib.Seq.{length-take-le, take-at, take-append-add, take-append-le}
-use borrow.Author.Tests.{leb-true, ne-eqb}
+use borrow.Author.Tests.{leb-true, eq-eqb, ne-eqb}
 use borrow.Rule.Slice.PartMut.{midOf, putMid}
 use Rattle.laws.specs.Lists.{tabFrom}
 use Rattle.laws.proofs.Parts.{length-mid, length-put}
 use Rattle.laws.proofs.Tab.{length-tabFrom, tabFrom-ext, tabFrom-split}
+use Rattle.check_bits.specs.CheckBits.{crc, gCRC24B}
+use Rattle.reading.proofs.Zeros.{zeros-first}
 use Rattle.segmentation.specs.declared.Segments.{Segments}
 use Rattle.segmentation.specs.Segmentation.{checkLength, blocks, filler, sizeOf, fillerOf}
 use Rattle.segmentation.specs.CodeBlocks.{takenBefore}
@@ -24,8 +26,9 @@ use Rattle.segmentation.proofs.Segmentation.{single, several}
 use Rattle.segmentation.proofs.CodeBlocks.{taken-all, taken-within}
 use Rattle.slots.specs.State.{perBlock, roomStart}
 use Rattle.slots.specs.Room.{byteOf}
-use Rattle.slots.specs.Reading.{sumFrom, lackingIn, lacking, heardIn, heardFrom, heardSequence}
+use Rattle.slots.specs.Reading.{sumFrom, lackingIn, lacking, heardCodeBlock, wrongBlock, firstFrom, firstWrong, heardIn, heardFrom, heardSequence}
 use Rattle.slots.proofs.PlaceBounds.{place-below}
+use Rattle.slots.proofs.First.{firstFrom-more}
 use Rattle.reading.specs.Circle.{keptOn, missingAt, Stretch}
 use Rattle.reading.specs.Room.{roomFits}
 use Rattle.reading.proofs.Blocks.{high, few, filler-below, stretch, blocks-told, Block, block-of}
@@ -77,6 +80,29 @@ carried A r {from} room good e =
     tabFrom-ext (fillerOf (A + 24) r) (sizeOf (A + 24) r - checkLength (A + 24) - fillerOf (A + 24) r) _ _
     (λ i a b. circle-lent 1 0 (A + 24) r room 0 i starts (place-below A good r 0 i (omega arith) (omega (arith, filler-below A good r))))
 
+-- its check, from its circle: the filler in front changes no remainder
+own-check : (A r : ℕ) {from : ℕ} (room : List ℕ) → badSize A ≡ false → from ≡ r * perBlock
+    → crc 24 gCRC24B (tabFrom (fillerOf (A + 24) r) (sizeOf (A + 24) r - fillerOf (A + 24) r) (keptOn (midOf from (from + perBlock - from) room) (sizeOf (A + 24) r + 4) 0))
+    ≡ crc 24 gCRC24B (heardCodeBlock 1 0 (A + 24) room r)
+unfolding heardCodeBlock byteOf roomStart
+own-check A r {from} room good e =
+    let starts : from ≡ byteOf 1 0 r 0 = omega arith in
+    ap (crc 24 gCRC24B)
+    (tabFrom-ext (fillerOf (A + 24) r) (sizeOf (A + 24) r - fillerOf (A + 24) r) _ _
+    (λ i a b. circle-lent 1 0 (A + 24) r room 0 i starts (place-below A good r 0 i (omega arith) (omega (arith, filler-below A good r)))))
+    ∙ sym (zeros-first 24 gCRC24B (fillerOf (A + 24) r) _)
+
+-- it is right where it has none or leaves nothing
+right-is : (B r : ℕ) (room : List ℕ)
+    → (eqb (checkLength B) 0 || eqb (crc 24 gCRC24B (heardCodeBlock 1 0 B room r)) 0) ≡ not (wrongBlock 1 0 B room r)
+unfolding wrongBlock
+right-is B r room = rw (← (check-is B)) (go (eqb (blocks B) 1) (eqb (crc 24 gCRC24B (heardCodeBlock 1 0 B room r)) 0))
+  where
+    go : (single nothing : Bool) → (eqb (cond single 0 24) 0 || nothing) ≡ not (not single && not nothing)
+    go true nothing = refl
+    go false true = refl
+    go false false = refl
+
 -- the code blocks from r on
 heard-more : (B C r : ℕ) (room : List ℕ) → r < C → heardFrom 1 0 B room r (C - r) ≡ heardIn 1 0 B room r ++ heardFrom 1 0 B room (r + 1) (C - (r + 1))
 unfolding heardFrom
@@ -109,8 +135,9 @@ take-tab i m n f h = ap (λ (k : ℕ). take m (tabFrom i k f)) whole ∙ ap (tak
 
 -- ---- the loop
 
--- the bits of the code blocks before r are written, up to place `at`, and n of their data places lack a bit
-pub record Hearing (A : ℕ) (room b₀ b : List ℕ) (n from at r : ℕ) : Type 0 where
+-- the bits of the code blocks before r are written, up to place `at`, n of their data places lack a bit, and where none does `right` is the first
+-- wrong one, or r
+pub record Hearing (A : ℕ) (room b₀ b : List ℕ) (n right from at r : ℕ) : Type 0 where
   pub room-fits : Fit A (length room)
   pub passed : r ≤ blocks (A + 24)
   pub place : from ≡ r * perBlock
@@ -119,9 +146,10 @@ pub record Hearing (A : ℕ) (room b₀ b : List ℕ) (n from at r : ℕ) : Type
   pub long : length b ≡ length b₀
   pub told : take at b ++ heardFrom 1 0 (A + 24) room r (blocks (A + 24) - r) ≡ heardSequence 1 0 A room
   pub sum : Summing (lackingIn 1 0 (A + 24) room) (blocks (A + 24)) 6144 r n
+  pub first : n ≡ 0 → right ≡ firstFrom (wrongBlock 1 0 (A + 24) room) 0 r
 
-pub hearing-start : (A : ℕ) (room b : List ℕ) → Fit A (length room) → A + 48 ≤ length b → Hearing A room b b 0 0 0 0
-unfolding takenBefore fillerOf heardSequence
+pub hearing-start : (A : ℕ) (room b : List ℕ) → Fit A (length room) → A + 48 ≤ length b → Hearing A room b b 0 0 0 0 0
+unfolding takenBefore fillerOf heardSequence firstFrom
 hearing-start A room b w e = record {
   room-fits = w;
   passed = omega arith;
@@ -131,6 +159,7 @@ hearing-start A room b w e = record {
   long = refl;
   told = ap (heardFrom 1 0 (A + 24) room 0) (sub-zero (blocks (A + 24)));
   sum = start;
+  first = λ z. refl;
 }
 
 -- how many data places code block r has, and how many of them carry the sequence
@@ -147,7 +176,7 @@ check-few B = rw (← (check-is B)) (go (eqb (blocks B) 1))
     go true = omega arith
     go false = omega arith
 
-module _ (A : ℕ) {room b₀ b : List ℕ} {n from at r : ℕ} (below : r < blocks (A + 24)) (w : Hearing A room b₀ b n from at r) where
+module _ (A : ℕ) {room b₀ b : List ℕ} {n right from at r : ℕ} (below : r < blocks (A + 24)) (w : Hearing A room b₀ b n right from at r) where
   good : badSize A ≡ false
   good = w .room-fits .admitted
 
@@ -184,11 +213,15 @@ module _ (A : ℕ) {room b₀ b : List ℕ} {n from at r : ℕ} (below : r < blo
       whole : length part ≡ holds (A + 24) r
       whole = ap length said ∙ length-tabFrom (fillerOf (A + 24) r) (holds (A + 24) r) circle
 
+      -- what is looked at when the part came back
+      back : midOf at (at + holds (A + 24) r - at) b′ ≡ tabFrom (fillerOf (A + 24) r) (holds (A + 24) r) circle
+      unfolding circle b′
+      back = mid-put at (at + holds (A + 24) r - at) b part (omega (arith, ends)) (whole ∙ sym (add-sub-cancel-left at (holds (A + 24) r))) ∙ said
+
       count : x ≡ lackingIn 1 0 (A + 24) room r
       unfolding circle b′
       count =
-          counted (midOf from (from + perBlock - from) room) (sizeOf (A + 24) r + 4) (fillerOf (A + 24) r) (holds (A + 24) r)
-          (mid-put at (at + holds (A + 24) r - at) b part (omega (arith, ends)) (whole ∙ sym (add-sub-cancel-left at (holds (A + 24) r))) ∙ said) s
+          counted (midOf from (from + perBlock - from) room) (sizeOf (A + 24) r + 4) (fillerOf (A + 24) r) (holds (A + 24) r) back s
           ∙ block-lacking A r room good (w .place)
 
       count-fits : n + x < 2 ^ 64
@@ -209,9 +242,29 @@ module _ (A : ℕ) {room b₀ b : List ℕ} {n from at r : ℕ} (below : r < blo
           till : at + holds (A + 24) r - checkLength (A + 24) ≡ length (take at b) + carries (A + 24) r
           till = omega (arith, length-take-le at b (omega (arith, ends)), filler-below A good r)
 
-      pushed : Hearing A room b₀ b′ (n + x) (from + perBlock) (at + holds (A + 24) r - checkLength (A + 24)) (r + 1)
+      -- the first wrong one, code block r looked at
+      first-after : {right′ : ℕ}
+          → right′ ≡ cond (eqb (n + x) 0 && (eqb right r && (eqb (checkLength (A + 24)) 0 || eqb (crc 24 gCRC24B (midOf at (at + holds (A + 24) r - at) b′)) 0))) (r + 1) right
+          → n + x ≡ 0 → right′ ≡ firstFrom (wrongBlock 1 0 (A + 24) room) 0 (r + 1)
+      unfolding circle b′
+      first-after {right′} e z =
+          let found : right ≡ firstFrom wrong 0 r = w .first (omega arith) in
+          e
+          ∙ ap (λ (t : Bool). cond (t && (eqb right r && (eqb (checkLength (A + 24)) 0 || eqb (crc 24 gCRC24B (midOf at (at + holds (A + 24) r - at) b′)) 0))) (r + 1) right)
+          (eq-eqb (n + x) 0 z)
+          ∙ ap (λ (t : Bool). cond (eqb right r && t) (r + 1) right)
+          (ap (λ (y : ℕ). eqb (checkLength (A + 24)) 0 || eqb y 0) (ap (crc 24 gCRC24B) back ∙ own-check A r room good (w .place)) ∙ right-is (A + 24) r room)
+          ∙ ap (λ (k : ℕ). cond (eqb k r && not (wrong r)) (r + 1) k) found
+          ∙ sym (firstFrom-more wrong r)
+        where
+          wrong : ℕ → Bool
+          wrong = wrongBlock 1 0 (A + 24) room
+
+      pushed : {right′ : ℕ}
+          → right′ ≡ cond (eqb (n + x) 0 && (eqb right r && (eqb (checkLength (A + 24)) 0 || eqb (crc 24 gCRC24B (midOf at (at + holds (A + 24) r - at) b′)) 0))) (r + 1) right
+          → Hearing A room b₀ b′ (n + x) right′ (from + perBlock) (at + holds (A + 24) r - checkLength (A + 24)) (r + 1)
       unfolding b′
-      pushed = record {
+      pushed e = record {
         room-fits = w .room-fits;
         passed = omega arith;
         place = omega (arith, w .place);
@@ -224,6 +277,7 @@ module _ (A : ℕ) {room b₀ b : List ℕ} {n from at r : ℕ} (below : r < blo
             ∙ ap (λ (l : List ℕ). take at b ++ l) (sym (heard-more (A + 24) (blocks (A + 24)) r room below))
             ∙ w .told;
         sum = next below count (rw count (block-few A r room good)) (w .sum);
+        first = first-after e;
       }
 
 -- what a turn needs of the numbers that the code finds: the size K, the check bits L, the filler F
@@ -241,9 +295,9 @@ part-back {b = b} {at = at} {K = K} {F = F} t part e =
     let long = length-put at (at + (K - F)) b part (t .ends) (e ∙ length-mid at (at + (K - F)) b (t .ends)) in
     omega (arith, long, t .ends)
 
-module _ {A : ℕ} {room b₀ b : List ℕ} {n from at r : ℕ} {s : Segments} where
+module _ {A : ℕ} {room b₀ b : List ℕ} {n right from at r : ℕ} {s : Segments} where
   module _ {K L F : ℕ} (told : s ≡ segmentsFor A) (checks : L ≡ cond (eqb (s .blocks) 1) 0 24) (h : r < s .blocks)
-      (size : K ≡ cond (ltb r (s .shorts)) (s .short) (s .long)) (zeros : F ≡ cond (eqb r 0) (s .filler) 0) (w : Hearing A room b₀ b n from at r)
+      (size : K ≡ cond (ltb r (s .shorts)) (s .short) (s .long)) (zeros : F ≡ cond (eqb r 0) (s .filler) 0) (w : Hearing A room b₀ b n right from at r)
     where
       here : Block A s r
       here = block-of A told h
@@ -267,16 +321,20 @@ module _ {A : ℕ} {room b₀ b : List ℕ} {n from at r : ℕ} {s : Segments} w
           sum-fits =
               count-fits A (here .below) w (rw (size ∙ here .size, zeros ∙ here .filled) at e) (rw (size ∙ here .size, zeros ∙ here .filled) at c)
 
-          pub hearing-next : Hearing A room b₀ (putMid at (at + (K - F) - at) b part) (n + x) (from + perBlock) (at + (K - F) - L) (r + 1)
+          pub hearing-next : {right′ : ℕ}
+              → right′ ≡ cond (eqb (n + x) 0 && (eqb right r && (eqb L 0 || eqb (crc 24 gCRC24B (midOf at (at + (K - F) - at) (putMid at (at + (K - F) - at) b part))) 0))) (r + 1) right
+              → Hearing A room b₀ (putMid at (at + (K - F) - at) b part) (n + x) right′ (from + perBlock) (at + (K - F) - L) (r + 1)
           unfolding b′
-          hearing-next =
+          hearing-next told-right =
               rw (size ∙ here .size, zeros ∙ here .filled, check-told)
-              (pushed A (here .below) w (rw (size ∙ here .size, zeros ∙ here .filled) at e) (rw (size ∙ here .size, zeros ∙ here .filled) at c))
+              (pushed A (here .below) w (rw (size ∙ here .size, zeros ∙ here .filled) at e) (rw (size ∙ here .size, zeros ∙ here .filled) at c)
+              (rw (size ∙ here .size, zeros ∙ here .filled, check-told) at told-right))
 
-  pub hearing-finish : s ≡ segmentsFor A → s .blocks ≤ r → Hearing A room b₀ b n from at r → (n ≡ lacking 1 0 A room) × (take (A + 24) b ≡ heardSequence 1 0 A room)
-  unfolding lacking
+  pub hearing-finish : s ≡ segmentsFor A → s .blocks ≤ r → Hearing A room b₀ b n right from at r
+      → (n ≡ lacking 1 0 A room) × (n ≡ 0 → right ≡ firstWrong 1 0 A room) × (take (A + 24) b ≡ heardSequence 1 0 A room)
+  unfolding lacking firstWrong
   hearing-finish told h w =
-      (finish past (w .sum), ap (λ (m : ℕ). take m b) (sym full) ∙ sym (append-nil (take at b)) ∙ ap (λ (l : List ℕ). take at b ++ l) (sym (heard-none (A + 24) (blocks (A + 24)) r room past)) ∙ w .told)
+      (finish past (w .sum), λ z. rw all at (w .first z), ap (λ (m : ℕ). take m b) (sym full) ∙ sym (append-nil (take at b)) ∙ ap (λ (l : List ℕ). take at b ++ l) (sym (heard-none (A + 24) (blocks (A + 24)) r room past)) ∙ w .told)
     where
       past : blocks (A + 24) ≤ r
       past = omega (arith, blocks-told A told (w .room-fits .admitted))

@@ -3,14 +3,16 @@ use crate::circle;
 use segmentation::Segments;
 use segmentation::block;
 use slots::Answer;
+use slots::states;
 use slots::states::PER_BLOCK;
 ghost use mathlib.Core.Path.{_≡_};
-ghost use mathlib.Core.Bool.{true, cond};
-ghost use Prim.Native.Nat.{_+_, _≤_};
+ghost use mathlib.Core.Bool.{true, cond, _&&_, _||_};
+ghost use Prim.Native.Nat.{_+_, _≤_, _<_};
 ghost use lib.Dec.{eqb};
 ghost use lib.ListN.{length, take};
-ghost use Rattle.slots.specs.Reading.{lacking, heardSequence};
-ghost use Rattle.reading.specs.Room.{roomFits, roomAnswer, roomOutput};
+ghost use Rattle.check_bits.specs.CheckBits.{crc, gCRC24B};
+ghost use Rattle.slots.specs.Reading.{lacking, firstWrong, heardSequence, heardAnswer};
+ghost use Rattle.reading.specs.Room.{roomFits, roomOutput};
 
 // How many data places of a block of `a` bits lack a bit; 0 where `a` is out of range or the room is too short for it.
 pub fn lacking_in(a: usize, room: &[u8]) -> usize
@@ -43,16 +45,46 @@ fn check_length(s: Segments) -> usize
     if s.blocks == 1 { 0 } else { 24 }
 }
 
-// Puts the sequence as it was heard, the block and its transport check, over the front of `b`, and tells how many data places lack a bit.
-// Each code block's check bits are read and counted too; the next code block is put over them.
-fn collect(a: usize, room: &[u8], b: &mut [u8]) -> usize
+// What is collected of a room: how many data places lack a bit and, where none does, how many code blocks are right before the first wrong one.
+struct Collected {
+    lacking: usize,
+    right: usize,
+}
+
+// How many code blocks are right before the first wrong one, after code block r: one more where all before it are right and its `bits`, check
+// bits among them, leave nothing; its filler in front would change no remainder. A single code block has no check of its own (`check` = 0),
+// and where a bit lacks nobody asks.
+fn right_after(lacking: usize, check: usize, right: usize, r: usize, bits: &[u8]) -> usize
+    requires { ⌜ r < 5 ⌝ }
+    ensures { λ n. ⌜ n ≡ cond (eqb lacking 0 && (eqb right r && (eqb check 0 || eqb (crc 24 gCRC24B (now (bits .entry))) 0))) (r + 1) right ⌝ }
+{
+    if lacking != 0 {
+        return right;
+    }
+    if right != r {
+        return right;
+    }
+    if check == 0 {
+        return r + 1;
+    }
+    if check_bits::crc24b(0, bits) != 0 {
+        return right;
+    }
+    r + 1
+}
+
+// Puts the sequence as it was heard, the block and its transport check, over the front of `b`, and tells what lacks and what is wrong.
+// Each code block's check bits are read, counted and compared too; the next code block is put over them.
+fn collect(a: usize, room: &[u8], b: &mut [u8]) -> Collected
     requires { ⌜ (roomFits a (length (now room)) ≡ true) × (a + 48 ≤ length (now b)) ⌝ }
-    ensures count { λ r. ⌜ r ≡ lacking 1 0 a (now (room .entry)) ⌝ }
+    ensures count { λ r. ⌜ r .lacking ≡ lacking 1 0 a (now (room .entry)) ⌝ }
+    ensures right { λ r. ⌜ (r .lacking ≡ 0 → r .right ≡ firstWrong 1 0 a (now (room .entry))) ⌝ }
     ensures sequence { λ r. ⌜ take (a + 24) (now (b .exit)) ≡ heardSequence 1 0 a (now (room .entry)) ⌝ }
 {
     let s = segmentation::segments_for(a);
     let check = check_length(s);
-    let mut n = 0;
+    let mut lacking = 0;
+    let mut right = 0;
     let mut from = 0;
     let mut at = 0;
     let mut r = 0;
@@ -62,24 +94,28 @@ fn collect(a: usize, room: &[u8], b: &mut [u8]) -> usize
         let to = from + PER_BLOCK;
         let end = at + (k - f);
         circle::read_stream(&room[from..to], k + 4, 0, f, &mut b[at..end]);
-        n += circle::count_missing(&b[at..end]);
+        lacking += circle::count_missing(&b[at..end]);
+        right = right_after(lacking, check, right, r, &b[at..end]);
         from = to;
         at = end - check;
         r += 1;
     }
-    n
+    Collected { lacking, right }
 }
 
 // What Read answers for a room, and the block of `a` bits over the front of `out` where it is released. The sequence is put together in
 // `b`, so that a wrong one leaves `out` as it was.
 fn release(a: usize, room: &[u8], b: &mut [u8], out: &mut [u8]) -> Answer
     requires { ⌜ (roomFits a (length (now room)) ≡ true) × (a + 48 ≤ length (now b)) × (a ≤ length (now out)) ⌝ }
-    ensures { λ r. ⌜ r ≡ roomAnswer a (now (room .entry)) ⌝ }
+    ensures { λ r. ⌜ r ≡ heardAnswer 1 0 a (now (room .entry)) ⌝ }
     ensures { λ r. ⌜ now (out .exit) ≡ roomOutput a (now (room .entry)) (now (out .entry)) ⌝ }
 {
-    let lacking = collect(a, room, b);
-    if lacking != 0 {
-        return Answer::Lacking(lacking);
+    let heard = collect(a, room, b);
+    if heard.lacking != 0 {
+        return Answer::RefusedWith(11, heard.lacking);
+    }
+    if heard.right < states::block_count(a) {
+        return Answer::RefusedWith(16, heard.right);
     }
     let end = a + 24;
     if check_bits::crc24a(0, &b[..end]) != 0 {
@@ -92,7 +128,7 @@ fn release(a: usize, room: &[u8], b: &mut [u8], out: &mut [u8]) -> Answer
 // The same, with an array for the sequence of one code block, or of several.
 pub(crate) fn read_room(a: usize, room: &[u8], out: &mut [u8]) -> Answer
     requires { ⌜ (roomFits a (length (now room)) ≡ true) × (a ≤ length (now out)) ⌝ }
-    ensures { λ r. ⌜ r ≡ roomAnswer a (now (room .entry)) ⌝ }
+    ensures { λ r. ⌜ r ≡ heardAnswer 1 0 a (now (room .entry)) ⌝ }
     ensures { λ r. ⌜ now (out .exit) ≡ roomOutput a (now (room .entry)) (now (out .entry)) ⌝ }
 {
     if a <= 6120 {
@@ -104,7 +140,7 @@ pub(crate) fn read_room(a: usize, room: &[u8], out: &mut [u8]) -> Answer
 
 fn read_short(a: usize, room: &[u8], out: &mut [u8]) -> Answer
     requires { ⌜ (a ≤ 6120) × (roomFits a (length (now room)) ≡ true) × (a ≤ length (now out)) ⌝ }
-    ensures { λ r. ⌜ r ≡ roomAnswer a (now (room .entry)) ⌝ }
+    ensures { λ r. ⌜ r ≡ heardAnswer 1 0 a (now (room .entry)) ⌝ }
     ensures { λ r. ⌜ now (out .exit) ≡ roomOutput a (now (room .entry)) (now (out .entry)) ⌝ }
 {
     let mut b = [0u8; 6168];
@@ -113,7 +149,7 @@ fn read_short(a: usize, room: &[u8], out: &mut [u8]) -> Answer
 
 fn read_long(a: usize, room: &[u8], out: &mut [u8]) -> Answer
     requires { ⌜ (roomFits a (length (now room)) ≡ true) × (a ≤ length (now out)) ⌝ }
-    ensures { λ r. ⌜ r ≡ roomAnswer a (now (room .entry)) ⌝ }
+    ensures { λ r. ⌜ r ≡ heardAnswer 1 0 a (now (room .entry)) ⌝ }
     ensures { λ r. ⌜ now (out .exit) ≡ roomOutput a (now (room .entry)) (now (out .entry)) ⌝ }
 {
     let mut b = [0u8; 30624];

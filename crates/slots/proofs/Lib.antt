@@ -7,4 +7,7 @@ pub mod HeadLaws
 pub mod PlaceBounds
 pub mod Acceptance
 pub mod Sums
+pub mod First
 pub mod SameKept
+pub mod HeardBits
+pub mod Checks

@@ -1,20 +1,24 @@
 -- Rooms that keep the same for the places of a block of A bits read alike, whatever slots of whatever stores they are:
--- the count, the sequence, its check, the block and the streams.
+-- the count, the code blocks and the first wrong one, the sequence, what Read answers, the block and the streams.
 -- Assumes nothing.
 use mathlib.Core.Path.{_≡_, refl, ap, ap₂}
-use mathlib.Core.Bool.{cond, not, _&&_}
+use mathlib.Core.Bool.{Bool, cond, not, _&&_}
 use mathlib.Core.List.{List, _++_}
 use Prim.Native.Nat.{ℕ, zero, suc, _+_, _-_, _≤_, _<_}
 use native.Mathlib.Omega.{arith}
 use lib.Dec.{eqb, ltb}
-use lib.ListN.{take}
+use lib.ListN.{take, replicate}
 use Rattle.laws.specs.Lists.{tab}
 use Rattle.laws.proofs.Tab.{tabFrom-ext, tab-ext}
-use Rattle.check_bits.specs.CheckBits.{crc, gCRC24A}
+use Rattle.check_bits.specs.CheckBits.{crc, gCRC24A, gCRC24B}
 use Rattle.segmentation.specs.Segmentation.{checkLength, blocks, sizeOf, fillerOf}
 use Rattle.slots.specs.Room.{heard}
-use Rattle.slots.specs.Reading.{keptAt, lacks, lackingIn, lacking, heardIn, heardFrom, heardSequence, wrongCheck, heardBlock, streamByte, threeStreams}
+use Rattle.slots.specs.declared.Answer.{Answer}
+use Rattle.slots.specs.declared.Answer.the-variants.{Done, Refused}
+use Rattle.slots.specs.Answers.{Lacking, WrongBlock}
+use Rattle.slots.specs.Reading.{keptAt, lacks, lackingIn, lacking, heardCodeBlock, wrongBlock, firstWrong, someWrong, heardIn, heardFrom, heardSequence, wrongCheck, heardAnswer, heardBlock, streamByte, threeStreams}
 use Rattle.slots.proofs.Sums.{sumFrom-ext}
+use Rattle.slots.proofs.First.{firstFrom-ext}
 
 module _ (A M slot N other : ℕ) (store store′ : List ℕ)
     (same : (r s i : ℕ) → r < blocks (A + 24) → s < 3 → i < sizeOf (A + 24) r + 4 → keptAt M slot (A + 24) store r s i ≡ keptAt N other (A + 24) store′ r s i)
@@ -25,6 +29,18 @@ module _ (A M slot N other : ℕ) (store store′ : List ℕ)
     same-lacking = sumFrom-ext _ _ 0 (blocks (A + 24))
         (λ r a h. sumFrom-ext _ _ (fillerOf (A + 24) r) (sizeOf (A + 24) r - fillerOf (A + 24) r)
         (λ i b l. ap (λ (x : ℕ). cond (heard x) 0 1) (same r 0 i (omega arith) (omega arith) (omega arith))))
+
+    -- a code block, its check bits among it, and the first that is wrong
+    same-codeBlock : (r : ℕ) → r < blocks (A + 24) → heardCodeBlock M slot (A + 24) store r ≡ heardCodeBlock N other (A + 24) store′ r
+    unfolding heardCodeBlock
+    same-codeBlock r h =
+        ap (λ (l : List ℕ). replicate {A = ℕ} (fillerOf (A + 24) r) 0 ++ l)
+        (tabFrom-ext (fillerOf (A + 24) r) (sizeOf (A + 24) r - fillerOf (A + 24) r) _ _ (λ i a b. same r 0 i h (omega arith) (omega arith)))
+
+    same-first : firstWrong M slot A store ≡ firstWrong N other A store′
+    unfolding firstWrong wrongBlock
+    same-first = firstFrom-ext _ _ 0 (blocks (A + 24))
+        (λ r a h. ap (λ (l : List ℕ). not (eqb (blocks (A + 24)) 1) && not (eqb (crc 24 gCRC24B l) 0)) (same-codeBlock r (omega arith)))
 
     same-heardFrom : (r n : ℕ) → r + n ≤ blocks (A + 24) → heardFrom M slot (A + 24) store r n ≡ heardFrom N other (A + 24) store′ r n
     unfolding heardFrom heardIn
@@ -40,9 +56,16 @@ module _ (A M slot N other : ℕ) (store store′ : List ℕ)
     unfolding heardSequence
     same-sequence = same-heardFrom 0 (blocks (A + 24)) (omega arith)
 
-    pub same-wrong : wrongCheck M slot A store ≡ wrongCheck N other A store′
+    same-wrong : wrongCheck M slot A store ≡ wrongCheck N other A store′
     unfolding wrongCheck
     same-wrong = ap (λ (l : List ℕ). not (eqb (crc 24 gCRC24A l) 0)) same-sequence
+
+    -- what Read answers
+    pub same-answer : heardAnswer M slot A store ≡ heardAnswer N other A store′
+    unfolding heardAnswer someWrong
+    same-answer =
+        ap₂ (λ (n : ℕ) (x : Answer). cond (eqb n 0) x (Lacking n)) same-lacking
+        (ap₂ (λ (r : ℕ) (w : Bool). cond (ltb r (blocks (A + 24))) (WrongBlock r) (cond w (Refused 12) Done)) same-first same-wrong)
 
     pub same-block : heardBlock M slot A store ≡ heardBlock N other A store′
     unfolding heardBlock

@@ -1,6 +1,6 @@
 -- The six calls of 01's slots: for each its refusals in 01's order, its answer with the state returned, and every lent byte afterwards.
 -- Assumes nothing.
-use mathlib.Core.Bool.{Bool, true, false, cond, not}
+use mathlib.Core.Bool.{Bool, true, cond, not}
 use mathlib.Core.List.{List, [], _∷_, _++_}
 use Prim.Native.Nat.{ℕ, _+_, _*_}
 use lib.Dec.{eqb, ltb}
@@ -11,13 +11,13 @@ use Rattle.segmentation.specs.Sizes.{badSize}
 use Rattle.codeword.specs.Build.{badAllocation, badVersion, badBits}
 use Rattle.slots.specs.declared.Head.{Head}
 use Rattle.slots.specs.declared.State.{State}
-use Rattle.slots.specs.declared.Answer.the-variants.{Done, Heard, Lacking, Refused}
+use Rattle.slots.specs.declared.Answer.the-variants.{Done, Heard}
 use Rattle.slots.specs.declared.Outcome.{Outcome}
 use Rattle.slots.specs.State.{storeLength, closedHead, newState, headAt, tooMany, badShape, badState}
 use Rattle.slots.specs.Room.{cleared}
 use Rattle.slots.specs.Reception.{received}
-use Rattle.slots.specs.Reading.{lacking, wrongCheck, heardBlock, threeStreams}
-use Rattle.slots.specs.Answers.{unlessRefused}
+use Rattle.slots.specs.Reading.{lacking, heardAnswer, heardBlock, threeStreams}
+use Rattle.slots.specs.Answers.{isDone, unlessRefused}
 
 -- the state with another head for a slot
 unfoldable pub withHead : State → ℕ → Head → State
@@ -85,36 +85,20 @@ receiveOutcome state slot terminal Q N v bits store =
       state = state;
     })
 
--- Read: 13, 5, 6, 8, 9, 5 (output), then 11 with the count, then 12; size is the length of the output
+-- Read: 13, 5, 6, 8, 9, 5 (output), then 11 with the count, 16 with the code block, 12; size is the length of the output
 unfoldable pub readNumber : State → ℕ → ℕ → ℕ → ℕ → ℕ
 readNumber state room slot terminal size =
     firstOf
     (storeRules state room slot ++ (ownerRules state slot terminal ++ (rule (ltb size (sizeAtHead state slot)) 5 ∷ [])))
 
--- the slot's data places that lack a bit
-unfoldable pub lackingAt : State → ℕ → List ℕ → ℕ
-lackingAt state slot store = lacking (state .blocks) slot (sizeAtHead state slot) store
-
-unfoldable pub wrongAt : State → ℕ → List ℕ → Bool
-wrongAt state slot store = wrongCheck (state .blocks) slot (sizeAtHead state slot) store
-
 unfoldable pub readOutcome : State → List ℕ → ℕ → ℕ → ℕ → Outcome
 readOutcome state store slot terminal size =
     unlessRefused (readNumber state (length store) slot terminal size) state
-    (record {
-      answer =
-          cond (eqb (lackingAt state slot store) 0)
-          (cond (wrongAt state slot store) (Refused 12) Done)
-          (Lacking (lackingAt state slot store));
-      state = state;
-    })
+    (record { answer = heardAnswer (state .blocks) slot (sizeAtHead state slot) store; state = state })
 
--- the block is released: no refusal, nothing lacking, the check right
+-- the block is released: nothing is refused
 unfoldable pub released : State → List ℕ → ℕ → ℕ → ℕ → Bool
-released state store slot terminal size =
-    cond (eqb (readNumber state (length store) slot terminal size) 0)
-    (cond (eqb (lackingAt state slot store) 0) (not (wrongAt state slot store)) false)
-    false
+released state store slot terminal size = isDone (readOutcome state store slot terminal size .answer)
 
 unfoldable pub readOutput : State → List ℕ → ℕ → ℕ → List ℕ → List ℕ
 readOutput state store slot terminal out =

@@ -4,3 +4,4 @@ pub mod Reception
 pub mod Reading
 pub mod Answers
 pub mod Calls
+pub mod Checks

@@ -1,15 +1,19 @@
--- Reading a room, 01 'Read' and 'Streams': the data places and how many of them lack a bit, the block that was heard and its transport check, the three streams of a code block.
+-- Reading a room, 01 'Read' and 'Streams' and 02, E1: the data places and how many of them lack a bit, the code blocks that were heard and the first wrong one,
+-- the block that was heard and its transport check, what Read answers, the three streams of a code block.
 -- Assumes nothing.
 use mathlib.Core.Bool.{Bool, true, false, cond, not, _&&_, _||_}
 use mathlib.Core.List.{List, [], _∷_, _++_}
 use Prim.Native.Nat.{ℕ, zero, suc, _+_, _-_}
 use lib.Dec.{eqb, ltb}
-use lib.ListN.{getD, take}
+use lib.ListN.{getD, take, replicate}
 use Rattle.laws.specs.Lists.{tab, tabFrom}
-use Rattle.check_bits.specs.CheckBits.{crc, gCRC24A}
+use Rattle.check_bits.specs.CheckBits.{crc, gCRC24A, gCRC24B}
 use Rattle.segmentation.specs.Segmentation.{checkLength, blocks, sizeOf, fillerOf}
 use Rattle.rate_matching.specs.Places.{placeNumber}
+use Rattle.slots.specs.declared.Answer.{Answer}
+use Rattle.slots.specs.declared.Answer.the-variants.{Done, Refused}
 use Rattle.slots.specs.Room.{heard, byteOf}
+use Rattle.slots.specs.Answers.{Lacking, WrongBlock}
 
 -- what a slot's room keeps for place i of stream s of code block r, for a sequence of B bits
 unfoldable pub keptAt : ℕ → ℕ → ℕ → List ℕ → ℕ → ℕ → ℕ → ℕ
@@ -32,6 +36,30 @@ lackingIn M slot B store r = sumFrom (lacks M slot B store r) (fillerOf B r) (si
 unfoldable pub lacking : ℕ → ℕ → ℕ → List ℕ → ℕ
 lacking M slot A store = sumFrom (lackingIn M slot (A + 24) store) 0 (blocks (A + 24))
 
+-- code block r as it was heard, its check bits among it; filler counts as 0
+unfoldable pub heardCodeBlock : ℕ → ℕ → ℕ → List ℕ → ℕ → List ℕ
+heardCodeBlock M slot B store r =
+    replicate {A = ℕ} (fillerOf B r) 0
+    ++ tabFrom (fillerOf B r) (sizeOf B r - fillerOf B r) (keptAt M slot B store r 0)
+
+-- the check of code block r is wrong: the code block with its CRC24B leaves a remainder (clause 5.1.1); a single code block has none
+unfoldable pub wrongBlock : ℕ → ℕ → ℕ → List ℕ → ℕ → Bool
+wrongBlock M slot B store r =
+    not (eqb (blocks B) 1) && not (eqb (crc 24 gCRC24B (heardCodeBlock M slot B store r)) 0)
+
+-- the first of n numbers from i on of which f is true, and i + n where there is none
+unfoldable pub firstFrom : (ℕ → Bool) → ℕ → ℕ → ℕ
+firstFrom f i zero = i
+firstFrom f i (suc n) = cond (f i) i (firstFrom f (suc i) n)
+
+-- the first code block, counted from 0, whose check is wrong, and C where there is none
+unfoldable pub firstWrong : ℕ → ℕ → ℕ → List ℕ → ℕ
+firstWrong M slot A store = firstFrom (wrongBlock M slot (A + 24) store) 0 (blocks (A + 24))
+
+-- number 16: there is one
+unfoldable pub someWrong : ℕ → ℕ → ℕ → List ℕ → Bool
+someWrong M slot A store = ltb (firstWrong M slot A store) (blocks (A + 24))
+
 -- the bits of b that code block r carries: filler and CRC24B left out
 unfoldable pub heardIn : ℕ → ℕ → ℕ → List ℕ → ℕ → List ℕ
 heardIn M slot B store r =
@@ -49,6 +77,14 @@ heardSequence M slot A store = heardFrom M slot (A + 24) store 0 (blocks (A + 24
 -- number 12: the transport check is wrong
 unfoldable pub wrongCheck : ℕ → ℕ → ℕ → List ℕ → Bool
 wrongCheck M slot A store = not (eqb (crc 24 gCRC24A (heardSequence M slot A store)) 0)
+
+-- what Read answers from the room: 11 with the count, then 16 with the code block, then 12
+unfoldable pub heardAnswer : ℕ → ℕ → ℕ → List ℕ → Answer
+heardAnswer M slot A store =
+    cond (eqb (lacking M slot A store) 0)
+    (cond (someWrong M slot A store) (WrongBlock (firstWrong M slot A store))
+    (cond (wrongCheck M slot A store) (Refused 12) Done))
+    (Lacking (lacking M slot A store))
 
 -- the A bits that a read gives
 unfoldable pub heardBlock : ℕ → ℕ → ℕ → List ℕ → List ℕ

@@ -26,10 +26,10 @@ pub enum Answer {
     Done,
     // an accepted reception: so many data places lack a bit
     Heard(usize),
-    // a read with so many data places lacking
-    Lacking(usize),
-    // any other refusal, by its number
+    // a refusal, by its number
     Refused(u8),
+    // a refusal that brings a number: 11 how many data places lack a bit, 16 which code block is wrong
+    RefusedWith(u8, usize),
 }
 
 // An answer and the state to hand to the next call.

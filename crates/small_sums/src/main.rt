@@ -39,13 +39,14 @@ fn say_answer(answer: Answer) {
             say(b"accepted, lacking ");
             say_number(lacking);
         }
-        Answer::Lacking(lacking) => {
-            say(b"11 with ");
-            say_number(lacking);
-        }
         Answer::Refused(refusal) => {
             say(b"refused with ");
             say_number(refusal as usize);
+        }
+        Answer::RefusedWith(refusal, value) => {
+            say_number(refusal as usize);
+            say(b" with ");
+            say_number(value);
         }
     }
 }

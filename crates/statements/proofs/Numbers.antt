@@ -11,10 +11,11 @@ use Rattle.refusals.specs.Refusals.{Rule, rule, firstOf}
 use Rattle.refusals.proofs.Refusals.{numbered, firstOf-append}
 use Rattle.slots.specs.declared.State.{State}
 use Rattle.slots.specs.declared.Outcome.{Outcome}
-use Rattle.slots.specs.declared.Answer.the-variants.{Done, Heard, Lacking, Refused}
+use Rattle.slots.specs.declared.Answer.the-variants.{Done, Refused}
 use Rattle.slots.specs.State.{badShape}
-use Rattle.slots.specs.Answers.{numberOf, unlessRefused}
-use Rattle.slots.specs.Calls.{storeRules, ownerRules, sizeAtHead, lackingAt, wrongAt, newOutcome, openNumber, openOutcome, receiveNumber, receiveOutcome, readNumber, readOutcome, streamsNumber, streamsOutcome, closeNumber, closeOutcome}
+use Rattle.slots.specs.Answers.{numberOf, Lacking, WrongBlock, unlessRefused}
+use Rattle.slots.specs.Reading.{lacking, firstWrong, someWrong, wrongCheck, heardAnswer}
+use Rattle.slots.specs.Calls.{storeRules, ownerRules, sizeAtHead, newOutcome, openNumber, openOutcome, receiveNumber, receiveOutcome, readNumber, readOutcome, streamsNumber, streamsOutcome, closeNumber, closeOutcome}
 
 -- an accepted outcome has number 0, a refused one its number
 given : (n : ℕ) (state : State) (accepted : Outcome) → numberOf (accepted .answer) ≡ 0 → numberOf (unlessRefused n state accepted .answer) ≡ n
@@ -47,40 +48,47 @@ pub close-number : (state : State) (slot terminal : ℕ) → numberOf (closeOutc
 unfolding closeOutcome numberOf
 close-number state slot terminal = given _ _ _ refl
 
--- Read's refusals, all of them: 13, 5 (store), 6, 8, 9, 5 (output), 11, 12
+-- Read's refusals from the room: 11, 16, 12
+abbrev pub roomRules : ℕ → ℕ → ℕ → List ℕ → List Rule
+roomRules M slot A store =
+    rule (not (eqb (lacking M slot A store) 0)) 11 ∷ rule (someWrong M slot A store) 16 ∷ rule (wrongCheck M slot A store) 12 ∷ []
+
+-- and all of them: 13, 5 (store), 6, 8, 9, 5 (output), 11, 16, 12
 abbrev pub readRules : State → List ℕ → ℕ → ℕ → ℕ → List Rule
 readRules state store slot terminal size =
     (storeRules state (length store) slot ++ (ownerRules state slot terminal ++ (rule (ltb size (sizeAtHead state slot)) 5 ∷ [])))
-    ++ (rule (not (eqb (lackingAt state slot store) 0)) 11 ∷ rule (wrongAt state slot store) 12 ∷ [])
+    ++ roomRules (state .blocks) slot (sizeAtHead state slot) store
 
 -- the room is looked at only where the rules before it do not apply
-after : (n lacks : ℕ) (wrong : Bool) (state : State)
-    → numberOf
-    (unlessRefused n state
-    (record { answer = cond (eqb lacks 0) (cond wrong (Refused 12) Done) (Lacking lacks); state = state })
-    .answer)
-    ≡ cond (eqb n 0) (firstOf (rule (not (eqb lacks 0)) 11 ∷ rule wrong 12 ∷ [])) n
-unfolding unlessRefused numberOf firstOf
-after n lacks wrong state = go (eqb n 0) (eqb lacks 0) wrong
+room-number : (M slot A : ℕ) (store : List ℕ) → numberOf (heardAnswer M slot A store) ≡ firstOf (roomRules M slot A store)
+unfolding heardAnswer numberOf firstOf
+room-number M slot A store = go (eqb (lacking M slot A store) 0) (someWrong M slot A store) (wrongCheck M slot A store)
   where
-    go : (t u w : Bool)
-        → numberOf
-        (cond {A = Outcome} t (record { answer = cond u (cond w (Refused 12) Done) (Lacking lacks); state = state })
-        (record { answer = Refused n; state = state })
-        .answer)
-        ≡ cond t (firstOf (rule (not u) 11 ∷ rule w 12 ∷ [])) n
-    go true true true = refl
-    go true true false = refl
-    go true false w = refl
-    go false u w = refl
+    go : (u s w : Bool)
+        → numberOf (cond u (cond s (WrongBlock (firstWrong M slot A store)) (cond w (Refused 12) Done)) (Lacking (lacking M slot A store)))
+        ≡ firstOf (rule (not u) 11 ∷ rule s 16 ∷ rule w 12 ∷ [])
+    go true true w = refl
+    go true false true = refl
+    go true false false = refl
+    go false s w = refl
+
+after : (n : ℕ) (state : State) (accepted : Outcome) → numberOf (unlessRefused n state accepted .answer) ≡ cond (eqb n 0) (numberOf (accepted .answer)) n
+unfolding unlessRefused numberOf
+after n state accepted = go (eqb n 0)
+  where
+    go : (t : Bool) → numberOf (cond {A = Outcome} t accepted (record { answer = Refused n; state = state }) .answer) ≡ cond t (numberOf (accepted .answer)) n
+    go true = refl
+    go false = refl
 
 pub read-number : (state : State) (store : List ℕ) (slot terminal size : ℕ)
     → numberOf (readOutcome state store slot terminal size .answer) ≡ firstOf (readRules state store slot terminal size)
 unfolding readOutcome readNumber storeRules ownerRules
 read-number state store slot terminal size =
-    after (readNumber state (length store) slot terminal size) (lackingAt state slot store) (wrongAt state slot store) state
+    after (readNumber state (length store) slot terminal size) state _
+    ∙ ap (λ (k : ℕ). cond (eqb (readNumber state (length store) slot terminal size) 0) k (readNumber state (length store) slot terminal size))
+    (room-number (state .blocks) slot (sizeAtHead state slot) store)
     ∙ sym
     (firstOf-append
     (storeRules state (length store) slot ++ (ownerRules state slot terminal ++ (rule (ltb size (sizeAtHead state slot)) 5 ∷ [])))
-    (rule (not (eqb (lackingAt state slot store) 0)) 11 ∷ rule (wrongAt state slot store) 12 ∷ [])
+    (roomRules (state .blocks) slot (sizeAtHead state slot) store)
     tt)

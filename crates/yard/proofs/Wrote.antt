@@ -1,7 +1,7 @@
 -- Laws of accepted calls that give bits: Read, Streams and Build answer Done exactly when they are accepted, and what they then wrote.
 -- Assumes nothing.
 use mathlib.Core.Path.{_≡_, refl, sym, _∙_, ap}
-use mathlib.Core.Bool.{Bool, true, false, cond, not}
+use mathlib.Core.Bool.{Bool, true, false, cond, true≢false}
 use mathlib.Core.List.{List, _++_, append-assoc}
 use Prim.Native.Nat.{ℕ, _+_, _-_, _*_, _≤_}
 use native.Mathlib.Omega.{arith}
@@ -18,47 +18,24 @@ use Rattle.slots.proofs.HeadLaws.{open-size}
 use Rattle.reading.proofs.Blocks.{size-told}
 use Rattle.slots.specs.declared.Answer.{Answer}
 use Rattle.slots.specs.declared.Outcome.{Outcome}
-use Rattle.slots.specs.declared.Answer.the-variants.{Done, Lacking, Refused}
-use Rattle.slots.specs.Answers.{unlessRefused}
+use Rattle.slots.specs.declared.Answer.the-variants.{Done, Refused}
+use Rattle.slots.specs.Answers.{isDone, unlessRefused}
 use Rattle.laws.proofs.Tab.{length-tab}
 use Rattle.codeword.specs.Codeword.{codeword}
 use Rattle.codeword.specs.Build.{buildNumber, buildOutput}
 use Rattle.codeword.proofs.Numbers.{accepted as accepted-build}
 use Rattle.slots.specs.Reading.{heardBlock, streamByte, threeStreams}
-use Rattle.slots.specs.Calls.{sizeAtHead, lackingAt, wrongAt, readNumber, readOutcome, released, readOutput, streamsNumber, streamsOutcome, streamsOutput}
+use Rattle.slots.specs.Calls.{sizeAtHead, readNumber, readOutcome, released, readOutput, streamsNumber, streamsOutcome, streamsOutput}
 use Rattle.slots.proofs.Acceptance.{reads, streams}
 use Rattle.answers.specs.Rows.{answerRow, refusalRow, runRow, runsRow}
 use Rattle.yard.specs.Rooms.{readRoom, streamsRoom, buildRoom}
 use Rattle.yard.specs.Rows.{readRow, streamLength, streamRun, streamsRow, buildRow}
-use Rattle.yard.specs.Done.{isDone}
-
--- the outcome of a read by its tests: a refusal, places lacking, a wrong check
-abbrev told : Bool → Bool → Bool → ℕ → ℕ → State → Outcome
-told a b w refusal lacking state =
-    cond {A = Outcome} a
-    (record { answer = cond b (cond w (Refused 12) Done) (Lacking lacking); state = state })
-    (record { answer = Refused refusal; state = state })
-
-released-by : (refusal lacking : ℕ) (wrong : Bool) (state : State)
-    → cond (eqb refusal 0) (cond (eqb lacking 0) (not wrong) false) false
-    ≡ isDone (unlessRefused refusal state (record { answer = cond (eqb lacking 0) (cond wrong (Refused 12) Done) (Lacking lacking); state = state }) .answer)
-unfolding isDone unlessRefused
-released-by refusal lacking wrong state = go (eqb refusal 0) (eqb lacking 0) wrong
-  where
-    go : (a b w : Bool)
-        → cond a (cond b (not w) false) false
-        ≡ isDone (told a b w refusal lacking state .answer)
-    go true true true = refl
-    go true true false = refl
-    go true false w = refl
-    go false b w = refl
 
 -- Read answers Done exactly where the block is released
 pub released-is : (state : State) (store : List ℕ) (slot terminal size : ℕ)
     → released state store slot terminal size ≡ isDone (readOutcome state store slot terminal size .answer)
-unfolding released readOutcome
-released-is state store slot terminal size =
-    released-by (readNumber state (length store) slot terminal size) (lackingAt state slot store) (wrongAt state slot store) state
+unfolding released
+released-is state store slot terminal size = refl
 
 -- what Streams answers
 streamed-by : (refusal : ℕ) (state : State)
@@ -77,14 +54,18 @@ unfolding streamsOutcome
 streamed-is state room slot terminal r size = streamed-by (streamsNumber state room slot terminal r size) state
 
 -- a released read is not refused
+done-number : (n : ℕ) (state : State) (o : Outcome) → isDone (unlessRefused n state o .answer) ≡ true → n ≡ 0
+unfolding isDone unlessRefused
+done-number n state o = go (eqb n 0) refl
+  where
+    go : (t : Bool) → eqb n 0 ≡ t → isDone (cond {A = Outcome} t o (record { answer = Refused n; state = state }) .answer) ≡ true → n ≡ 0
+    go true e h = eqb-true n 0 e
+    go false e h = absurd (true≢false (sym h))
+
 released-number : (state : State) (store : List ℕ) (slot terminal size : ℕ) → released state store slot terminal size ≡ true
     → readNumber state (length store) slot terminal size ≡ 0
-unfolding released
-released-number state store slot terminal size e = eqb-true _ _ (go (eqb (readNumber state (length store) slot terminal size) 0) (cond (eqb (lackingAt state slot store) 0) (not (wrongAt state slot store)) false) e)
-  where
-    go : (a b : Bool) → cond a b false ≡ true → a ≡ true
-    go true b h = refl
-    go false b h = h
+unfolding released readOutcome
+released-number state store slot terminal size e = done-number (readNumber state (length store) slot terminal size) state _ e
 
 -- a call that wrote h over the first n bytes of an output which kept its length
 pub front : (h out : List ℕ) {out′ : List ℕ} (n : ℕ) → n ≤ length out → out′ ≡ h ++ drop n out → length out′ ≡ length out → take n out′ ≡ h

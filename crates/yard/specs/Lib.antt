@@ -1,4 +1,3 @@
 pub mod Rooms
-pub mod Done
 pub mod Rows
 pub mod Step

@@ -7,12 +7,12 @@ use slots::states;
 ghost use mathlib.Core.Path.{_≡_};
 ghost use Prim.Native.Nat.{_+_, _-_, _*_, _≤_};
 ghost use lib.ListN.{length, take, drop};
+ghost use Rattle.slots.specs.Answers.{isDone};
 ghost use Rattle.slots.specs.Calls.{receiveOutcome, receiveStore};
 ghost use Rattle.lines.specs.Put.{putAt, endAt};
 ghost use Rattle.requests.specs.Request.{bitsFrom, longestLine};
 ghost use Rattle.answers.specs.Rows.{answerRow, runsRow};
 ghost use Rattle.answers.specs.SizesRow.{sizesRow};
-ghost use Rattle.yard.specs.Done.{isDone};
 ghost use Rattle.yard.specs.Rows.{readRow, streamsRow, buildRow};
 ghost use Rattle.yard.specs.Step.{stepOf, storeAfter, outAfter, at};
 
@@ -133,8 +133,8 @@ fn is_done(answer: Answer) -> bool
     match answer {
         Answer::Done => true,
         Answer::Heard(_) => false,
-        Answer::Lacking(_) => false,
         Answer::Refused(_) => false,
+        Answer::RefusedWith(_, _) => false,
     }
 }
 

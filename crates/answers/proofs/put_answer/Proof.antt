@@ -31,6 +31,18 @@ put-told-requires c κs = search needs
 enum-known-answer-2 : tie.Need-enum-known-answer-2
 enum-known-answer-2 c = search needs
 
+cast-put-refusal : tie.Need-cast-put-refusal
+cast-put-refusal c = search needs
+
+put-refusal-requires : tie.Need-put-refusal-requires
+put-refusal-requires c κs = search needs
+
+enum-known-answer-3 : tie.Need-enum-known-answer-3
+enum-known-answer-3 c = search needs
+
+cast-refusal : tie.Need-cast-refusal
+cast-refusal c = search needs
+
 slice-aggregate-put-told-3 : tie.Need-slice-aggregate-put-told-3
 slice-aggregate-put-told-3 c = search needs
 
@@ -39,15 +51,6 @@ slice-aggregate-put-told-4 c = search needs
 
 put-told-requires-2 : tie.Need-put-told-requires-2
 put-told-requires-2 c κs = search needs
-
-enum-known-answer-3 : tie.Need-enum-known-answer-3
-enum-known-answer-3 c = search needs
-
-cast-put-refusal : tie.Need-cast-put-refusal
-cast-put-refusal c = search needs
-
-put-refusal-requires : tie.Need-put-refusal-requires
-put-refusal-requires c κs = search needs
 
 same-length : tie.Need-same-length
 same-length c = search needs
@@ -67,15 +70,15 @@ same-length-3 : tie.Need-same-length-3
 same-length-3 c = search needs
 
 returns-3 : tie.Need-returns-3
-unfolding answerRow refusedRow numberOf valuesOf rowOf endOf
-returns-3 c = rw (c .before .before .before .before .before .before .before .answer2 .given .1) (c .before .before .put-told2 .ensures)
+unfolding answerRow refusalRow numberOf valuesOf
+returns-3 c = rw (c .before .before .before .before .before .answer2 .given .1) (c .before .before .put-refusal .ensures)
 
 same-length-4 : tie.Need-same-length-4
 same-length-4 c = search needs
 
 returns-4 : tie.Need-returns-4
-unfolding answerRow refusalRow numberOf valuesOf
-returns-4 c = rw (c .before .before .before .before .before .answer3 .given .1) (c .before .before .put-refusal .ensures)
+unfolding answerRow refusedRow numberOf valuesOf rowOf endOf
+returns-4 c = rw (c .before .before .before .before .before .before .before .answer3 .given .1) (c .before .before .put-told2 .ensures)
 
 pub put-answer-spec : {M : Type 1} → statement M
 put-answer-spec =
@@ -89,12 +92,13 @@ put-answer-spec =
     slice-aggregate-put-told-2
     put-told-requires
     enum-known-answer-2
+    cast-put-refusal
+    put-refusal-requires
+    enum-known-answer-3
+    cast-refusal
     slice-aggregate-put-told-3
     slice-aggregate-put-told-4
     put-told-requires-2
-    enum-known-answer-3
-    cast-put-refusal
-    put-refusal-requires
     same-length
     returns
     same-length-2

@@ -1,6 +1,6 @@
 -- `heard_read` meets its contract: Read of the open slot, and its answer in two numbers.
 -- Assumes nothing.
-use Rattle.heard.proofs.Told.{numbered, counted}
+use Rattle.heard.proofs.Told.{numbered, valued}
 use borrow.Author.Needs.{needs}
 use Rattle.heard.proofs.heard_read.Statement.{statement}
 use Rattle.heard.proofs.heard_read.Tie as tie
@@ -11,8 +11,8 @@ open-slot-requires c κs = search needs
 read-requires : tie.Need-read-requires
 read-requires c κs = search needs
 
-count-requires : tie.Need-count-requires
-count-requires c κs = search needs
+value-requires : tie.Need-value-requires
+value-requires c κs = search needs
 
 number-requires : tie.Need-number-requires
 number-requires c κs = search needs
@@ -25,9 +25,9 @@ returns c =
     let called = c .before .before .before .before .before in
     let made = called .before .before .open-slot .ensures in
     let told = rw made at (called .read .ensures .0) in
-    (numbered told (c .number .ensures), (rw made at (called .read .ensures .1), counted told _ (c .before .count .ensures)))
+    (numbered told (c .number .ensures), (rw made at (called .read .ensures .1), valued told _ (c .before .value .ensures)))
 
 pub heard-read-spec : {M : Type 1} → statement M
 heard-read-spec =
     tie.close
-    (tie.spec open-slot-requires read-requires count-requires number-requires same-length returns)
+    (tie.spec open-slot-requires read-requires value-requires number-requires same-length returns)

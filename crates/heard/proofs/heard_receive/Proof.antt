@@ -1,6 +1,6 @@
 -- `heard_receive` meets its contract: Receive of the open slot, and its answer in two numbers.
 -- Assumes nothing.
-use Rattle.heard.proofs.Told.{numbered, counted}
+use Rattle.heard.proofs.Told.{numbered, valued}
 use borrow.Author.Needs.{needs}
 use Rattle.heard.proofs.heard_receive.Statement.{statement}
 use Rattle.heard.proofs.heard_receive.Tie as tie
@@ -11,8 +11,8 @@ open-slot-requires c κs = search needs
 receive-requires : tie.Need-receive-requires
 receive-requires c κs = search needs
 
-count-requires : tie.Need-count-requires
-count-requires c κs = search needs
+value-requires : tie.Need-value-requires
+value-requires c κs = search needs
 
 number-requires : tie.Need-number-requires
 number-requires c κs = search needs
@@ -25,7 +25,7 @@ returns c =
     let called = c .before .before .before .before .before in
     let made = called .before .before .open-slot .ensures in
     let told = rw made at (called .receive .ensures .0) in
-    (numbered told (c .number .ensures), (rw made at (called .receive .ensures .1), counted told _ (c .before .count .ensures)))
+    (numbered told (c .number .ensures), (rw made at (called .receive .ensures .1), valued told _ (c .before .value .ensures)))
 
 pub heard-receive-spec : {M : Type 1} → statement M
 heard-receive-spec =
@@ -33,7 +33,7 @@ heard-receive-spec =
     (tie.spec
     open-slot-requires
     receive-requires
-    count-requires
+    value-requires
     number-requires
     same-length
     returns)

@@ -1,4 +1,4 @@
-use Rattle.yard.specs.Done.{isDone}
+use Rattle.slots.specs.Answers.{isDone}
 use borrow.Author.Needs.{needs}
 use Rattle.yard.proofs.is_done.Statement.{statement}
 use Rattle.yard.proofs.is_done.Tie as tie

@@ -8,7 +8,7 @@ use lib.ListN.{length, take}
 use denote.Ref.{now}
 use Rattle.slots.specs.declared.Outcome.{Outcome}
 use Rattle.slots.specs.Calls.{streamsOutcome}
-use Rattle.yard.specs.Done.{isDone}
+use Rattle.slots.specs.Answers.{isDone}
 use Rattle.yard.specs.Rows.{streamsRow, streamLength}
 use Rattle.yard.proofs.Wrote.{runs-fit, stream-size, streams-refused, streams-row}
 use borrow.Author.Needs.{needs}

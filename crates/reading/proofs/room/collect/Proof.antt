@@ -2,15 +2,16 @@
 -- Assumes nothing.
 use Prim.Native.Nat.{_-_}
 use native.Mathlib.Omega.{arith}
+use Rattle.reading.proofs.Blocks.{blocks-few}
 use Rattle.reading.proofs.Sequence.{Hearing, fit, hearing-start, Turn, turn, part-back, sum-fits, hearing-next, hearing-finish}
 use Rattle.reading.proofs.room.collect.Statement.{statement}
 use Rattle.reading.proofs.room.collect.Tie as tie
 
 abbrev Inv-loop : tie.InvT-loop
-Inv-loop a room b₀ s check n₀ from₀ at₀ r₀ b n from at r = Hearing a room b₀ b n from at r
+Inv-loop a room b₀ s check lacking₀ right₀ from₀ at₀ r₀ b lacking right from at r = Hearing a room b₀ b lacking right from at r
 
 abbrev μ-loop : tie.MeasureT-loop
-μ-loop a room b₀ s check n₀ from₀ at₀ r₀ b n from at r = s .blocks - r
+μ-loop a room b₀ s check lacking₀ right₀ from₀ at₀ r₀ b lacking right from at r = s .blocks - r
 
 -- what the turn needs
 parts : (c : tie.After-filler-of Inv-loop μ-loop) → let turns = c .before .before .before .before in
@@ -83,8 +84,8 @@ part-count-missing-end c =
 count-missing-requires : tie.Need-count-missing-requires Inv-loop μ-loop
 count-missing-requires c κs = tt
 
-add-n : tie.Need-add-n Inv-loop μ-loop
-add-n c =
+add-lacking : tie.Need-add-lacking Inv-loop μ-loop
+add-lacking c =
     let filled = c .before .before .before .before .before .before .before .before in
     let sized = filled .before in
     let turns = sized .before .before .before in
@@ -94,8 +95,24 @@ add-n c =
           (filled .filler-of .ensures) (turns .loop .inv) (c .before .before .before .before .before .read-stream .ensures) (c .count-missing .ensures);
     }
 
+sub-right-after : tie.Need-sub-right-after Inv-loop μ-loop
+sub-right-after c = omega arith
+
+part-right-after-start : tie.Need-part-right-after-start Inv-loop μ-loop
+part-right-after-start c = omega arith
+
+part-right-after-end : tie.Need-part-right-after-end Inv-loop μ-loop
+part-right-after-end c =
+    let lent = c .before .before .before .before .before .before in
+    part-back (parts (lent .before .before .before)) (lent .read-stream .last .1 .1 .1 .1 .0) (lent .read-stream .kept .1 .1 .1 .1 .0)
+
+right-after-requires : tie.Need-right-after-requires Inv-loop μ-loop
+right-after-requires c κs =
+    let sized = c .before .before .before .before .before .before .before .before .before .before .before in
+    omega (arith, sized .before .if1 .taken, blocks-few _ (sized .before .before .before .before .before .segments-for .ensures))
+
 sub-at : tie.Need-sub-at Inv-loop μ-loop
-sub-at c = parts (c .before .before .before .before .before .before .before .before) .checked
+sub-at c = parts (c .before .before .before .before .before .before .before .before .before .before .before) .checked
 
 add-r : tie.Need-add-r Inv-loop μ-loop
 add-r c = omega arith
@@ -105,17 +122,21 @@ loop-less c = omega arith
 
 loop-again : tie.Need-loop-again Inv-loop μ-loop
 loop-again c =
-    let filled = c .before .before .before .before .before .before .before .before in
+    let counted = c .before .before .before in
+    let filled = counted .before .before .before .before .before .before .before .before in
     let sized = filled .before in
     let turns = sized .before .before .before in
     hearing-next (turns .before .before .segments-for .ensures) (turns .before .check-length .ensures) (sized .before .if1 .taken) (sized .size-of .ensures)
-    (filled .filler-of .ensures) (turns .loop .inv) (c .before .before .before .before .before .read-stream .ensures) (c .count-missing .ensures)
+    (filled .filler-of .ensures) (turns .loop .inv) (counted .before .before .before .before .before .read-stream .ensures) (counted .count-missing .ensures)
+    (c .right-after .ensures)
 
 same-length : tie.Need-same-length Inv-loop μ-loop
 same-length c = c .before .before .loop .inv .long
 
 returns : tie.Need-returns Inv-loop μ-loop
-returns c = hearing-finish (c .before .before .before .before .segments-for .ensures) (c .if1 .left) (c .before .before .loop .inv)
+returns c =
+    let all = hearing-finish (c .before .before .before .before .segments-for .ensures) (c .if1 .left) (c .before .before .loop .inv) in
+    (all .0, (all .1, all .2))
 
 pub collect-spec : {M : Type 1} → statement M
 collect-spec =
@@ -143,7 +164,11 @@ collect-spec =
     part-count-missing-start
     part-count-missing-end
     count-missing-requires
-    add-n
+    add-lacking
+    sub-right-after
+    part-right-after-start
+    part-right-after-end
+    right-after-requires
     sub-at
     add-r
     loop-less

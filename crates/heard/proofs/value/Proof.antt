@@ -1,10 +1,10 @@
--- `count` meets its contract: each arm is a case of the definition.
+-- `value` meets its contract: each arm is a case of the definition.
 -- Assumes nothing.
 use Rattle.slots.specs.Answers.{valuesOf}
-use Rattle.heard.specs.Slot.{countOf}
+use Rattle.heard.specs.Slot.{valueOf}
 use borrow.Author.Needs.{needs}
-use Rattle.heard.proofs.count.Statement.{statement}
-use Rattle.heard.proofs.count.Tie as tie
+use Rattle.heard.proofs.value.Statement.{statement}
+use Rattle.heard.proofs.value.Tie as tie
 
 enum-told : tie.Need-enum-told
 enum-told c = search needs
@@ -12,36 +12,36 @@ enum-told c = search needs
 enum-known-answer : tie.Need-enum-known-answer
 enum-known-answer c = search needs
 
-enum-known-answer-2 : tie.Need-enum-known-answer-2
-enum-known-answer-2 c = search needs
-
 enum-told-2 : tie.Need-enum-told-2
 enum-told-2 c = search needs
 
+enum-known-answer-2 : tie.Need-enum-known-answer-2
+enum-known-answer-2 c = search needs
+
 returns : tie.Need-returns
-unfolding countOf valuesOf
+unfolding valueOf valuesOf
 returns c = rw (c .enum-told .given .1)
 
 returns-2 : tie.Need-returns-2
-unfolding countOf valuesOf
+unfolding valueOf valuesOf
 returns-2 c = rw (c .before .answer .given .1)
 
 returns-3 : tie.Need-returns-3
-unfolding countOf valuesOf
-returns-3 c = rw (c .before .answer2 .given .1)
+unfolding valueOf valuesOf
+returns-3 c = rw (c .enum-told2 .given .1)
 
 returns-4 : tie.Need-returns-4
-unfolding countOf valuesOf
-returns-4 c = rw (c .enum-told2 .given .1)
+unfolding valueOf valuesOf
+returns-4 c = rw (c .before .answer2 .given .1)
 
-pub count-spec : {M : Type 1} → statement M
-count-spec =
+pub value-spec : {M : Type 1} → statement M
+value-spec =
     tie.close
     (tie.spec
     enum-told
     enum-known-answer
-    enum-known-answer-2
     enum-told-2
+    enum-known-answer-2
     returns
     returns-2
     returns-3
