@@ -1,5 +1,5 @@
 /* What the cell's scheduler does: asks for the sizes of a block, builds its codeword, also from two
- * buffers, and meets a refusal.
+ * buffers, meets a refusal, and sends a report with a charge limit.
  * It prints what it got. Only write(2) of the C library is used, so that the program needs no C headers but the compiler's own. */
 #include "zemrukste.h"
 
@@ -27,6 +27,42 @@ static void put_number(uint32_t number)
 static uint32_t number_at(const uint8_t *bytes)
 {
     return (uint32_t)bytes[0] | (uint32_t)bytes[1] << 8 | (uint32_t)bytes[2] << 16 | (uint32_t)bytes[3] << 24;
+}
+
+static void put_bits(const uint8_t *bits, size_t count)
+{
+    char digit;
+    for (size_t i = 0; i < count; i++) {
+        digit = (char)('0' + bits[i]);
+        write(1, &digit, 1);
+    }
+}
+
+/* A report of four bits and a charge limit of 80 kilowatts in one run, and the report back out of it with three wrong bits. */
+static void put_report(void)
+{
+    static const uint8_t report[4] = {1, 0, 1, 1};
+    static const uint8_t limit[16] = {0, 0, 0, 0, 0, 0, 0, 0, 0, 1, 0, 1, 0, 0, 0, 0};
+    uint8_t run[32 + 132], back[4];
+
+    put("report 1011 in 32 control bits, then a limit of 80 in 132: ");
+    if (zemrukste_report_build(report, sizeof report, 32, limit, sizeof limit, 2, 1, 0, 132, run, sizeof run) != 0)
+        return;
+    put_bits(run, 32);
+    put(" ");
+    put_bits(run + 32, 24);
+    put("..\n");
+    run[0] ^= 1;
+    run[7] ^= 1;
+    run[30] ^= 1;
+    put("the report of that run with three control bits wrong: ");
+    if (zemrukste_report_part(sizeof limit, 2, 1, sizeof back, 32, run, sizeof run, back, sizeof back) != 0)
+        return;
+    put_bits(back, sizeof back);
+    put("\n");
+    put("the same with four control bits in all: refused with ");
+    put_number(zemrukste_report_part(sizeof limit, 2, 1, sizeof back, 4, run, 4 + 132, back, sizeof back));
+    put("\n");
 }
 
 int main(void)
@@ -78,6 +114,8 @@ int main(void)
     number = zemrukste_build(block, sizeof block, 2, 1, 4, 24, out, sizeof out);
     put_number(number);
     put("\n");
+
+    put_report();
 
     put("no block at all: refused with ");
     number = zemrukste_build(0, 0, 2, 1, 0, 24, out, sizeof out);

@@ -1,7 +1,8 @@
 /*
- * Zemrukste: coding of the uplink shared channel (3GPP TS 36.212 V11.5.1, UL-SCH data).
+ * Zemrukste: coding of the uplink shared channel (3GPP TS 36.212 V11.5.1, UL-SCH data and channel
+ * reports ahead of it).
  *
- * Three calls for the cell's scheduler. They work on numbers and byte slices alone:
+ * Five calls for the cell's scheduler. They work on numbers and byte slices alone:
  *
  * - A bit is one byte, 0 or 1.
  * - A slice is a pointer and its length in bytes. A length of 0 may come with a null
@@ -32,6 +33,11 @@ extern "C" {
 #define ZEMRUKSTE_BLOCK_MAX 30576
 #define ZEMRUKSTE_CODEWORD_MAX 172800
 
+/* The longest report, the most control bits a layer, and the longest run of both. */
+#define ZEMRUKSTE_REPORT_MAX 11
+#define ZEMRUKSTE_CONTROL_MAX 4096
+#define ZEMRUKSTE_RUN_MAX (4 * ZEMRUKSTE_CONTROL_MAX + ZEMRUKSTE_CODEWORD_MAX)
+
 /* Bytes that zemrukste_sizes writes. */
 #define ZEMRUKSTE_SIZES_LEN 24
 
@@ -39,18 +45,29 @@ extern "C" {
 #define ZEMRUKSTE_OK 0
 /* The block's length A is not 1 to 30,576: choose a transport block size in that range. */
 #define ZEMRUKSTE_BAD_LENGTH 1
-/* A byte of the block, in either of its slices, is neither 0 nor 1: the caller's bits are
-   damaged or packed; unpack them to one bit a byte, first bit first. */
+/* A byte of the block, in either of its slices, of the report or of the received run is
+   neither 0 nor 1: the caller's bits are damaged or packed; unpack them to one bit a byte,
+   first bit first. */
 #define ZEMRUKSTE_BAD_BIT 2
 /* q, n or g does not fit: q is 2, 4 or 6; n is 1 to 4; g is at most 172,800, a multiple of
-   n * q, and at least n * q for every code block (C of zemrukste_sizes). Correct the
+   n * q, and at least n * q for every code block (C of zemrukste_sizes). Of a received run
+   g is what follows the control bits, so also a run too short for them is 3. Correct the
    allocation. */
 #define ZEMRUKSTE_BAD_ALLOCATION 3
 /* The redundancy version is above 3: give 0, 1, 2 or 3. */
 #define ZEMRUKSTE_BAD_VERSION 4
-/* The output is too short: lend at least g bytes (zemrukste_build, zemrukste_build_two), at
-   least 24 bytes (zemrukste_sizes). */
+/* The output is too short: lend at least g bytes (zemrukste_build, zemrukste_build_two),
+   n * control + g (zemrukste_report_build), o (zemrukste_report_part), 24 (zemrukste_sizes). */
 #define ZEMRUKSTE_SHORT_OUTPUT 5
+/* A report has 1 to 11 bits: correct its length. */
+#define ZEMRUKSTE_BAD_REPORT 17
+/* The control bits a layer are not a positive multiple of q, or above 4,096: correct the
+   grant. */
+#define ZEMRUKSTE_BAD_CONTROL 18
+/* Two or more reports are as near to the received control bits as each other: too many bits
+   came wrong, or the control bits are too few to tell reports of this length apart (see
+   zemrukste_report_part). Keep the last report, or ask the car for another. */
+#define ZEMRUKSTE_TIED 19
 
 /*
  * The codeword of one transport block: CRC24A, code blocks with CRC24B, turbo code, rate
@@ -99,6 +116,48 @@ uint32_t zemrukste_build_two(const uint8_t *header, size_t header_len, const uin
  * Refusals in their order: 1, 5.
  */
 uint32_t zemrukste_sizes(size_t a, uint8_t *out, size_t out_len);
+
+/*
+ * A channel report ahead of a block: the report by the (32, O) code, repeated circularly, and
+ * behind it the codeword of the block as zemrukste_build gives it.
+ *
+ *   report, report_len   the report's O bits, o_0 first; O is report_len, 1 to 11
+ *   control              control bits a layer: a positive multiple of q, at most 4,096
+ *   block, block_len     the block's A bits, as for zemrukste_build
+ *   q, n, version, g     as for zemrukste_build; g counts the data alone
+ *   out, out_len         the output, at least n * control + g bytes
+ *
+ * Accepted (0): out[0] to out[n * control - 1] are the control bits, the g bytes behind them
+ * the codeword; the others stay as they were. Refused: every byte of out stays as it was.
+ * Refusals in their order: 1, 3 (q, n), 17, 18, 3 (g), 4, 5, 2.
+ */
+uint32_t zemrukste_report_build(const uint8_t *report, size_t report_len, size_t control,
+                                const uint8_t *block, size_t block_len, size_t q, size_t n,
+                                size_t version, size_t g, uint8_t *out, size_t out_len);
+
+/*
+ * The report of a received run: the one whose control bits differ from the received ones in
+ * the fewest places, if only one is nearest. The data of an accepted run are the bytes from
+ * received[n * control] on.
+ *
+ *   a                         the length of the block that the run carries
+ *   q, n, control             as the run was sent
+ *   o                         the report's length, 1 to 11
+ *   received, received_len    the run: n * control control bits, then the data
+ *   out, out_len              the output, at least o bytes
+ *
+ * Accepted (0): out[0] to out[o - 1] are the report's bits, o_0 first; the others stay as they
+ * were. Refused: every byte of out stays as it was.
+ * Refusals in their order: 1, 3 (q, n), 17, 18, 3 (data), 5, 2, 19.
+ *
+ * A run without a wrong control bit gives its report from n * control = 1, 3, 3, 5, 6, 11, 11,
+ * 11, 11, 11, 17 on, for o = 1 to 11; below that 19 comes also from it. With 32 control bits
+ * or more, fewer wrong ones than half of (n * control / 32) * d never matter, d being 32, 16,
+ * 16, 16, 16, 16, 12, 12, 12, 12, 10.
+ */
+uint32_t zemrukste_report_part(size_t a, size_t q, size_t n, size_t o, size_t control,
+                               const uint8_t *received, size_t received_len, uint8_t *out,
+                               size_t out_len);
 
 #ifdef __cplusplus
 }

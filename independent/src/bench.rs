@@ -1,4 +1,4 @@
-//! Build, of one slice and of two, Receive and Read timed: the proved library beside the fast and the literal
+//! Build, of one slice and of two, Receive, Read and the calls with a report timed: the proved library beside the fast and the literal
 //! program, all three linked into one process and called by turns. Feature `linked` alone,
 //! since the library must be linked too: `scripts/bench` does both.
 //!
@@ -9,7 +9,7 @@
 
 use crate::segmentation::Segmentation;
 use crate::slots::{self, Refusal, State, ROOM_OF_BLOCK};
-use crate::{codeword, fast, fast_slots, xorshift};
+use crate::{codeword, fast, fast_report, fast_slots, report, xorshift};
 use std::hint::black_box;
 use std::time::{Duration, Instant};
 
@@ -50,6 +50,30 @@ mod library {
             n: usize,
             version: usize,
             g: usize,
+            out: *mut u8,
+            out_len: usize,
+        ) -> u32;
+        pub fn zemrukste_report_build(
+            report: *const u8,
+            report_len: usize,
+            control: usize,
+            block: *const u8,
+            block_len: usize,
+            q: usize,
+            n: usize,
+            version: usize,
+            g: usize,
+            out: *mut u8,
+            out_len: usize,
+        ) -> u32;
+        pub fn zemrukste_report_part(
+            a: usize,
+            q: usize,
+            n: usize,
+            o: usize,
+            control: usize,
+            received: *const u8,
+            received_len: usize,
             out: *mut u8,
             out_len: usize,
         ) -> u32;
@@ -327,7 +351,8 @@ pub fn table(timed: Timed, rows: &[Row], rounds: u32) -> Result<String, String> 
         timed.name()
     );
     for &row in rows {
-        let [rattle, fast, literal] = least_times(timed, row, rounds)?;
+        let name = format!("{}, A {}, G {}", timed.name(), row.a, row.g);
+        let [rattle, fast, literal] = least_times(&name, timed.runners(row)?, rounds)?;
         let (slower, faster) = (rattle / fast, literal / rattle);
         let Row { a, g } = row;
         text += &format!(
@@ -337,10 +362,139 @@ pub fn table(timed: Timed, rows: &[Row], rounds: u32) -> Result<String, String> 
     Ok(text + "The three gave the same answers and bytes in every row, before and after the timing.\n")
 }
 
+/// A report of O bits in so many control bits a layer, ahead of a block of 40 bits with its
+/// whole mother code.
+struct ReportRow {
+    o: usize,
+    n: usize,
+    control: usize,
+}
+
+/// The fewest control bits that give every report back at each length, and the most.
+const REPORT_ROWS: [ReportRow; 6] = [
+    ReportRow { o: 1, n: 1, control: 2 },
+    ReportRow { o: 4, n: 1, control: 6 },
+    ReportRow { o: 11, n: 1, control: 18 },
+    ReportRow { o: 1, n: 4, control: 4_096 },
+    ReportRow { o: 4, n: 4, control: 4_096 },
+    ReportRow { o: 11, n: 4, control: 4_096 },
+];
+
+const REPORT_A: usize = 40;
+const REPORT_G: usize = 208;
+
+fn number_of(answer: Result<(), u8>) -> Answer {
+    (answer.map_or_else(u32::from, |()| 0), 0)
+}
+
+impl ReportRow {
+    /// Some report that is not all zeros.
+    fn report(&self) -> Vec<u8> {
+        report::message((1 << self.o) * 2 / 3 + 1, self.o)
+    }
+
+    fn run(&self) -> Vec<u8> {
+        let mut run = vec![0; self.n * self.control + REPORT_G];
+        let block = xorshift::block(REPORT_A, 1);
+        report::build_into(&self.report(), self.control, &block, Q, self.n, VERSION, REPORT_G, &mut run)
+            .expect("the row is accepted");
+        run
+    }
+
+    fn build_runners(&self) -> [Runner; 3] {
+        let ReportRow { n, control, .. } = *self;
+        let mut workspace = fast::Workspace::default();
+        let inputs = || (self.report(), xorshift::block(REPORT_A, 1));
+        let [rattle, fast, literal] = [inputs(), inputs(), inputs()];
+        let length = n * control + REPORT_G;
+        [
+            Runner::of(length, move |out| {
+                let (report, block) = black_box(&rattle);
+                // Slices of Rust, as above.
+                let number = unsafe {
+                    library::zemrukste_report_build(
+                        report.as_ptr(),
+                        report.len(),
+                        control,
+                        block.as_ptr(),
+                        block.len(),
+                        Q,
+                        n,
+                        VERSION,
+                        REPORT_G,
+                        out.as_mut_ptr(),
+                        out.len(),
+                    )
+                };
+                (number, 0)
+            }),
+            Runner::of(length, move |out| {
+                let (report, block) = black_box(&fast);
+                number_of(fast_report::build_into(&mut workspace, report, control, block, Q, n, VERSION, REPORT_G, out))
+            }),
+            Runner::of(length, move |out| {
+                let (report, block) = black_box(&literal);
+                number_of(report::build_into(report, control, block, Q, n, VERSION, REPORT_G, out))
+            }),
+        ]
+    }
+
+    fn part_runners(&self) -> [Runner; 3] {
+        let ReportRow { o, n, control } = *self;
+        let [rattle, fast, literal] = [self.run(), self.run(), self.run()];
+        [
+            Runner::of(o, move |out| {
+                let run = black_box(&rattle);
+                // Slices of Rust, as above.
+                let number = unsafe {
+                    library::zemrukste_report_part(
+                        REPORT_A,
+                        Q,
+                        n,
+                        o,
+                        control,
+                        run.as_ptr(),
+                        run.len(),
+                        out.as_mut_ptr(),
+                        out.len(),
+                    )
+                };
+                (number, 0)
+            }),
+            Runner::of(o, move |out| number_of(fast_report::part_into(REPORT_A, Q, n, o, control, black_box(&fast), out))),
+            Runner::of(o, move |out| number_of(report::part_into(REPORT_A, Q, n, o, control, black_box(&literal), out))),
+        ]
+    }
+}
+
+/// The tables of the two calls with a report.
+pub fn report_tables(rounds: u32) -> Result<String, String> {
+    let mut text = String::new();
+    for (name, runners) in [
+        ("report build", ReportRow::build_runners as fn(&ReportRow) -> [Runner; 3]),
+        ("report part", ReportRow::part_runners),
+    ] {
+        text += &format!(
+            "{name}\n\
+             |  O | control bits |  Rattle ns |    fast ns | literal ns | Rattle/fast | literal/Rattle |\n\
+             |---:|-------------:|-----------:|-----------:|-----------:|------------:|---------------:|\n"
+        );
+        for row in &REPORT_ROWS {
+            let bits = row.n * row.control;
+            let called = format!("{name}, O {}, {bits} control bits", row.o);
+            let [rattle, fast, literal] = least_times(&called, runners(row), rounds)?;
+            let (slower, faster, o) = (rattle / fast, literal / rattle, row.o);
+            text += &format!(
+                "| {o:2} | {bits:12} | {rattle:10.0} | {fast:10.0} | {literal:10.0} | {slower:11.2} | {faster:14.2} |\n"
+            );
+        }
+    }
+    Ok(text + "The three gave the same answers and bytes in every row, before and after the timing.\n")
+}
+
 /// The least nanoseconds a call of each of the three.
-fn least_times(timed: Timed, row: Row, rounds: u32) -> Result<[f64; 3], String> {
-    let mut runners = timed.runners(row)?;
-    let failed = |why: String| format!("{}, A {}, G {}: {why}", timed.name(), row.a, row.g);
+fn least_times(name: &str, mut runners: [Runner; 3], rounds: u32) -> Result<[f64; 3], String> {
+    let failed = |why: String| format!("{name}: {why}");
     called_alike(&mut runners).map_err(failed)?;
     let calls = runners.each_mut().map(calls_in_a_batch);
     let mut least = [f64::INFINITY; 3];

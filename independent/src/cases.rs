@@ -4,6 +4,7 @@
 
 use crate::codeword::{segmentation_of, A_MAX, G_MAX};
 use crate::protocol::{BLOCK_MAX, OUTPUT_MAX};
+use crate::report::{self, CONTROL_MAX, O_MAX};
 use crate::table::TABLE;
 use crate::xorshift::{self, Generator};
 
@@ -26,6 +27,45 @@ pub enum Asked {
     /// The block in two slices, cut behind so many bits.
     BuildTwo(Build, usize),
     Sizes(usize),
+    ReportBuild(ReportBuild),
+    ReportPart(ReportPart),
+}
+
+/// A report ahead of a block.
+#[derive(Clone, Debug)]
+pub struct ReportBuild {
+    pub report: Block,
+    pub control: usize,
+    pub data: Build,
+}
+
+/// A received run to be parted.
+#[derive(Clone, Debug)]
+pub struct ReportPart {
+    pub a: usize,
+    pub q: usize,
+    pub n: usize,
+    pub o: usize,
+    pub control: usize,
+    pub run: Run,
+}
+
+/// Control bits of a report, some of them turned, and random data behind them.
+#[derive(Clone, Debug)]
+pub struct Run {
+    pub report: Vec<u8>,
+    pub ahead: usize,
+    pub flips: Vec<usize>,
+    pub data: Block,
+}
+
+impl Run {
+    pub fn bytes(&self) -> Vec<u8> {
+        let mut bytes = report::control_bits(&self.report, self.ahead);
+        self.flips.iter().for_each(|place| bytes[*place] ^= 1);
+        bytes.extend(self.data.bytes());
+        bytes
+    }
 }
 
 #[derive(Clone, Debug)]
@@ -88,6 +128,9 @@ pub fn all(seed: u64, random: usize) -> Vec<Case> {
     maker.several_faults();
     maker.random_builds(random);
     maker.two_slices();
+    maker.reports();
+    maker.runs();
+    maker.run_faults();
     maker.cases
 }
 
@@ -352,6 +395,186 @@ impl Maker {
         }
     }
 
+    // Control reports with the data.
+
+    /// Every O, Q and N, control bits at their least and most and between; every refusal of
+    /// Build with a report, alone and with others.
+    fn reports(&mut self) {
+        for (o, (q, n)) in (1..=O_MAX).flat_map(|o| pairs().map(move |pair| (o, pair))) {
+            for control in [q, 2 * q, CONTROL_MAX - CONTROL_MAX % q] {
+                let a = self.some_length();
+                let g = q * n * (blocks_of(a) + self.random.below(40));
+                let version = self.random.below(4);
+                self.report("a report of every length", o, control, a, (q, n, version, g));
+            }
+            for _ in 0..8 {
+                let control = q * self.between(1, 60);
+                let a = self.between(1, 400);
+                let g = q * n * self.between(1, 80);
+                let version = self.random.below(4);
+                self.report("random reports", o, control, a, (q, n, version, g));
+            }
+        }
+        for (q, n) in pairs() {
+            let (a, g) = (40, 4 * q * n);
+            for o in [0, 12, 13, 32, 100, 4_096] {
+                self.report("report length", o, q, a, (q, n, 0, g));
+            }
+            let most = CONTROL_MAX - CONTROL_MAX % q;
+            for control in [0, 1, q - 1, q + 1, 2 * q + 1, most + q, most + 1, 4_097, 8_192].into_iter().chain(HUGE) {
+                self.report("control bits a layer", 4, control, a, (q, n, 0, g));
+            }
+            for (byte, place) in [(2, 0), (255, 3)] {
+                self.report("a byte above 1 in the report", 4, q, a, (q, n, 0, g));
+                if let Asked::ReportBuild(asked) = &mut self.last().asked {
+                    asked.report.damage = Some((place, byte));
+                }
+            }
+            for short in [1, g, n * q + g] {
+                self.report("output too short for both", 4, q, a, (q, n, 0, g));
+                self.last().output_length -= short;
+            }
+        }
+        self.report_faults();
+    }
+
+    /// Every set of faults of Build with a report at once.
+    fn report_faults(&mut self) {
+        for faults in 0..256 {
+            for _ in 0..4 {
+                let has = |fault: usize| faults >> fault & 1 == 1;
+                let (mut q, mut n) = self.allocation();
+                let mut g = 6 * q * n;
+                let mut control = q * self.between(1, 20);
+                let a = if has(0) { self.random.choose(&[0, A_MAX + 1]) } else { self.between(1, 500) };
+                let o = if has(2) { self.random.choose(&[0, 12]) } else { self.between(1, O_MAX) };
+                if has(3) {
+                    control = self.random.choose(&[0, control + 1, 4_100]);
+                }
+                if has(4) {
+                    g = self.random.choose(&[0, g + 1, G_MAX + q * n]);
+                }
+                match self.random.below(2) {
+                    _ if !has(1) => {}
+                    0 => q = self.random.choose(&[0, 3, 8]),
+                    _ => n = self.random.choose(&[0, 5]),
+                }
+                let version = if has(5) { self.between(4, 6) } else { self.random.below(4) };
+                self.report("several faults of a report", o, control, a, (q, n, version, g));
+                if has(6) {
+                    self.last().output_length /= 2;
+                }
+                let in_report = self.random.below(2) == 0;
+                if let (true, Asked::ReportBuild(asked)) = (has(7), &mut self.last().asked) {
+                    let bits = if in_report { &mut asked.report } else { &mut asked.data.block };
+                    if bits.length > 0 {
+                        bits.damage = Some((bits.length - 1, 2));
+                    }
+                }
+            }
+        }
+    }
+
+    /// Runs of every O, Q and N: untouched, and with bits turned up to and past the tie.
+    fn runs(&mut self) {
+        for (o, (q, n)) in (1..=O_MAX).flat_map(|o| pairs().map(move |pair| (o, pair))) {
+            for control in (1..=12).chain([16, 22, 32]).map(|turns| q * turns) {
+                for flips in [0, 1, 2, 3, 5, 8, 12, 16] {
+                    self.run("runs", o, control, (q, n), flips);
+                }
+            }
+            for flips in [0, n * 512, n * 1_024] {
+                self.run("longest runs", o.min(6), CONTROL_MAX - CONTROL_MAX % q, (q, n), flips);
+            }
+        }
+        for flips in [0, 1_000, 2_500, 4_000] {
+            self.run("longest runs", O_MAX, CONTROL_MAX, (2, 4), flips);
+        }
+    }
+
+    /// Every refusal of the way back, alone and with others.
+    fn run_faults(&mut self) {
+        for faults in 0..64 {
+            for _ in 0..40 {
+                let has = |fault: usize| faults >> fault & 1 == 1;
+                let (q, n) = self.allocation();
+                let o = self.between(1, O_MAX);
+                let control = q * self.between(1, 12);
+                self.run("several faults of a run", o, control, (q, n), 0);
+                let [size, symbol, length, control, data] = [
+                    self.random.choose(&[0, A_MAX + 1]),
+                    self.random.below(2),
+                    self.random.choose(&[0, 12, usize::MAX]),
+                    self.random.choose(&[0, 1, 4_100, usize::MAX]),
+                    self.random.below(3),
+                ];
+                let damaged = self.random.below(2) == 0;
+                let case = self.last();
+                let Asked::ReportPart(asked) = &mut case.asked else { continue };
+                if has(0) {
+                    asked.a = size;
+                }
+                if has(1) {
+                    if symbol == 0 { asked.q = 8 } else { asked.n = 5 }
+                }
+                if has(2) {
+                    asked.o = length;
+                }
+                if has(3) {
+                    asked.control = control;
+                }
+                if has(4) {
+                    // No data, data that is no multiple, and a run cut within its control bits.
+                    match data {
+                        0 => asked.run.data.length = 0,
+                        1 => asked.run.data.length += 1,
+                        _ => {
+                            asked.run.data.length = 0;
+                            asked.run.ahead /= 2;
+                        }
+                    }
+                }
+                if has(5) {
+                    if damaged && asked.run.data.length > 0 {
+                        asked.run.data.damage = Some((asked.run.data.length - 1, 2));
+                    } else {
+                        case.output_length = 0;
+                    }
+                }
+            }
+        }
+    }
+
+    fn report(
+        &mut self,
+        group: &'static str,
+        o: usize,
+        control: usize,
+        a: usize,
+        (q, n, version, g): (usize, usize, usize, usize),
+    ) {
+        let [report, block] = [o, a].map(|length| Block {
+            length,
+            content: Content::Random(self.random.number()),
+            damage: None,
+        });
+        let data = Build { block, q, n, version, g };
+        let length = n.wrapping_mul(control).saturating_add(g).min(200_000);
+        let beyond = self.random.below(3);
+        self.push(group, Asked::ReportBuild(ReportBuild { report, control, data }), length + beyond);
+    }
+
+    fn run(&mut self, group: &'static str, o: usize, control: usize, (q, n): (usize, usize), flips: usize) {
+        let a = self.between(1, 600);
+        let ahead = n * control;
+        let report = report::message(self.random.below(1 << o), o);
+        let flips = (0..flips).map(|_| self.random.below(ahead)).collect();
+        let data = Block { length: q * n * self.between(1, 6), content: Content::Random(self.random.number()), damage: None };
+        let run = Run { report, ahead, flips, data };
+        let length = o + self.random.below(3);
+        self.push(group, Asked::ReportPart(ReportPart { a, q, n, o, control, run }), length);
+    }
+
     // Helps.
 
     pub(crate) fn between(&mut self, from: usize, to: usize) -> usize {
@@ -403,8 +626,12 @@ impl Maker {
     }
 }
 
+/// Every Q and N.
+fn pairs() -> impl Iterator<Item = (usize, usize)> {
+    QS.into_iter().flat_map(|q| NS.map(|n| (q, n)))
+}
+
 /// Every Q, N and version.
 fn allocations() -> impl Iterator<Item = (usize, usize, usize)> {
-    let pairs = QS.into_iter().flat_map(|q| NS.map(|n| (q, n)));
-    pairs.flat_map(|(q, n)| [0, 1, 2, 3].map(|version| (q, n, version)))
+    pairs().flat_map(|(q, n)| [0, 1, 2, 3].map(|version| (q, n, version)))
 }

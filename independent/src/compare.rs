@@ -1,9 +1,10 @@
 //! Compares another program, behind a bridge, with the literal modules: every answer, and
 //! every byte of every output.
 
-use crate::cases::{self, Asked, Block, Build, Case, Content};
+use crate::cases::{self, Asked, Block, Build, Case, Content, ReportBuild, ReportPart};
 use crate::codeword;
 use crate::rate;
+use crate::report;
 use crate::sizes;
 use crate::protocol::{Answer, Call, Request, GUARD};
 use std::io::{BufReader, BufWriter, ErrorKind, IsTerminal, Write};
@@ -103,6 +104,18 @@ fn request(case: &Case) -> Request {
             Call::BuildTwo { block: block.bytes(), cut: *cut, q: *q, n: *n, version: *version, g: *g }
         }
         Asked::Sizes(a) => Call::Sizes { a: *a },
+        Asked::ReportBuild(ReportBuild { report, control, data }) => Call::ReportBuild {
+            report: report.bytes(),
+            control: *control,
+            block: data.block.bytes(),
+            q: data.q,
+            n: data.n,
+            version: data.version,
+            g: data.g,
+        },
+        Asked::ReportPart(ReportPart { a, q, n, o, control, run }) => {
+            Call::ReportPart { a: *a, q: *q, n: *n, o: *o, control: *control, received: run.bytes() }
+        }
     };
     Request {
         call,
@@ -128,6 +141,13 @@ pub fn expected(case: &Case) -> Answer {
             codeword::build_two_into(header, payload, *q, *n, *version, *g, lent)
         }
         Asked::Sizes(a) => sizes_into(*a, lent),
+        Asked::ReportBuild(ReportBuild { report, control, data }) => {
+            let Build { block, q, n, version, g } = data;
+            report::build_into(&report.bytes(), *control, &block.bytes(), *q, *n, *version, *g, lent)
+        }
+        Asked::ReportPart(ReportPart { a, q, n, o, control, run }) => {
+            report::part_into(*a, *q, *n, *o, *control, &run.bytes(), lent)
+        }
     };
     Answer { number: answer.map_or_else(u32::from, |()| 0), block_kept: true, output }
 }
@@ -249,7 +269,25 @@ fn description(case: &Case) -> String {
             };
             format!("{name}: A = {a} ({content}{damage}), Q = {q}, N = {n}, version = {version}, G = {g}, {lent}")
         }
+        Asked::ReportBuild(ReportBuild { report, control, data }) => {
+            let bits = report.bytes();
+            format!("Build with the report {bits:?}, {control} control bits a layer: {}, {lent}", build_text(case, data))
+        }
+        Asked::ReportPart(ReportPart { a, q, n, o, control, run }) => {
+            format!("Report of a run: A = {a}, Q = {q}, N = {n}, O = {o}, {control} control bits a layer, {run:?}, {lent}")
+        }
     }
+}
+
+fn build_text(case: &Case, Build { block, q, n, version, g }: &Build) -> String {
+    let content = match block.content {
+        _ if case.null_block => "null".to_string(),
+        Content::Random(seed) => format!("xorshift64* bits of seed {seed}"),
+        Content::All(bit) => format!("all {bit}"),
+    };
+    let damage = block.damage.map_or(String::new(), |(at, byte)| format!(", byte {at} being {byte}"));
+    let a = block.length;
+    format!("A = {a} ({content}{damage}), Q = {q}, N = {n}, version = {version}, G = {g}")
 }
 
 /// The block of an accepted build as an argument of `independent stage`, in a shell.

@@ -162,7 +162,10 @@ fn bench(_: &[&str]) -> Result<(), String> {
 
 #[cfg(feature = "linked")]
 fn bench(words: &[&str]) -> Result<(), String> {
-    use independent::bench::{only, table, Row, ALL};
+    use independent::bench::{only, report_tables, table, Row, ALL};
+    if let ["reports"] = words {
+        return print(report_tables(15)?.as_bytes());
+    }
     let named = words.first().and_then(|word| ALL.into_iter().find(|timed| timed.name() == *word));
     let mut rest = if named.is_some() { &words[1..] } else { words };
     let (mut rounds, mut calls, mut one) = (15, 1, None);
@@ -186,6 +189,9 @@ fn bench(words: &[&str]) -> Result<(), String> {
             Some(name) => only(name, timed, &rows, calls)?,
             None => print(table(timed, &rows, rounds)?.as_bytes())?,
         }
+    }
+    if named.is_none() && given.is_empty() && one.is_none() {
+        print(report_tables(rounds)?.as_bytes())?;
     }
     Ok(())
 }

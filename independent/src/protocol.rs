@@ -1,10 +1,13 @@
 //! The binary form in which a bridge is asked and answers, the same as at the top of
 //! `face/bridge.c`. Numbers are lowest byte first.
 //!
-//! A request is 56 bytes: its kind (1 Build, 2 Sizes, 3 Build of two slices), null pointers
-//! (1 block or header, 2 output, 4 payload), the fill, a zero, the header's length as 4
-//! bytes (0 but for the third kind), then block length (or A), Q, N, version, G and output
-//! length as 8 bytes each; a Build's block comes behind it, of two slices the header first. An answer is 8 bytes: the number given back
+//! A request is 56 bytes: its kind (1 Build, 2 Sizes, 3 Build of two slices, 4 Build with a
+//! report, 5 the report of a run), null pointers (1 block, header or run, 2 output, 4
+//! payload), the fill, a zero, the header's length as 4 bytes (0 but for the third kind), then
+//! block length (or A), Q, N, version, G and output length as 8 bytes each; kind 5 has the
+//! run's length, Q, N, A, O and output length there. Kinds 4 and 5 have two more numbers
+//! behind it, the report's length (0 for kind 5) and the control bits a layer. Then come the
+//! block or run, of two slices the header first, and the report. An answer is 8 bytes: the number given back
 //! as 4, then 1 if the block is unchanged, three zeros; the output comes behind it between
 //! two guards. Before the call every byte of output and guards is the fill.
 
@@ -16,12 +19,16 @@ pub const GUARD: usize = 64;
 /// The most a bridge takes.
 pub const BLOCK_MAX: usize = 65_536;
 pub const OUTPUT_MAX: usize = 262_144;
+pub const RUN_MAX: usize = 262_144;
+pub const REPORT_MAX: usize = 4_096;
 
 const REQUEST: usize = 56;
 const ANSWER: usize = 8;
 const BUILD: u8 = 1;
 const SIZES: u8 = 2;
 const BUILD_TWO: u8 = 3;
+const REPORT_BUILD: u8 = 4;
+const REPORT_PART: u8 = 5;
 const NULL_BLOCK: u8 = 1;
 const NULL_OUTPUT: u8 = 2;
 const NULL_PAYLOAD: u8 = 4;
@@ -33,6 +40,8 @@ pub enum Call {
     /// The header is the first `cut` bytes of the block, the payload the others.
     BuildTwo { block: Vec<u8>, cut: usize, q: usize, n: usize, version: usize, g: usize },
     Sizes { a: usize },
+    ReportBuild { report: Vec<u8>, control: usize, block: Vec<u8>, q: usize, n: usize, version: usize, g: usize },
+    ReportPart { a: usize, q: usize, n: usize, o: usize, control: usize, received: Vec<u8> },
 }
 
 #[derive(Debug, PartialEq, Eq)]
@@ -57,21 +66,32 @@ pub struct Answer {
 
 impl Request {
     pub fn write(&self, to: &mut impl Write) -> io::Result<()> {
-        let (kind, block, cut, numbers): (u8, &[u8], usize, [usize; 5]) = match &self.call {
-            Call::Build { block, q, n, version, g } => (BUILD, block, 0, [block.len(), *q, *n, *version, *g]),
+        let none: &[u8] = &[];
+        type Further<'a> = Option<(&'a [u8], usize)>;
+        let (kind, block, cut, numbers, more): (u8, &[u8], usize, [usize; 5], Further) = match &self.call {
+            Call::Build { block, q, n, version, g } => (BUILD, block, 0, [block.len(), *q, *n, *version, *g], None),
             Call::BuildTwo { block, cut, q, n, version, g } => {
-                (BUILD_TWO, block, *cut, [block.len(), *q, *n, *version, *g])
+                (BUILD_TWO, block, *cut, [block.len(), *q, *n, *version, *g], None)
             }
-            Call::Sizes { a } => (SIZES, &[], 0, [*a, 0, 0, 0, 0]),
+            Call::Sizes { a } => (SIZES, none, 0, [*a, 0, 0, 0, 0], None),
+            Call::ReportBuild { report, control, block, q, n, version, g } => {
+                (REPORT_BUILD, block, 0, [block.len(), *q, *n, *version, *g], Some((report, *control)))
+            }
+            Call::ReportPart { a, q, n, o, control, received } => {
+                (REPORT_PART, received, 0, [received.len(), *q, *n, *a, *o], Some((none, *control)))
+            }
         };
         let lent = [(self.null_block, NULL_BLOCK), (self.null_output, NULL_OUTPUT), (self.null_payload, NULL_PAYLOAD)];
         let nulls = lent.into_iter().map(|(null, bit)| u8::from(null) * bit).sum();
         to.write_all(&[kind, nulls, self.fill, 0])?;
         to.write_all(&(cut as u32).to_le_bytes())?;
-        for number in numbers.into_iter().chain([self.output_length]) {
+        let (report, control) = more.unwrap_or((none, 0));
+        let further = if more.is_some() { vec![report.len(), control] } else { Vec::new() };
+        for number in numbers.into_iter().chain([self.output_length]).chain(further) {
             to.write_all(&(number as u64).to_le_bytes())?;
         }
-        to.write_all(block)
+        to.write_all(block)?;
+        to.write_all(report)
     }
 
     /// The next request, or none at the end of the input.
@@ -98,6 +118,23 @@ impl Request {
                 Call::BuildTwo { block, cut, q, n, version, g }
             }
             SIZES => Call::Sizes { a: number(0) },
+            REPORT_BUILD | REPORT_PART => {
+                let mut further = [0; 16];
+                from.read_exact(&mut further)?;
+                let further = further.as_chunks::<8>().0;
+                let [length, control] = [0, 1].map(|place: usize| u64::from_le_bytes(further[place]) as usize);
+                let most = if head[0] == REPORT_BUILD { BLOCK_MAX } else { RUN_MAX };
+                let mut block = vec![0; limited(number(0), most)?];
+                from.read_exact(&mut block)?;
+                let mut report = vec![0; limited(length, REPORT_MAX)?];
+                from.read_exact(&mut report)?;
+                let [q, n, third, fourth] = [1, 2, 3, 4].map(number);
+                if head[0] == REPORT_BUILD {
+                    Call::ReportBuild { report, control, block, q, n, version: third, g: fourth }
+                } else {
+                    Call::ReportPart { a: third, q, n, o: fourth, control, received: block }
+                }
+            }
             _ => return Err(ErrorKind::InvalidData.into()),
         };
         let [null_block, null_output, null_payload] =

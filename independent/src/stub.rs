@@ -7,6 +7,7 @@ use crate::crc;
 use crate::fast::Workspace;
 use crate::protocol::{Answer, Call, Request, GUARD};
 use crate::rate;
+use crate::report;
 use crate::segmentation::{self, Segmentation};
 use crate::turbo;
 use std::io::{self, BufReader, Read, Write};
@@ -35,12 +36,14 @@ pub enum Fault {
     SlicesExchanged,
     EndsEarly,
     Garbles,
+    ControlLate,
+    TieAnswered,
 }
 
 use Fault::*;
 
 /// The faults by their names.
-pub const FAULTS: [(&str, Fault); 22] = [
+pub const FAULTS: [(&str, Fault); 24] = [
     ("long-first", LongFirst),                  // long code blocks come first
     ("early-shares", EarlyShares),              // the early code blocks have the larger share
     ("start-at-zero", StartAtZero),             // the walk starts at place 0
@@ -63,6 +66,8 @@ pub const FAULTS: [(&str, Fault); 22] = [
     ("slices-exchanged", SlicesExchanged),      // the payload's bits before the header's
     ("ends-early", EndsEarly),                  // ends after 1,000 answers
     ("garbles", Garbles),                       // answers out of form
+    ("control-late", ControlLate),              // 17 after 18
+    ("tie-answered", TieAnswered),              // the first of two nearest reports is given
 ];
 
 pub fn fault(name: &str) -> Option<Fault> {
@@ -115,6 +120,10 @@ impl Stub {
                 self.build(&block, unseen, q, n, version, g, lent)
             }
             Call::Sizes { a } => self.sizes(a, lent),
+            Call::ReportBuild { report, control, block, q, n, version, g } => {
+                self.report_build(&report, control, &block, q, n, version, g, lent)
+            }
+            Call::ReportPart { a, q, n, o, control, received } => self.report_part(a, q, n, o, control, &received, lent),
         };
         if self.has(WritesBeforeOutput) && answer.is_ok() {
             output[GUARD - 1] = 0;
@@ -132,6 +141,46 @@ impl Stub {
             output[16..20].fill(0);
         }
         Ok(())
+    }
+
+    /// The literal call with the refusals in another order, if that fault is planted.
+    #[allow(clippy::too_many_arguments)]
+    fn report_build(
+        &self,
+        report: &[u8],
+        control: usize,
+        block: &[u8],
+        q: usize,
+        n: usize,
+        version: usize,
+        g: usize,
+        output: &mut [u8],
+    ) -> Result<(), u8> {
+        let answer = report::build_into(report, control, block, q, n, version, g, output);
+        let late = answer == Err(report::BAD_REPORT) && self.has(ControlLate);
+        if late && (control == 0 || control > report::CONTROL_MAX || control % q != 0) {
+            return Err(report::BAD_CONTROL);
+        }
+        answer
+    }
+
+    #[allow(clippy::too_many_arguments)]
+    fn report_part(
+        &self,
+        a: usize,
+        q: usize,
+        n: usize,
+        o: usize,
+        control: usize,
+        received: &[u8],
+        output: &mut [u8],
+    ) -> Result<(), u8> {
+        let answer = report::part_into(a, q, n, o, control, received, output);
+        if answer == Err(report::TIED) && self.has(TieAnswered) {
+            output[..o].fill(0);
+            return Ok(());
+        }
+        answer
     }
 
     /// Build for speed, unless a fault is planted; the transport check does not see so many

@@ -71,7 +71,7 @@ fn a_bridge_that_is_none() {
 fn builds(cases: &[Case]) -> impl Iterator<Item = (&Case, &Build)> {
     cases.iter().filter_map(|case| match &case.asked {
         Asked::Build(build) => Some((case, build)),
-        Asked::BuildTwo(..) | Asked::Sizes(_) => None,
+        _ => None,
     })
 }
 
@@ -178,7 +178,7 @@ fn every_length_is_asked_of_sizes() {
         .iter()
         .filter_map(|case| match case.asked {
             Asked::Sizes(a) => Some(a),
-            Asked::Build(_) | Asked::BuildTwo(..) => None,
+            _ => None,
         })
         .collect();
     assert!((0..=30_600).chain([usize::MAX, 1 << 32]).all(|a| asked.contains(&a)));

@@ -4,6 +4,7 @@ ghost use mathlib.Core.Path.{_≡_};
 ghost use Prim.Native.Nat.{_*_};
 ghost use lib.ListN.{length};
 ghost use Rattle.codeword.specs.Build.{buildNumber, buildOutput};
+ghost use Rattle.reports.specs.Calls.{reportBuildNumber, reportBuildOutput, partNumber, partOutput};
 ghost use Rattle.face.specs.Face.{fourBytes, inBytes, sizesNumber, sizesBytes};
 
 // Build: 0, or the number of the refusal, which writes nothing.
@@ -55,6 +56,41 @@ pub extern "C" fn zemrukste_sizes(a: usize, out: &mut [u8]) -> u32
     let numbers = [s.blocks, s.longs, s.long, s.shorts, s.short, s.filler];
     put_numbers(&numbers, &mut out[..24]);
     0
+}
+
+// Build with a report: 0, or the number of the refusal, which writes nothing.
+#[no_mangle]
+pub extern "C" fn zemrukste_report_build(
+    report: &[u8],
+    control: usize,
+    block: &[u8],
+    q: usize,
+    n: usize,
+    version: usize,
+    g: usize,
+    out: &mut [u8],
+) -> u32
+    ensures number { λ r. ⌜ r ≡ reportBuildNumber (now (report .entry)) control (now (block .entry)) q n version g (length (now (out .entry))) ⌝ }
+    ensures output { λ r. ⌜ now (out .exit) ≡ reportBuildOutput (now (report .entry)) control (now (block .entry)) q n version g (now (out .entry)) ⌝ }
+{
+    reports::build(report, control, block, q, n, version, g, out) as u32
+}
+
+// The report of a received run: 0, or the number of the refusal, which writes nothing.
+#[no_mangle]
+pub extern "C" fn zemrukste_report_part(
+    a: usize,
+    q: usize,
+    n: usize,
+    o: usize,
+    control: usize,
+    received: &[u8],
+    out: &mut [u8],
+) -> u32
+    ensures number { λ r. ⌜ r ≡ partNumber a q n o control (now (received .entry)) (length (now (out .entry))) ⌝ }
+    ensures output { λ r. ⌜ now (out .exit) ≡ partOutput a q n o control (now (received .entry)) (now (out .entry)) ⌝ }
+{
+    reports::part(a, q, n, o, control, received, out) as u32
 }
 
 // The numbers one after another, four bytes each.

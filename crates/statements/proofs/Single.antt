@@ -5,7 +5,7 @@ use mathlib.Core.List.{List, [], append-nil}
 use Prim.Native.Nat.{ℕ}
 use Rattle.slots.specs.declared.State.{State}
 use Rattle.statements.specs.Outcome.{Given, Gives, SingleOutcome}
-use Rattle.statements.specs.Calls.{SizesStatement, BuildStatement, BuildTwoStatement, SizesToCStatement, NewStatement, OpenStatement, ReceiveStatement, ReadStatement, StreamsStatement, CloseStatement}
+use Rattle.statements.specs.Calls.{SizesStatement, BuildStatement, BuildTwoStatement, SizesToCStatement, ReportBuildStatement, ReportPartStatement, DataPartStatement, NewStatement, OpenStatement, ReceiveStatement, ReadStatement, StreamsStatement, CloseStatement}
 
 -- the law: what an answer and the bytes afterwards are said to be, they are
 pub single : {A B : Type 0} (answer : A) (after : B) → SingleOutcome (Gives answer after)
@@ -27,6 +27,15 @@ empty-second a Q N v G out = ap (λ (l : List ℕ). BuildStatement l Q N v G out
 
 pub sizes-to-c-single : (A : ℕ) (out : List ℕ) → SingleOutcome (SizesToCStatement A out)
 sizes-to-c-single A out = single _ _
+
+pub report-build-single : (o : List ℕ) (control : ℕ) (a : List ℕ) (Q N v G : ℕ) (out : List ℕ) → SingleOutcome (ReportBuildStatement o control a Q N v G out)
+report-build-single o control a Q N v G out = single _ _
+
+pub report-part-single : (A Q N O control : ℕ) (received out : List ℕ) → SingleOutcome (ReportPartStatement A Q N O control received out)
+report-part-single A Q N O control received out = single _ _
+
+pub data-part-single : (A Q N O control : ℕ) (received : List ℕ) → SingleOutcome (DataPartStatement A Q N O control received)
+data-part-single A Q N O control received = single _ _
 
 pub new-single : (S M : ℕ) → SingleOutcome (NewStatement S M)
 new-single S M = single _ _

@@ -6,6 +6,7 @@ use lib.ListN.{length}
 use Rattle.segmentation.specs.declared.SizesAnswer.{SizesAnswer}
 use Rattle.segmentation.specs.Sizes.{sizesAnswer}
 use Rattle.codeword.specs.Build.{buildNumber, buildOutput}
+use Rattle.reports.specs.Calls.{reportBuildNumber, reportBuildOutput, partNumber, partOutput, dataPart}
 use Rattle.face.specs.Face.{sizesNumber, sizesBytes}
 use Rattle.slots.specs.declared.State.{State}
 use Rattle.slots.specs.declared.Outcome.{Outcome}
@@ -26,6 +27,18 @@ BuildTwoStatement header payload Q N v G out = BuildStatement (header ++ payload
 -- zemrukste_sizes; zemrukste_build and zemrukste_build_two are Build
 abbrev pub SizesToCStatement : ℕ → List ℕ → Given ℕ (List ℕ) → Type 0
 SizesToCStatement A out = Gives (sizesNumber A (length out)) (sizesBytes A out)
+
+-- Build with a report, also zemrukste_report_build
+abbrev pub ReportBuildStatement : List ℕ → ℕ → List ℕ → ℕ → ℕ → ℕ → ℕ → List ℕ → Given ℕ (List ℕ) → Type 0
+ReportBuildStatement o control a Q N v G out = Gives (reportBuildNumber o control a Q N v G (length out)) (reportBuildOutput o control a Q N v G out)
+
+-- the way back, also zemrukste_report_part; the data of a run lends nothing
+abbrev pub ReportPartStatement : ℕ → ℕ → ℕ → ℕ → ℕ → List ℕ → List ℕ → Given ℕ (List ℕ) → Type 0
+ReportPartStatement A Q N O control received out =
+    Gives (partNumber A Q N O control received (length out)) (partOutput A Q N O control received out)
+
+abbrev pub DataPartStatement : ℕ → ℕ → ℕ → ℕ → ℕ → List ℕ → Given (List ℕ) (Unit {0}) → Type 0
+DataPartStatement A Q N O control received = Gives (dataPart A Q N O control received) tt
 
 abbrev pub NewStatement : ℕ → ℕ → Given Outcome (Unit {0}) → Type 0
 NewStatement S M = Gives (newOutcome S M) tt

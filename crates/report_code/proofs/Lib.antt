@@ -1,0 +1,10 @@
+pub mod Words
+pub mod Entries
+pub mod RowMasks
+pub mod Linear
+pub mod Folding
+pub mod Repeating
+pub mod Planes
+pub mod Least
+pub mod CountingUp
+pub mod Answered

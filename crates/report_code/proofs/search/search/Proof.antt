@@ -1,0 +1,79 @@
+-- `search::search` meets its contract: the words count up with the messages, and the nearest so far is that of the definition.
+-- Assumes nothing.
+use mathlib.Core.Path.{_≡_, refl, sym, _∙_, ap}
+use Prim.Native.Nat.{ℕ, suc, _+_, _-_, _^_, _≤_, _<_}
+use native.Mathlib.Omega.{arith}
+use borrow.Author.Needs.{needs}
+use lib.ListN.{length}
+use Rattle.report_code.proofs.CountingUp.{Searching, start, below, step-lt, small, next, finish}
+use Rattle.report_code.proofs.search.search.Statement.{statement}
+use Rattle.report_code.proofs.search.search.Tie as tie
+
+abbrev Inv-loop : tie.InvT-loop
+Inv-loop o ones zeros count steps end word₀ found₀ m₀ word found m = Searching o ones zeros count word found m
+
+abbrev μ-loop : tie.MeasureT-loop
+μ-loop o ones zeros count steps end word₀ found₀ m₀ word found m = 2 ^ o - m
+
+steps-for-requires : tie.Need-steps-for-requires Inv-loop μ-loop
+steps-for-requires c κs = search needs
+
+cast-end : tie.Need-cast-end Inv-loop μ-loop
+cast-end c = omega (arith, c .before .pre .0)
+
+shl-end : tie.Need-shl-end Inv-loop μ-loop
+shl-end c = omega (arith, c .before .pre .0)
+
+plane-distance-requires : tie.Need-plane-distance-requires Inv-loop μ-loop
+plane-distance-requires c κs = search needs
+
+loop-holds : tie.Need-loop-holds Inv-loop μ-loop
+loop-holds c = start _ _ _ _ (c .plane-distance .ensures)
+
+cast-k : tie.Need-cast-k Inv-loop μ-loop
+cast-k c = omega (arith, step-lt (c .before .loop .inv) (c .before .before .before .before .pre .0) (c .loop-test .taken))
+
+mul-word : tie.Need-mul-word Inv-loop μ-loop
+mul-word c = omega (arith, step-lt (c .before .loop .inv) (c .before .before .before .before .pre .0) (c .loop-test .taken), c .before .before .before .before .pre .0)
+
+array-read-word : tie.Need-array-read-word Inv-loop μ-loop
+array-read-word c = omega (arith, step-lt (c .before .loop .inv) (c .before .before .before .before .pre .0) (c .loop-test .taken), c .before .before .before .before .pre .0)
+
+plane-distance-requires-2 : tie.Need-plane-distance-requires-2 Inv-loop μ-loop
+plane-distance-requires-2 c κs = c .before .before .before .before .pre .1
+
+nearer-requires : tie.Need-nearer-requires Inv-loop μ-loop
+nearer-requires c κs = search needs
+
+add-m : tie.Need-add-m Inv-loop μ-loop
+add-m c = omega (arith, small (c .before .before .before .loop .inv) (c .before .before .before .before .before .before .pre .0) (c .before .before .loop-test .taken))
+
+loop-less : tie.Need-loop-less Inv-loop μ-loop
+loop-less c = omega (arith, below (c .before .before .before .loop .inv) (c .before .before .before .before .before .before .pre .0) (c .before .before .loop-test .taken))
+
+loop-again : tie.Need-loop-again Inv-loop μ-loop
+loop-again c = next (c .before .before .before .loop .inv) (c .before .before .before .before .before .before .pre .0) (c .before .before .loop-test .taken) (c .before .before .before .before .before .steps-for .ensures) (c .before .plane-distance2 .ensures) (c .nearer .ensures)
+
+returns : tie.Need-returns Inv-loop μ-loop
+returns c = finish (c .before .loop .inv) (c .before .before .before .before .pre .0) (c .loop-test .left)
+
+pub search-spec : {M : Type 1} → statement M
+search-spec =
+    tie.close
+    (tie.spec
+    Inv-loop
+    μ-loop
+    steps-for-requires
+    cast-end
+    shl-end
+    plane-distance-requires
+    loop-holds
+    cast-k
+    mul-word
+    array-read-word
+    plane-distance-requires-2
+    nearer-requires
+    add-m
+    loop-less
+    loop-again
+    returns)

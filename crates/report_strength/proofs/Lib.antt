@@ -1,0 +1,4 @@
+pub mod Weights
+pub mod Apart
+pub mod AllWords
+pub mod Promises

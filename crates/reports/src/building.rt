@@ -1,0 +1,83 @@
+// Build with a report.
+use super::refused::bad_data;
+use super::refused::shape_number;
+ghost use mathlib.Core.Path.{_≡_};
+ghost use Prim.Native.Nat.{_*_, _≤_};
+ghost use lib.ListN.{length};
+ghost use Rattle.laws.specs.Bits.{AreBits};
+ghost use Rattle.report_code.specs.Words.{numberOf};
+ghost use Rattle.reports.specs.Calls.{reportBuildNumber, reportBuildOutput};
+
+// Writes the control bits of `report`, `control` a layer, and behind them the codeword of `block`, over the front of `out`. Answers 0, or the
+// number of the refusal, which writes nothing.
+pub fn build(
+    report: &[u8],
+    control: usize,
+    block: &[u8],
+    q: usize,
+    n: usize,
+    version: usize,
+    g: usize,
+    out: &mut [u8],
+) -> u8
+    ensures number { λ r. ⌜ r ≡ reportBuildNumber (now (report .entry)) control (now (block .entry)) q n version g (length (now (out .entry))) ⌝ }
+    ensures output { λ r. ⌜ now (out .exit) ≡ reportBuildOutput (now (report .entry)) control (now (block .entry)) q n version g (now (out .entry)) ⌝ }
+{
+    let number = build_number(report, control, block, q, n, version, g, out.len());
+    if number != 0 {
+        return number;
+    }
+    let ahead = n * control;
+    report_code::control_bits(number_of(report), &mut out[..ahead]);
+    codeword::build(block, q, n, version, g, &mut out[ahead..]);
+    0
+}
+
+// The refusals in their order.
+fn build_number(
+    report: &[u8],
+    control: usize,
+    block: &[u8],
+    q: usize,
+    n: usize,
+    version: usize,
+    g: usize,
+    room: usize,
+) -> u8
+    ensures { λ r. ⌜ r ≡ reportBuildNumber (now (report .entry)) control (now (block .entry)) q n version g room ⌝ }
+{
+    let number = shape_number(block.len(), q, n, report.len(), control);
+    if number != 0 {
+        return number;
+    }
+    if bad_data(block.len(), q, n, g) {
+        return 3;
+    }
+    if version > 3 {
+        return 4;
+    }
+    if room < n * control + g {
+        return 5;
+    }
+    if codeword::bad_bits(report) {
+        return 2;
+    }
+    if codeword::bad_bits(block) {
+        return 2;
+    }
+    0
+}
+
+// The number of a report: o_0 is its lowest bit.
+fn number_of(report: &[u8]) -> u32
+    requires { ⌜ AreBits (now report) × (length (now report) ≤ 11) ⌝ }
+    ensures { λ r. ⌜ r ≡ numberOf (now (report .entry)) ⌝ }
+{
+    let mut number: u32 = 0;
+    let mut i = report.len();
+    while 0 < i {
+        i -= 1;
+        number = 2 * number + report[i] as u32;
+    }
+    number
+}
