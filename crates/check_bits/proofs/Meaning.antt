@@ -11,8 +11,8 @@ use lib.Bits.{xor-zero-r, xor-comm, xor-self, xor-lt}
 use lib.Pow.{pow-pos}
 use Rattle.laws.specs.Bits.{_⊕_, bitsOf, AreBits}
 use Rattle.laws.proofs.Bits.{xor-assoc, xor-at, length-bitsOf, bitsOf-mod}
-use Rattle.check_bits.specs.Division.{takeAway, divide, LeavesNothing, powersCRC24A, powersCRC24B, ofPowers}
-use Rattle.check_bits.specs.CheckBits.{gCRC24A, gCRC24B, crcStep, crcFrom, crc, checkBits}
+use Rattle.check_bits.specs.Division.{takeAway, divide, LeavesNothing, powersCRC24A, powersCRC24B, powersCRC16, ofPowers}
+use Rattle.check_bits.specs.CheckBits.{gCRC24A, gCRC24B, gCRC16, crcStep, crcFrom, crc, checkBits}
 use Rattle.check_bits.proofs.Register.{xor-same, doubled-bit, top-lt, crcStep-is, crcStep-lt, length-checkBits}
 
 -- times D: the same bits one place higher, and a zero below
@@ -89,9 +89,9 @@ only-added (y ∷ x) (z ∷ p) e =
     ap₂ _∷_ (xor-same z y (rw one-mul at head)) (only-added x p tail)
 
 -- the generators are the polynomials that the clause writes out
-pub generators : (gCRC24A ≡ ofPowers powersCRC24A) × (gCRC24B ≡ ofPowers powersCRC24B)
+pub generators : (gCRC24A ≡ ofPowers powersCRC24A) × (gCRC24B ≡ ofPowers powersCRC24B) × (gCRC16 ≡ ofPowers powersCRC16)
 unfolding ofPowers
-generators = (refl, refl)
+generators = (refl, refl, refl)
 
 -- clause 5.1.1: data bits a with p after them leave remainder 0 where p is their check bits, and nowhere else
 pub meaning : (L g : ℕ) (a p : List ℕ) → AreBits a → (LeavesNothing (bitsOf L g) a p ↔ (p ≡ checkBits L g a))

@@ -11,6 +11,10 @@ gCRC24A = 0x864CFB
 abbrev pub gCRC24B : ℕ
 gCRC24B = 0x800063
 
+-- gCRC16, the top term D^16 left off
+abbrev pub gCRC16 : ℕ
+gCRC16 = 0x1021
+
 -- one data bit b into the register s: times D, and the generator taken away where the power L comes up
 unfoldable pub crcStep : ℕ → ℕ → ℕ → ℕ → ℕ
 crcStep L g s b = (s * 2 ⊕ (s / 2 ^ (L - 1) ⊕ b) * g) % 2 ^ L

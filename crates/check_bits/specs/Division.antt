@@ -30,6 +30,10 @@ powersCRC24A = 23 ∷ 18 ∷ 17 ∷ 14 ∷ 11 ∷ 10 ∷ 7 ∷ 6 ∷ 5 ∷ 4 ∷
 abbrev pub powersCRC24B : List ℕ
 powersCRC24B = 23 ∷ 6 ∷ 5 ∷ 1 ∷ 0 ∷ []
 
+-- those of gCRC16(D), its top term D^16 left off
+abbrev pub powersCRC16 : List ℕ
+powersCRC16 = 12 ∷ 5 ∷ 0 ∷ []
+
 -- the coefficients of a polynomial as the bits of a number: a one for each power that it lists
 unfoldable pub ofPowers : List ℕ → ℕ
 ofPowers [] = 0

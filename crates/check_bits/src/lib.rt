@@ -1,13 +1,13 @@
-// Check bits of clause 5.1.1: the remainder of a run of bits, and its 24 bits put at the front of a slice.
+// Check bits of clause 5.1.1: the remainder of a run of bits, and its bits put at the front of a slice.
 mod table;
 
 ghost use mathlib.Core.Path.{_≡_};
 ghost use Prim.Native.Nat.{_+_, _%_, _^_, _≤_, _<_};
 ghost use lib.ListN.{length, getD, take, drop};
 ghost use Rattle.laws.specs.Bits.{bitsOf};
-ghost use Rattle.check_bits.specs.CheckBits.{crcFrom, gCRC24A, gCRC24B};
+ghost use Rattle.check_bits.specs.CheckBits.{crcFrom, gCRC24A, gCRC24B, gCRC16};
 ghost use Rattle.check_bits.specs.Stride.{IsTable, FewBits, entries, wordOf, lowest};
-ghost use Rattle.check_bits.specs.Put.{putCheckBits};
+ghost use Rattle.check_bits.specs.Put.{putBits, putCheckBits, putCheckBits16};
 
 // The transport check goes on with `bits` from an earlier remainder, which is 0 before the first bit. The bits by which the length is over a
 // multiple of 24 go first, the others follow in strides; where they are too few for a stride, its table is not made. A number of more than
@@ -52,6 +52,13 @@ pub fn crc24b(from: u32, bits: &[u8]) -> u32
     let s = leading(0x800063, &near, from, k, bits);
     let far = table::table_b_48();
     strides(0x800063, &near, &far, s, &bits[k..])
+}
+
+// The check of a control message's payload goes on from an earlier remainder.
+pub fn crc16(from: u32, bits: &[u8]) -> u32
+    ensures { λ r. ⌜ r ≡ crcFrom 16 gCRC16 from (now (bits .entry)) ⌝ }
+{
+    one_by_one(16, 0x1021, from, bits)
 }
 
 // The register after the first `k` bits, from the register `from` on: they are the highest of 24 gathered bits.
@@ -244,13 +251,28 @@ fn one_by_one(length: u32, generator: u32, from: u32, bits: &[u8]) -> u32
 pub fn put_check_bits(remainder: u32, out: &mut [u8])
     ensures { λ r. ⌜ now (out .exit) ≡ putCheckBits remainder (now (out .entry)) ⌝ }
 {
-    if out.len() < 24 {
+    put_bits(24, remainder, out);
+}
+
+// The same of the 16 bits of a shorter check.
+pub fn put_check_bits_16(remainder: u32, out: &mut [u8])
+    ensures { λ r. ⌜ now (out .exit) ≡ putCheckBits16 remainder (now (out .entry)) ⌝ }
+{
+    put_bits(16, remainder, out);
+}
+
+// Writes the lowest `length` bits of a remainder over the front of `out`, the highest first. A slice that is too short stays as it was.
+fn put_bits(length: usize, remainder: u32, out: &mut [u8])
+    requires { ⌜ length ≤ 32 ⌝ }
+    ensures { λ r. ⌜ now (out .exit) ≡ putBits length remainder (now (out .entry)) ⌝ }
+{
+    if out.len() < length {
         return;
     }
-    let mut power: usize = 24;
+    let mut power = length;
     while 0 < power {
         power -= 1;
-        let place = 23 - power;
+        let place = length - 1 - power;
         out[place] = ((remainder >> power) & 1) as u8;
     }
 }

@@ -14,7 +14,7 @@ use Rattle.rate_matching.specs.declared.CirclePlace.{CirclePlace}
 use Rattle.rate_matching.specs.declared.Held.the-variants.{Bit, Dummy}
 use Rattle.rate_matching.specs.declared.Lies.the-variants.{At, Nowhere}
 use Rattle.rate_matching.specs.Columns.{column}
-use Rattle.rate_matching.specs.SubBlocks.{rows, dummies, readPlain, readShifted}
+use Rattle.rate_matching.specs.SubBlocks.{rows, dummies, readColumns, readPlain, readShifted}
 use Rattle.rate_matching.specs.Circle.{circleLength}
 use Rattle.rate_matching.specs.Places.{heldY, heldByTurns, heldAt, plainPlace, shiftedPlace, placeNumber, placeOf, longest, heldWithin, liesAt, InStreams, OnCircle}
 use Rattle.rate_matching.proofs.Columns.{column-rule}
@@ -30,7 +30,7 @@ pub dummies-add : (D : ℕ) → dummies D + D ≡ 32 * rows D
 unfolding rows dummies
 dummies-add D = omega arith
 
--- ---- the plain rule and its places are inverse
+-- ---- the plain rule and its places are inverse, whatever the column numbers
 
 low : (c m : ℕ) → c < 32 → (c + 32 * m) % 32 ≡ c
 low c m h = omega arith
@@ -38,32 +38,58 @@ low c m h = omega arith
 high : (c m : ℕ) → c < 32 → (c + 32 * m) / 32 ≡ m
 high c m h = omega arith
 
-module _ (R k : ℕ) (h : k < 32 * R) where
+-- P permutes the 32 columns, and Q is its inverse
+pub record Permuted (P Q : ℕ → ℕ) : Type 0 where
+  pub there : (c : ℕ) → c < 32 → (P c < 32) × (Q (P c) ≡ c)
+  pub back : (c : ℕ) → c < 32 → (Q c < 32) × (P (Q c) ≡ c)
+
+-- where y place p is read by column numbers whose inverse is Q: column Q(p mod 32), row p / 32
+abbrev pub lieColumns : (ℕ → ℕ) → ℕ → ℕ → ℕ
+lieColumns Q R p = Q (p % 32) * R + p / 32
+
+module _ (P Q : ℕ → ℕ) (w : Permuted P Q) (R k : ℕ) (h : k < 32 * R) where
   row-lt : k % R < R
   row-lt = mod-lt k (omega arith)
 
   column-below : k / R < 32
   column-below = div-lt-iff-lt-mul {k = R} {x = k} (omega arith) .1 h
 
+  pub columns-read-lt : readColumns P R k < 32 * R
+  columns-read-lt = omega (arith, row-lt, w .there (k / R) column-below .0)
+
+  columns-place-read : lieColumns Q R (readColumns P R k) ≡ k
+  columns-place-read =
+      let c = w .there (k / R) column-below in
+      rw (low (P (k / R)) (k % R) (c .0), high (P (k / R)) (k % R) (c .0), c .1) (div-add-mod' k R)
+
+  pub columns-place-lt : lieColumns Q R k < 32 * R
+  columns-place-lt = digits-lt (w .back (k % 32) (omega arith) .0) (omega arith)
+
+  pub columns-read-place : readColumns P R (lieColumns Q R k) ≡ k
+  columns-read-place =
+      let r : k / 32 < R = omega arith in
+      rw (digits-div (Q (k % 32)) r, digits-mod (Q (k % 32)) r, w .back (k % 32) (omega arith) .1) (omega arith)
+
+-- the columns of clause 5.1.4.1.1 are their own inverse
+own-inverse : Permuted column column
+own-inverse = record { there = column-rule; back = column-rule }
+
+module _ (R k : ℕ) (h : k < 32 * R) where
   pub read-lt : readPlain R k < 32 * R
   unfolding readPlain
-  read-lt = omega (arith, row-lt, column-rule (k / R) column-below .0)
+  read-lt = columns-read-lt column column own-inverse R k h
 
   place-read : plainPlace R (readPlain R k) ≡ k
   unfolding readPlain plainPlace
-  place-read =
-      let c = column-rule (k / R) column-below in
-      rw (low (column (k / R)) (k % R) (c .0), high (column (k / R)) (k % R) (c .0), c .1) (div-add-mod' k R)
+  place-read = columns-place-read column column own-inverse R k h
 
   pub place-lt : plainPlace R k < 32 * R
   unfolding plainPlace
-  place-lt = digits-lt (column-rule (k % 32) (omega arith) .0) (omega arith)
+  place-lt = columns-place-lt column column own-inverse R k h
 
   read-place : readPlain R (plainPlace R k) ≡ k
   unfolding readPlain plainPlace
-  read-place =
-      let r : k / 32 < R = omega arith in
-      rw (digits-div (column (k % 32)) r, digits-mod (column (k % 32)) r, column-rule (k % 32) (omega arith) .1) (omega arith)
+  read-place = columns-read-place column column own-inverse R k h
 
 -- ---- one further round a ring of n, and one back
 

@@ -96,7 +96,7 @@ pub length-selected : (w : List ℕ) (k0 E : ℕ) → length (selected w k0 E) �
 unfolding selected sentPlaces
 length-selected w k0 E = length-map (tab E (turnAfterTurn (turn w k0))) (onCircle w) ∙ length-tab E (turnAfterTurn (turn w k0))
 
-getD-map : (f : ℕ → ℕ) (l : List ℕ) (i : ℕ) → i < length l → getD (map f l) i 0 ≡ f (getD l i 0)
+pub getD-map : (f : ℕ → ℕ) (l : List ℕ) (i : ℕ) → i < length l → getD (map f l) i 0 ≡ f (getD l i 0)
 getD-map f [] i h = absurd (omega arith)
 getD-map f (x ∷ l) zero h = refl
 getD-map f (x ∷ l) (suc i) h = getD-map f l i (omega arith)

@@ -5,10 +5,11 @@ use mathlib.Core.List.{List, map}
 use Prim.Native.Nat.{ℕ, _%_}
 use lib.Dec.{leb, ltb, eqb}
 use lib.ListN.{length}
+use Rattle.laws.specs.Lists.{tab}
 use Rattle.rate_matching.specs.SubBlocks.{rows}
 use Rattle.rate_matching.specs.Circle.{circle, startOf}
 use Rattle.rate_matching.specs.Places.{longest}
-use Rattle.rate_matching.specs.Walk.{onCircle, sentPlaces}
+use Rattle.rate_matching.specs.Walk.{onCircle, turnAfterTurn, sentPlaces}
 use Rattle.rate_matching.specs.Shape.{shape}
 
 -- three streams of one length D = K + 4 for some K of 40 to 6144, a multiple of 8, fewer filler bits, and one of the four redundancy versions
@@ -23,3 +24,7 @@ sentOf d0 d1 d2 F v E = map (onCircle (circle d0 d1 d2)) (sentPlaces (shape (len
 unfoldable pub matchedInto : List ℕ → List ℕ → List ℕ → ℕ → ℕ → List ℕ → List ℕ
 matchedInto d0 d1 d2 F v out =
     cond (matchable (length d0) (length d1) (length d2) F v) (sentOf d0 d1 d2 F v (length out)) out
+
+-- what stands in `out` afterwards: the entries of one turn over and over; an empty turn leaves it as it is
+unfoldable pub repeatedInto : List ℕ → List ℕ → List ℕ
+repeatedInto ring out = cond (eqb (length ring) 0) out (tab (length out) (turnAfterTurn ring))

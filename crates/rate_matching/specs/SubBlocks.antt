@@ -19,9 +19,13 @@ dummies D = 32 * rows D - D
 unfoldable pub padded : List ℕ → List ℕ
 padded d = replicate {A = ℕ} (dummies (length d)) NULL ++ d
 
--- (4), (5) for d(0) and d(1): v_k is the y of column P(k / R), row k mod R
+-- (4), (5) with the column numbers P: v_k is the y of column P(k / R), row k mod R
+abbrev pub readColumns : (ℕ → ℕ) → ℕ → ℕ → ℕ
+readColumns P R k = P (k / R) + 32 * (k % R)
+
+-- (4), (5) for d(0) and d(1)
 unfoldable pub readPlain : ℕ → ℕ → ℕ
-readPlain R k = column (k / R) + 32 * (k % R)
+readPlain R k = readColumns column R k
 
 -- (4) for d(2): π(k), one further, modulo 32·R
 unfoldable pub readShifted : ℕ → ℕ → ℕ

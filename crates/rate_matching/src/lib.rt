@@ -8,6 +8,7 @@ pub use mapping::held_at;
 pub use mapping::place_of;
 pub use mapping::rows_before;
 pub use matcher::rate_match;
+pub use matcher::turn_after_turn;
 
 // Which stream, 0 to 2, and the place in it, which runs to D.
 pub struct StreamPlace(pub usize, pub usize);

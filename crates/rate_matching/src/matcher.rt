@@ -13,7 +13,7 @@ ghost use Rattle.rate_matching.specs.Circle.{circleLength};
 ghost use Rattle.rate_matching.specs.Walk.{turnAfterTurn};
 ghost use Rattle.rate_matching.specs.Columns.{column};
 ghost use Rattle.rate_matching.specs.Units.{everyRow, pairRow, columnBits, pairBits, unitBits, unitsFrom, unitStart, startUnit, Laid, Fitting, Holds, ringRoom, Put, PutTo};
-ghost use Rattle.rate_matching.specs.Matcher.{matchable, matchedInto};
+ghost use Rattle.rate_matching.specs.Matcher.{matchable, matchedInto, repeatedInto};
 
 // The room for a turn is filled when it is made, so there are three: for the circle of a short block, with R up to 5, or few bits of any block;
 // for that of a block of a middle size, with R up to 33; for the largest circle, with R = 193.
@@ -189,6 +189,16 @@ fn fill(ring: &[u8], out: &mut [u8])
         return;
     }
     repeat(ring, out);
+}
+
+// The same for any ring; an empty one leaves `out` as it is.
+pub fn turn_after_turn(ring: &[u8], out: &mut [u8])
+    ensures { λ _. ⌜ now (out .exit) ≡ repeatedInto (now (ring .entry)) (now (out .entry)) ⌝ }
+{
+    if ring.len() == 0 {
+        return;
+    }
+    fill(ring, out);
 }
 
 // Whether these are the lengths and the filler of a code block's streams, and one of the four versions.
