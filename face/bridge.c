@@ -5,7 +5,8 @@
  * Numbers are lowest byte first. A request is 56 bytes:
  *
  *   byte 0         1 for zemrukste_build, 2 for zemrukste_sizes, 3 for zemrukste_build_two, 4 for
- *                  zemrukste_report_build, 5 for zemrukste_report_part
+ *                  zemrukste_report_build, 5 for zemrukste_report_part, 6 for
+ *                  zemrukste_control_build, 7 for zemrukste_control_whose
  *   byte 1         what is lent as a null pointer, added (lengths 0 alone): 1 the block, the
  *                  header or the received run, 2 the output, 4 the payload
  *   byte 2         the fill: what every byte of the output and its guards is before the call
@@ -17,8 +18,10 @@
  * the header and then the payload, which are lent far apart. zemrukste_sizes does not look at
  * q, n, version and g. For zemrukste_report_part the six numbers are received_len, q, n, a, o,
  * out_len. The two report calls have two more numbers behind the six, report_len (0 for
- * zemrukste_report_part) and control, then the block or the received run, then the report. The
- * answer is 8 bytes:
+ * zemrukste_report_part) and control, then the block or the received run, then the report. For
+ * the control calls the block is the payload or the run, q is the terminal and g is e;
+ * zemrukste_control_whose has an out_len of 2, and its output is the terminal, lowest byte
+ * first. The answer is 8 bytes:
  *
  *   bytes 0 - 3    the number the call gave back
  *   byte 4         1 if the block (or run) and the report are the same after the call as
@@ -56,6 +59,8 @@ enum {
     BUILD_TWO = 3,
     REPORT_BUILD = 4,
     REPORT_PART = 5,
+    CONTROL_BUILD = 6,
+    CONTROL_WHOSE = 7,
     NULL_BLOCK = 1,
     NULL_OUTPUT = 2,
     NULL_PAYLOAD = 4
@@ -133,6 +138,16 @@ static uint8_t same(const uint8_t *one, const uint8_t *other, size_t count)
     return difference == 0;
 }
 
+/* Whose the run is, with the terminal in the two bytes of out. */
+static uint32_t whose(const uint8_t *run, size_t run_len, uint8_t *out)
+{
+    uint16_t terminal = (uint16_t)(out[0] | out[1] << 8);
+    uint32_t given = zemrukste_control_whose(run, run_len, &terminal);
+    out[0] = (uint8_t)terminal;
+    out[1] = (uint8_t)(terminal >> 8);
+    return given;
+}
+
 /* The call that the request asks for, on the block and the report that have been read. */
 static uint32_t called(uint8_t kind, uint8_t nulls, size_t header_len, size_t length, size_t report_len, uint8_t *out,
                        size_t out_len)
@@ -151,7 +166,11 @@ static uint32_t called(uint8_t kind, uint8_t nulls, size_t header_len, size_t le
     if (kind == REPORT_BUILD)
         return zemrukste_report_build(report, report_len, (size_t)number(7), lent, length, q, n, third, fourth, out,
                                       out_len);
-    return zemrukste_report_part(third, q, n, fourth, (size_t)number(7), lent, length, out, out_len);
+    if (kind == REPORT_PART)
+        return zemrukste_report_part(third, q, n, fourth, (size_t)number(7), lent, length, out, out_len);
+    if (kind == CONTROL_BUILD)
+        return zemrukste_control_build(lent, length, (uint16_t)q, fourth, out, out_len);
+    return whose(lent, length, out);
 }
 
 /* Answers the request that has been read. Gives 0 if that cannot be done. */
@@ -165,7 +184,9 @@ static int serve(void)
     uint32_t given;
     size_t whole;
 
-    if (kind < BUILD || kind > REPORT_PART || out_len > OUTPUT_MAX)
+    if (kind < BUILD || kind > CONTROL_WHOSE || out_len > OUTPUT_MAX)
+        return 0;
+    if ((kind == CONTROL_BUILD && number(1) > 65535) || (kind == CONTROL_WHOSE && out_len != 2))
         return 0;
     if (length > (kind == REPORT_PART ? RUN_MAX : BLOCK_MAX) || header_len > (kind == BUILD_TWO ? length : 0))
         return 0;

@@ -1,5 +1,5 @@
 /* What the cell's scheduler does: asks for the sizes of a block, builds its codeword, also from two
- * buffers, meets a refusal, and sends a report with a charge limit.
+ * buffers, meets a refusal, sends a report with a charge limit, and a car its grant.
  * It prints what it got. Only write(2) of the C library is used, so that the program needs no C headers but the compiler's own. */
 #include "zemrukste.h"
 
@@ -65,6 +65,30 @@ static void put_report(void)
     put("\n");
 }
 
+/* A grant for terminal 9, and whose a run of payload and check is that the decoder chip gives. */
+static int control(void)
+{
+    static const uint8_t grant[8] = {1, 0, 1, 1, 0, 0, 1, 0};
+    static const uint8_t run[24] = {1, 0, 1, 1, 0, 0, 1, 0, 1, 0, 0, 0, 0, 1, 1, 1, 1, 0, 0, 1, 0, 0, 0, 0};
+    uint8_t message[72];
+    uint16_t terminal = 0;
+
+    put("grant 10110010 for terminal 9, E = 72: ");
+    if (zemrukste_control_build(grant, sizeof grant, 9, 72, message, sizeof message) != 0)
+        return 1;
+    put_bits(message, sizeof message);
+    put("\nthe run ");
+    put_bits(run, sizeof run);
+    put(" is terminal ");
+    if (zemrukste_control_whose(run, sizeof run, &terminal) != 0)
+        return 1;
+    put_number(terminal);
+    put("'s\nthe same less its last nine bits: refused with ");
+    put_number(zemrukste_control_whose(run, 15, &terminal));
+    put("\n");
+    return 0;
+}
+
 int main(void)
 {
     static const uint8_t block[1] = {1};
@@ -121,5 +145,5 @@ int main(void)
     number = zemrukste_build(0, 0, 2, 1, 0, 24, out, sizeof out);
     put_number(number);
     put("\n");
-    return 0;
+    return control();
 }

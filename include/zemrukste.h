@@ -1,8 +1,8 @@
 /*
  * Zemrukste: coding of the uplink shared channel (3GPP TS 36.212 V11.5.1, UL-SCH data and channel
- * reports ahead of it).
+ * reports ahead of it) and of downlink control messages (clause 5.3.3).
  *
- * Five calls for the cell's scheduler. They work on numbers and byte slices alone:
+ * Calls for the cell's scheduler. All work on numbers and byte slices alone:
  *
  * - A bit is one byte, 0 or 1.
  * - A slice is a pointer and its length in bytes. A length of 0 may come with a null
@@ -51,13 +51,14 @@ extern "C" {
 #define ZEMRUKSTE_BAD_BIT 2
 /* q, n or g does not fit: q is 2, 4 or 6; n is 1 to 4; g is at most 172,800, a multiple of
    n * q, and at least n * q for every code block (C of zemrukste_sizes). Of a received run
-   g is what follows the control bits, so also a run too short for them is 3. Correct the
-   allocation. */
+   g is what follows the control bits, so also a run too short for them is 3. e of a control
+   message is 1 to 4,096. Correct the allocation. */
 #define ZEMRUKSTE_BAD_ALLOCATION 3
 /* The redundancy version is above 3: give 0, 1, 2 or 3. */
 #define ZEMRUKSTE_BAD_VERSION 4
 /* The output is too short: lend at least g bytes (zemrukste_build, zemrukste_build_two),
-   n * control + g (zemrukste_report_build), o (zemrukste_report_part), 24 (zemrukste_sizes). */
+   n * control + g (zemrukste_report_build), o (zemrukste_report_part), 24 (zemrukste_sizes),
+   e (zemrukste_control_build). */
 #define ZEMRUKSTE_SHORT_OUTPUT 5
 /* A report has 1 to 11 bits: correct its length. */
 #define ZEMRUKSTE_BAD_REPORT 17
@@ -68,6 +69,14 @@ extern "C" {
    came wrong, or the control bits are too few to tell reports of this length apart (see
    zemrukste_report_part). Keep the last report, or ask the car for another. */
 #define ZEMRUKSTE_TIED 19
+
+/* The payload of a control message is not 1 to 64 bits, or a run of payload and check not 17
+   to 80: compare the format of the message with the car's. */
+#define ZEMRUKSTE_BAD_PAYLOAD 20
+
+/* The largest payload of a control message and the largest message, in bits. */
+#define ZEMRUKSTE_PAYLOAD_MAX 64
+#define ZEMRUKSTE_MESSAGE_MAX 4096
 
 /*
  * The codeword of one transport block: CRC24A, code blocks with CRC24B, turbo code, rate
@@ -158,6 +167,35 @@ uint32_t zemrukste_report_build(const uint8_t *report, size_t report_len, size_t
 uint32_t zemrukste_report_part(size_t a, size_t q, size_t n, size_t o, size_t control,
                                const uint8_t *received, size_t received_len, uint8_t *out,
                                size_t out_len);
+
+/*
+ * A downlink control message: CRC16 mixed with the terminal number, tail biting convolutional
+ * code, rate matching of clause 5.1.4.2; no antenna selection mask.
+ *
+ *   payload, payload_len   the payload's bits, 1 to 64
+ *   terminal               whose the message is: 0 to 65,535
+ *   e                      bits of the message: 1 to 4,096
+ *   out, out_len           the output, at least e bytes
+ *
+ * Accepted (0): out[0] to out[e - 1] are the message, one bit a byte; out[e] to
+ * out[out_len - 1] stay as they were. Refused: every byte of out stays as it was.
+ * With e at least 3 * (payload_len + 16) every coded bit is sent at least once.
+ * Refusals in their order: 20, 3, 5, 2.
+ */
+uint32_t zemrukste_control_build(const uint8_t *payload, size_t payload_len, uint16_t terminal,
+                                 size_t e, uint8_t *out, size_t out_len);
+
+/*
+ * Whose a received message is, from what the decoder chip gives.
+ *
+ *   run, run_len           payload and check bits as one run: 17 to 80
+ *   terminal               never null
+ *
+ * Accepted (0): *terminal is the one terminal number that fits the run. Every run of that
+ * length fits one, a damaged one as well: act on a message only if the number is the car's
+ * own. Refused: *terminal stays as it was. Refusals in their order: 20, 2.
+ */
+uint32_t zemrukste_control_whose(const uint8_t *run, size_t run_len, uint16_t *terminal);
 
 #ifdef __cplusplus
 }

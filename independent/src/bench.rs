@@ -1,4 +1,4 @@
-//! Build, of one slice and of two, Receive, Read and the calls with a report timed: the proved library beside the fast and the literal
+//! Build, of one slice and of two, Receive, Read, the calls with a report and control messages timed: the proved library beside the fast and the literal
 //! program, all three linked into one process and called by turns. Feature `linked` alone,
 //! since the library must be linked too: `scripts/bench` does both.
 //!
@@ -9,7 +9,7 @@
 
 use crate::segmentation::Segmentation;
 use crate::slots::{self, Refusal, State, ROOM_OF_BLOCK};
-use crate::{codeword, fast, fast_report, fast_slots, report, xorshift};
+use crate::{codeword, control, fast, fast_control, fast_report, fast_slots, report, xorshift};
 use std::hint::black_box;
 use std::time::{Duration, Instant};
 
@@ -78,6 +78,15 @@ mod library {
             out_len: usize,
         ) -> u32;
 
+        pub fn zemrukste_control_build(
+            payload: *const u8,
+            payload_len: usize,
+            terminal: u16,
+            e: usize,
+            out: *mut u8,
+            out_len: usize,
+        ) -> u32;
+
         /// The exports of crates/heard: one slot, open for terminal 0.
         pub fn heard_receive(
             m: usize,
@@ -110,9 +119,10 @@ pub enum Timed {
     BuildTwo,
     Receive,
     Read,
+    Control,
 }
 
-pub const ALL: [Timed; 4] = [Timed::Build, Timed::BuildTwo, Timed::Receive, Timed::Read];
+pub const ALL: [Timed; 5] = [Timed::Build, Timed::BuildTwo, Timed::Receive, Timed::Read, Timed::Control];
 
 impl Timed {
     pub fn name(self) -> &'static str {
@@ -121,25 +131,33 @@ impl Timed {
             Timed::BuildTwo => "build-two",
             Timed::Receive => "receive",
             Timed::Read => "read",
+            Timed::Control => "control",
         }
     }
 
     /// Four blocks without filler (one code block of 64, 1,024 and 6,144, and five of
     /// 6,144), each with the whole mother code once and with the largest G; Build also with
-    /// the least G, and Read after the mother code alone, since it does not see G.
+    /// the least G, and Read after the mother code alone, since it does not see G. For control
+    /// messages A is the payload and G is E: one, four and eight elements, and the most.
     pub fn usual_rows(self) -> Vec<Row> {
+        if let Timed::Control = self {
+            return [1, 40, 64].into_iter().flat_map(|a| [72, 288, 576, control::E_MAX].map(|g| Row { a, g })).collect();
+        }
         let least = |a| Row { a, g: N * Q * Segmentation::of(a + 24).blocks };
         let most = |a| Row { a, g: codeword::G_MAX };
         let rows = |a| match self {
             Timed::Build | Timed::BuildTwo => vec![least(a), mother_code(a), most(a)],
             Timed::Receive => vec![mother_code(a), most(a)],
-            Timed::Read => vec![mother_code(a)],
+            Timed::Read | Timed::Control => vec![mother_code(a)],
         };
         [40, 1_000, 6_120, codeword::A_MAX].into_iter().flat_map(rows).collect()
     }
 
     fn runners(self, row: Row) -> Result<[Runner; 3], String> {
         let block = xorshift::block(row.a, 1);
+        if let Timed::Control = self {
+            return Ok(control_runners(block, row.g));
+        }
         let mut bits = vec![0; codeword::G_MAX];
         let built = codeword::build_into(&block, Q, N, VERSION, row.g, &mut bits);
         built.map_err(|number| format!("A {}, G {}: refused with {number}", row.a, row.g))?;
@@ -148,7 +166,7 @@ impl Timed {
             Timed::Build => build_runners(block, row.g),
             Timed::BuildTwo => build_two_runners(block, row.g),
             Timed::Receive => receive_runners(row.a, bits),
-            Timed::Read => read_runners(row.a, bits),
+            Timed::Read | Timed::Control => read_runners(row.a, bits),
         })
     }
 }
@@ -262,6 +280,24 @@ fn build_two_runners(block: Vec<u8>, g: usize) -> [Runner; 3] {
             let (header, payload) = black_box(&literal);
             number(codeword::build_two_into(header, payload, Q, N, VERSION, g, out))
         }),
+    ]
+}
+
+/// A message for terminal 9.
+fn control_runners(payload: Vec<u8>, e: usize) -> [Runner; 3] {
+    let number = |answer: Result<(), u8>| (answer.map_or_else(u32::from, |()| 0), 0);
+    let [rattle, fast, literal] = [payload.clone(), payload.clone(), payload];
+    [
+        Runner::of(control::E_MAX, move |out| {
+            let payload = black_box(&rattle);
+            // Slices of Rust, as above.
+            let number = unsafe {
+                library::zemrukste_control_build(payload.as_ptr(), payload.len(), 9, e, out.as_mut_ptr(), out.len())
+            };
+            (number, 0)
+        }),
+        Runner::of(control::E_MAX, move |out| number(fast_control::build_into(black_box(&fast), 9, e, out))),
+        Runner::of(control::E_MAX, move |out| number(control::build_into(black_box(&literal), 9, e, out))),
     ]
 }
 

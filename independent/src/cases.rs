@@ -2,7 +2,9 @@
 //!
 //! A case is a description; the block's bits are made when they are needed.
 
+use crate::cases_control;
 use crate::codeword::{segmentation_of, A_MAX, G_MAX};
+use crate::control;
 use crate::protocol::{BLOCK_MAX, OUTPUT_MAX};
 use crate::report::{self, CONTROL_MAX, O_MAX};
 use crate::table::TABLE;
@@ -29,6 +31,8 @@ pub enum Asked {
     Sizes(usize),
     ReportBuild(ReportBuild),
     ReportPart(ReportPart),
+    Control(Control),
+    Whose(Block),
 }
 
 /// A report ahead of a block.
@@ -77,6 +81,14 @@ pub struct Build {
     pub g: usize,
 }
 
+/// A control message: the payload's bits, whose, and how many bits.
+#[derive(Clone, Debug)]
+pub struct Control {
+    pub payload: Block,
+    pub terminal: u16,
+    pub e: usize,
+}
+
 #[derive(Clone, Debug)]
 pub struct Block {
     pub length: usize,
@@ -90,6 +102,8 @@ pub enum Content {
     /// `xorshift::block` of this seed.
     Random(u64),
     All(u8),
+    /// Payload of this seed and its check for this terminal.
+    Attached(u64, u16),
 }
 
 impl Block {
@@ -97,6 +111,9 @@ impl Block {
         let mut bytes = match self.content {
             Content::Random(seed) => xorshift::block(self.length, seed),
             Content::All(bit) => vec![bit; self.length],
+            Content::Attached(seed, terminal) => {
+                control::attach(&xorshift::block(self.length - control::PARITY, seed), terminal)
+            }
         };
         if let Some((place, byte)) = self.damage {
             bytes[place] = byte;
@@ -115,7 +132,8 @@ const NS: [usize; 4] = [1, 2, 3, 4];
 /// Numbers that only a full-width argument carries.
 const HUGE: [usize; 6] = [1 << 16, 1 << 31, 1 << 32, (1 << 32) + 2, 1 << 63, usize::MAX];
 
-/// All cases of a seed, `random` of them being random builds.
+/// All cases of a seed, `random` of them being random builds, and half as many again random
+/// control messages.
 pub fn all(seed: u64, random: usize) -> Vec<Case> {
     let mut maker = Maker { random: Generator::new(seed), cases: Vec::new() };
     maker.sizes();
@@ -131,6 +149,7 @@ pub fn all(seed: u64, random: usize) -> Vec<Case> {
     maker.reports();
     maker.runs();
     maker.run_faults();
+    maker.cases.append(&mut cases_control::all(seed, random));
     maker.cases
 }
 

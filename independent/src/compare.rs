@@ -1,8 +1,9 @@
 //! Compares another program, behind a bridge, with the literal modules: every answer, and
 //! every byte of every output.
 
-use crate::cases::{self, Asked, Block, Build, Case, Content, ReportBuild, ReportPart};
+use crate::cases::{self, Asked, Block, Build, Case, Content, Control, ReportBuild, ReportPart};
 use crate::codeword;
+use crate::control;
 use crate::rate;
 use crate::report;
 use crate::sizes;
@@ -116,6 +117,10 @@ fn request(case: &Case) -> Request {
         Asked::ReportPart(ReportPart { a, q, n, o, control, run }) => {
             Call::ReportPart { a: *a, q: *q, n: *n, o: *o, control: *control, received: run.bytes() }
         }
+        Asked::Control(Control { payload, terminal, e }) => {
+            Call::Control { payload: payload.bytes(), terminal: *terminal, e: *e }
+        }
+        Asked::Whose(run) => Call::Whose { run: run.bytes() },
     };
     Request {
         call,
@@ -148,6 +153,10 @@ pub fn expected(case: &Case) -> Answer {
         Asked::ReportPart(ReportPart { a, q, n, o, control, run }) => {
             report::part_into(*a, *q, *n, *o, *control, &run.bytes(), lent)
         }
+        Asked::Control(Control { payload, terminal, e }) => {
+            control::build_into(&payload.bytes(), *terminal, *e, lent)
+        }
+        Asked::Whose(run) => control::whose(&run.bytes()).map(|owner| lent.copy_from_slice(&owner.to_le_bytes())),
     };
     Answer { number: answer.map_or_else(u32::from, |()| 0), block_kept: true, output }
 }
@@ -255,19 +264,11 @@ fn description(case: &Case) -> String {
     match &case.asked {
         Asked::Sizes(a) => format!("Sizes: A = {a}, {lent}"),
         Asked::Build(build) | Asked::BuildTwo(build, _) => {
-            let Build { block, q, n, version, g } = build;
-            let content = match block.content {
-                _ if case.null_block && block.length == 0 => "null".to_string(),
-                Content::Random(seed) => format!("xorshift64* bits of seed {seed}"),
-                Content::All(bit) => format!("all {bit}"),
-            };
-            let damage = block.damage.map_or(String::new(), |(at, byte)| format!(", byte {at} being {byte}"));
-            let a = block.length;
             let name = match case.asked {
                 Asked::BuildTwo(_, cut) => format!("Build of two slices, cut behind {cut} bits"),
                 _ => "Build".to_string(),
             };
-            format!("{name}: A = {a} ({content}{damage}), Q = {q}, N = {n}, version = {version}, G = {g}, {lent}")
+            format!("{name}: {}, {lent}", build_text(case, build))
         }
         Asked::ReportBuild(ReportBuild { report, control, data }) => {
             let bits = report.bytes();
@@ -276,18 +277,28 @@ fn description(case: &Case) -> String {
         Asked::ReportPart(ReportPart { a, q, n, o, control, run }) => {
             format!("Report of a run: A = {a}, Q = {q}, N = {n}, O = {o}, {control} control bits a layer, {run:?}, {lent}")
         }
+        Asked::Control(Control { payload, terminal, e }) => {
+            let bits = block_text(case, payload);
+            format!("control message: payload {bits}, terminal {terminal}, E = {e}, {lent}")
+        }
+        Asked::Whose(run) => format!("whose: run {}, {lent}", block_text(case, run)),
     }
 }
 
 fn build_text(case: &Case, Build { block, q, n, version, g }: &Build) -> String {
+    format!("A = {}, Q = {q}, N = {n}, version = {version}, G = {g}", block_text(case, block))
+}
+
+/// A block's length and what it holds.
+fn block_text(case: &Case, block: &Block) -> String {
     let content = match block.content {
-        _ if case.null_block => "null".to_string(),
+        _ if case.null_block && block.length == 0 => "null".to_string(),
         Content::Random(seed) => format!("xorshift64* bits of seed {seed}"),
         Content::All(bit) => format!("all {bit}"),
+        Content::Attached(seed, terminal) => format!("bits of seed {seed} and their check for terminal {terminal}"),
     };
     let damage = block.damage.map_or(String::new(), |(at, byte)| format!(", byte {at} being {byte}"));
-    let a = block.length;
-    format!("A = {a} ({content}{damage}), Q = {q}, N = {n}, version = {version}, G = {g}")
+    format!("{} ({content}{damage})", block.length)
 }
 
 /// The block of an accepted build as an argument of `independent stage`, in a shell.
@@ -296,6 +307,7 @@ fn bits_argument(block: &Block) -> String {
         Content::Random(seed) => format!("@{}:{seed}", block.length),
         Content::All(0) => format!("$(printf '%0{}d' 0)", block.length),
         Content::All(_) => format!("$(printf '%0{}d' 0 | tr 0 1)", block.length),
+        Content::Attached(..) => String::new(),
     }
 }
 
@@ -346,6 +358,8 @@ fn place_name(case: &Case, number: u32, at: usize) -> String {
             let name = ["C", "C+", "K+", "C-", "K-", "F"][at / 4];
             format!("byte {at} ({name})")
         }
+        Asked::Control(asked) if number == 0 && at < asked.e => format!("bit {at} of {}", asked.e),
+        Asked::Whose(_) if number == 0 => format!("byte {at} of the terminal"),
         _ => format!("byte {at}, which stays"),
     }
 }

@@ -9,6 +9,9 @@ pub const CRC24A: [usize; 14] = [24, 23, 18, 17, 14, 11, 10, 7, 6, 5, 4, 3, 1, 0
 /// g_CRC24B(D), for each code block where there is more than one.
 pub const CRC24B: [usize; 6] = [24, 23, 6, 5, 1, 0];
 
+/// g_CRC16(D), for control information.
+pub const CRC16: [usize; 4] = [16, 12, 5, 0];
+
 /// The parity bits p_0 .. p_{L-1} of `bits`, L being the degree of `generator`.
 ///
 /// Long division on paper: the polynomial with L zeros in the parity's stead leaves as

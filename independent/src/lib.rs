@@ -17,6 +17,7 @@ pub mod turbo; // 5.1.3.2
 pub mod rate; // 5.1.4.1
 pub mod codeword; // 5.1.5, and the whole chain
 pub mod report; // 5.2.2.6.4 and 5.2.2.7, E3 of 02
+pub mod control; // 5.3.3, with 5.1.3.1 and 5.1.4.2
 pub mod slots; // New, Open, Receive, Read, Streams and Close of 01
 pub mod sizes; // the call Sizes and the sizes program of 01
 pub mod worst; // how many repeats at worst, E8 of 02
@@ -25,9 +26,11 @@ pub mod xorshift; // repeatable blocks to try
 pub mod fast; // Build for speed
 pub mod fast_report; // Build with a report and the way back for speed
 pub mod fast_slots; // Receive and Read for speed
+pub mod fast_control; // control messages for speed
 pub mod protocol; // how a bridge to another program is asked and answers
 pub mod cases; // what it is asked
 mod cases_two; // and of a block in two slices
+pub mod cases_control; // of that, the control calls
 pub mod compare; // asks it and compares
 pub mod stub; // a bridge to this program, sound or with a planted fault
 pub mod replay; // the calls of 01 as lines with answers

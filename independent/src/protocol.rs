@@ -2,12 +2,14 @@
 //! `face/bridge.c`. Numbers are lowest byte first.
 //!
 //! A request is 56 bytes: its kind (1 Build, 2 Sizes, 3 Build of two slices, 4 Build with a
-//! report, 5 the report of a run), null pointers (1 block, header or run, 2 output, 4
-//! payload), the fill, a zero, the header's length as 4 bytes (0 but for the third kind), then
-//! block length (or A), Q, N, version, G and output length as 8 bytes each; kind 5 has the
-//! run's length, Q, N, A, O and output length there. Kinds 4 and 5 have two more numbers
-//! behind it, the report's length (0 for kind 5) and the control bits a layer. Then come the
-//! block or run, of two slices the header first, and the report. An answer is 8 bytes: the number given back
+//! report, 5 the report of a run, 6 a control message, 7 whose it is), null pointers (1 block,
+//! header or run, 2 output, 4 payload), the fill, a zero, the header's length as 4 bytes (0 but
+//! for the third kind), then block length (or A), Q, N, version, G and output length as 8 bytes
+//! each; kind 5 has the run's length, Q, N, A, O and output length there. Kinds 4 and 5 have two
+//! more numbers behind it, the report's length (0 for kind 5) and the control bits a layer. Then
+//! come the block or run, of two slices the header first, and the report. A control message's
+//! block is the payload or the run, its Q the terminal, its G the E; whose a run is lies in an
+//! output of two bytes. An answer is 8 bytes: the number given back
 //! as 4, then 1 if the block is unchanged, three zeros; the output comes behind it between
 //! two guards. Before the call every byte of output and guards is the fill.
 
@@ -29,6 +31,8 @@ const SIZES: u8 = 2;
 const BUILD_TWO: u8 = 3;
 const REPORT_BUILD: u8 = 4;
 const REPORT_PART: u8 = 5;
+const CONTROL: u8 = 6;
+const WHOSE: u8 = 7;
 const NULL_BLOCK: u8 = 1;
 const NULL_OUTPUT: u8 = 2;
 const NULL_PAYLOAD: u8 = 4;
@@ -42,6 +46,8 @@ pub enum Call {
     Sizes { a: usize },
     ReportBuild { report: Vec<u8>, control: usize, block: Vec<u8>, q: usize, n: usize, version: usize, g: usize },
     ReportPart { a: usize, q: usize, n: usize, o: usize, control: usize, received: Vec<u8> },
+    Control { payload: Vec<u8>, terminal: u16, e: usize },
+    Whose { run: Vec<u8> },
 }
 
 #[derive(Debug, PartialEq, Eq)]
@@ -80,6 +86,10 @@ impl Request {
             Call::ReportPart { a, q, n, o, control, received } => {
                 (REPORT_PART, received, 0, [received.len(), *q, *n, *a, *o], Some((none, *control)))
             }
+            Call::Control { payload, terminal, e } => {
+                (CONTROL, payload, 0, [payload.len(), usize::from(*terminal), 0, 0, *e], None)
+            }
+            Call::Whose { run } => (WHOSE, run, 0, [run.len(), 0, 0, 0, 0], None),
         };
         let lent = [(self.null_block, NULL_BLOCK), (self.null_output, NULL_OUTPUT), (self.null_payload, NULL_PAYLOAD)];
         let nulls = lent.into_iter().map(|(null, bit)| u8::from(null) * bit).sum();
@@ -105,7 +115,7 @@ impl Request {
         let number = |place: usize| u64::from_le_bytes(numbers[place]) as usize;
         let output_length = limited(number(5), OUTPUT_MAX)?;
         let mut block = Vec::new();
-        if [BUILD, BUILD_TWO].contains(&head[0]) {
+        if [BUILD, BUILD_TWO, CONTROL, WHOSE].contains(&head[0]) {
             block.resize(limited(number(0), BLOCK_MAX)?, 0);
             from.read_exact(&mut block)?;
         }
@@ -135,6 +145,11 @@ impl Request {
                     Call::ReportPart { a: third, q, n, o: fourth, control, received: block }
                 }
             }
+            CONTROL => {
+                let terminal = limited(number(1), usize::from(u16::MAX))? as u16;
+                Call::Control { payload: block, terminal, e: number(4) }
+            }
+            WHOSE => Call::Whose { run: block },
             _ => return Err(ErrorKind::InvalidData.into()),
         };
         let [null_block, null_output, null_payload] =

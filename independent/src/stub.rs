@@ -2,9 +2,11 @@
 //! fault planted that the comparison must find.
 
 use crate::codeword;
+use crate::control;
 use crate::compare::sizes_into;
 use crate::crc;
 use crate::fast::Workspace;
+use crate::fast_control;
 use crate::protocol::{Answer, Call, Request, GUARD};
 use crate::rate;
 use crate::report;
@@ -34,6 +36,11 @@ pub enum Fault {
     SizesOrder,
     SecondFromZero,
     SlicesExchanged,
+    RegisterFromZero,
+    LowestBitFirst,
+    TurboColumns,
+    LateEnd,
+    WhoseOnRefusal,
     EndsEarly,
     Garbles,
     ControlLate,
@@ -43,7 +50,7 @@ pub enum Fault {
 use Fault::*;
 
 /// The faults by their names.
-pub const FAULTS: [(&str, Fault); 24] = [
+pub const FAULTS: [(&str, Fault); 29] = [
     ("long-first", LongFirst),                  // long code blocks come first
     ("early-shares", EarlyShares),              // the early code blocks have the larger share
     ("start-at-zero", StartAtZero),             // the walk starts at place 0
@@ -64,6 +71,11 @@ pub const FAULTS: [(&str, Fault); 24] = [
     ("sizes-order", SizesOrder),                // 5 before 1
     ("second-from-zero", SecondFromZero),       // CRC24A is that of the second slice alone
     ("slices-exchanged", SlicesExchanged),      // the payload's bits before the header's
+    ("register-from-zero", RegisterFromZero),  // the control encoder's register starts empty
+    ("lowest-bit-first", LowestBitFirst),      // the terminal number is mixed in backwards
+    ("turbo-columns", TurboColumns),           // table 5.1.4-1 for 5.1.4-2
+    ("late-end", LateEnd),                     // 5 before 3
+    ("whose-on-refusal", WhoseOnRefusal),      // a refused run names terminal 0
     ("ends-early", EndsEarly),                  // ends after 1,000 answers
     ("garbles", Garbles),                       // answers out of form
     ("control-late", ControlLate),              // 17 after 18
@@ -124,6 +136,8 @@ impl Stub {
                 self.report_build(&report, control, &block, q, n, version, g, lent)
             }
             Call::ReportPart { a, q, n, o, control, received } => self.report_part(a, q, n, o, control, &received, lent),
+            Call::Control { payload, terminal, e } => self.control(&payload, terminal, e, lent),
+            Call::Whose { run } => self.whose(&run, lent),
         };
         if self.has(WritesBeforeOutput) && answer.is_ok() {
             output[GUARD - 1] = 0;
@@ -181,6 +195,34 @@ impl Stub {
             return Ok(());
         }
         answer
+    }
+
+    fn control(&self, payload: &[u8], terminal: u16, e: usize, output: &mut [u8]) -> Result<(), u8> {
+        if self.has(LateEnd) && (1..=64).contains(&payload.len()) && output.len() < e {
+            return Err(control::SHORT_OUTPUT);
+        }
+        let terminal = if self.has(LowestBitFirst) { terminal.reverse_bits() } else { terminal };
+        fast_control::build_into(payload, terminal, e, output)?;
+        let c = control::attach(payload, terminal);
+        if self.has(RegisterFromZero) {
+            let led = [vec![0; 6], c.clone()].concat();
+            let d = control::encode(&led).map(|stream| stream[6..].to_vec());
+            output[..e].copy_from_slice(&control::match_streams(&d, e));
+        }
+        if self.has(TurboColumns) {
+            let streams = control::encode(&c).map(|stream| stream.into_iter().map(Some).collect::<Vec<_>>());
+            let w: Vec<Option<u8>> = streams.iter().flat_map(|stream| rate::sub_block_01(stream)).collect();
+            output[..e].copy_from_slice(&rate::walk(&w, 0, e));
+        }
+        Ok(())
+    }
+
+    fn whose(&self, run: &[u8], output: &mut [u8]) -> Result<(), u8> {
+        let owner = fast_control::whose(run);
+        if self.has(WhoseOnRefusal) && owner.is_err() {
+            output.fill(0);
+        }
+        owner.map(|owner| output.copy_from_slice(&owner.to_le_bytes()))
     }
 
     /// Build for speed, unless a fault is planted; the transport check does not see so many

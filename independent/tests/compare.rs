@@ -115,7 +115,7 @@ fn every_kind_of_accepted_build_is_sent() {
         note(match block.content {
             Content::Random(_) => "random",
             Content::All(0) => "zeros",
-            Content::All(_) => "ones",
+            _ => "ones",
         });
         note(["remainder 0", "remainder 1", "remainder 2", "remainder 3", "remainder 4"][symbols % blocks]);
         if symbols == blocks {

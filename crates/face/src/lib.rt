@@ -1,4 +1,6 @@
 // The face to C: what include/zemrukste.h declares, thin over the proved libraries.
+mod control;
+
 ghost use mathlib.Core.List.{_++_};
 ghost use mathlib.Core.Path.{_≡_};
 ghost use Prim.Native.Nat.{_*_};

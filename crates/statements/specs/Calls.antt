@@ -8,6 +8,8 @@ use Rattle.segmentation.specs.Sizes.{sizesAnswer}
 use Rattle.codeword.specs.Build.{buildNumber, buildOutput}
 use Rattle.reports.specs.Calls.{reportBuildNumber, reportBuildOutput, partNumber, partOutput, dataPart}
 use Rattle.face.specs.Face.{sizesNumber, sizesBytes}
+use Rattle.control_messages.specs.declared.Owner.{Owner}
+use Rattle.control_messages.specs.Calls.{controlNumber, controlOutput, whoseAnswer, numberOf, terminalOf}
 use Rattle.slots.specs.declared.State.{State}
 use Rattle.slots.specs.declared.Outcome.{Outcome}
 use Rattle.slots.specs.Calls.{newOutcome, openOutcome, openStore, receiveOutcome, receiveStore, readOutcome, readOutput, streamsOutcome, streamsOutput, closeOutcome}
@@ -39,6 +41,17 @@ ReportPartStatement A Q N O control received out =
 
 abbrev pub DataPartStatement : ℕ → ℕ → ℕ → ℕ → ℕ → List ℕ → Given (List ℕ) (Unit {0}) → Type 0
 DataPartStatement A Q N O control received = Gives (dataPart A Q N O control received) tt
+
+-- a control message, also zemrukste_control_build
+abbrev pub ControlStatement : List ℕ → ℕ → ℕ → List ℕ → Given ℕ (List ℕ) → Type 0
+ControlStatement a t E out = Gives (controlNumber a E (length out)) (controlOutput a t E out)
+
+-- whose a run is, and the same with the terminal number in a lent place
+abbrev pub WhoseStatement : List ℕ → Given Owner (Unit {0}) → Type 0
+WhoseStatement run = Gives (whoseAnswer run) tt
+
+abbrev pub WhoseToCStatement : List ℕ → ℕ → Given ℕ ℕ → Type 0
+WhoseToCStatement run before = Gives (numberOf (whoseAnswer run)) (terminalOf (whoseAnswer run) before)
 
 abbrev pub NewStatement : ℕ → ℕ → Given Outcome (Unit {0}) → Type 0
 NewStatement S M = Gives (newOutcome S M) tt

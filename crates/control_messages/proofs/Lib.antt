@@ -1,0 +1,14 @@
+pub mod Tabbing
+pub mod Maps
+pub mod Columns
+pub mod Interleaving
+pub mod Turn
+pub mod Encoding
+pub mod Matched
+pub mod Attached
+pub mod Attaching
+pub mod Whole
+pub mod Owners
+pub mod Numbers
+pub mod Sent
+pub mod Promises

@@ -1,0 +1,26 @@
+-- `calls::whose_number` meets its contract: each return by the tests on the way.
+-- Assumes nothing.
+use mathlib.Core.Path.{sym, _∙_}
+use borrow.Author.Needs.{needs}
+use Rattle.control_messages.specs.Calls.{badPayload, badLength, badRun}
+use Rattle.control_messages.proofs.Numbers.{bad-payload-is, bad-length-is, short-output-is, bad-bits-is, accepted-is, bad-run-is, bad-run-bits-is, whose-is}
+use Rattle.control_messages.proofs.calls.whose_number.Statement.{statement}
+use Rattle.control_messages.proofs.calls.whose_number.Tie as tie
+
+returns : tie.Need-returns
+unfolding badRun
+returns c = bad-run-is _ (c .if1 .taken)
+
+bad-bits-requires : tie.Need-bad-bits-requires
+bad-bits-requires c κs = search needs
+
+returns-2 : tie.Need-returns-2
+unfolding badRun
+returns-2 c = let seen = c .before in bad-run-bits-is _ (seen .before .if1 .left) (sym (seen .bad-bits .ensures) ∙ c .if2 .taken)
+
+returns-3 : tie.Need-returns-3
+unfolding badRun
+returns-3 c = let seen = c .before in whose-is _ (seen .before .if1 .left) (sym (seen .bad-bits .ensures) ∙ c .if2 .left)
+
+pub whose-number-spec : {M : Type 1} → statement M
+whose-number-spec = tie.close (tie.spec returns bad-bits-requires returns-2 returns-3)
