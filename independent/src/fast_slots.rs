@@ -1,9 +1,9 @@
 //! Receive and Read once more, written for speed. `slots` says what is right; the tests
 //! hold this one to it.
 //!
-//! - A column of the circle is one run of kept places, or a few single ones and a run: a
-//!   reception is copies, and no place is looked at.
-//! - A later bit replaces an earlier one, so of many turns only the last one or two are put.
+//! - A column of the circle is one run of kept places, or a few single ones and a run: a run
+//!   meets its bits without a branch, many at a time.
+//! - Of many turns the bits of one place meet each other first, and one turn is put.
 //! - Lacking places are counted run by run, in bytes.
 //! - The block is put together column by column, its checks taken 64 bits a step; the check
 //!   bits of a code block are overwritten by the next.
@@ -12,7 +12,7 @@ use crate::codeword::{allocation_fits, A_MAX};
 use crate::codeword::{BAD_ALLOCATION, BAD_BIT, BAD_VERSION, SHORT_OUTPUT};
 use crate::fast::{crc, first_row, Layout, Plan, CRC24A, CRC24B, PARITY, START};
 use crate::rate::{COLUMNS, P};
-use crate::slots::{Answer, Refusal, State, BLOCKS_MAX, ROOM_OF_BLOCK, SLOTS_MAX};
+use crate::slots::{Answer, Refusal, State, BLOCKS_MAX, DISPUTED, ROOM_OF_BLOCK, SLOTS_MAX, UNHEARD};
 use crate::slots::{BAD_SLOT, BAD_STATE, CHECK_WRONG, CLOSED, OTHER_TERMINAL, SHORT_STORE};
 
 /// The columns of the last row where the four tails of stream 0 stand: no data places.
@@ -139,8 +139,22 @@ fn fits(a: usize, m: usize) -> bool {
 /// Puts the bits of one code block in its part of the room.
 fn put(layout: &Layout, version: usize, bits: &[u8], part: &mut [u8]) {
     let turn = 3 * (layout.k + 4) - 2 * layout.filler;
-    let replaced = (bits.len() / turn).saturating_sub(1) * turn;
-    let mut rest = &bits[replaced..];
+    if bits.len() <= 2 * turn {
+        return put_turns(layout, version, bits, part);
+    }
+    let (first, later) = bits.split_at(turn);
+    let mut ring = first.to_vec();
+    for bits in later.chunks(turn) {
+        for (kept, &bit) in ring.iter_mut().zip(bits) {
+            *kept = if *kept == bit { bit } else { DISPUTED };
+        }
+    }
+    put_turns(layout, version, &ring, part);
+}
+
+/// Puts them turn after turn.
+fn put_turns(layout: &Layout, version: usize, bits: &[u8], part: &mut [u8]) {
+    let mut rest = bits;
     let mut unit = START[version];
     while !rest.is_empty() {
         rest = put_unit(layout, unit, rest, part);
@@ -170,7 +184,10 @@ fn put_unit<'a>(layout: &Layout, unit: usize, bits: &'a [u8], part: &mut [u8]) -
 
 fn put_run<'a>(bits: &'a [u8], run: &mut [u8]) -> &'a [u8] {
     let (mine, later) = bits.split_at(run.len().min(bits.len()));
-    run[..mine.len()].copy_from_slice(mine);
+    for (kept, &bit) in run.iter_mut().zip(mine) {
+        let bare = *kept == UNHEARD || *kept > DISPUTED;
+        *kept = if bare | (*kept == bit) { bit } else { DISPUTED };
+    }
     later
 }
 

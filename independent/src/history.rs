@@ -163,7 +163,16 @@ impl Maker {
         let codeword = codeword::build(&xorshift::block(16, 1), 2, 1, 0, 132).expect("a sum of 01");
         self.say(format!("build 2 1 0 132 {}", run(&xorshift::block(16, 1))));
         self.say(format!("receive 0 7 2 1 0 {}", run(&codeword)));
+        self.say("read 0 7"); // 11: disputed wherever the block has a 0
+        self.say("close 0 7");
+        self.say("open 0 7 16");
+        self.say(format!("receive 0 7 2 1 0 {}", run(&codeword)));
         self.say("read 0 7");
+        self.say(format!("receive 0 7 2 1 0 {}{}", 1 - codeword[0], run(&codeword[1..2])));
+        self.say("read 0 7"); // 11 with 1, however often the block comes
+        self.say(format!("receive 0 7 2 1 0 {}", run(&codeword)));
+        self.say("read 0 7");
+        self.say("streams 0 7 0");
         self.say("close 0 7");
         self.say("new 1 2");
         self.say("open 0 7 6121");
@@ -226,7 +235,7 @@ impl Maker {
 
     /// Blocks of so many code blocks, heard whole with the check of one of them wrong, of two,
     /// of all, or with the transport check wrong and no other; filler or none, sometimes zeros
-    /// alone; then heard rightly.
+    /// alone; then heard rightly, which disputes what was wrong.
     fn checks(&mut self, blocks: usize) {
         let (from, to) = [(6_121, 12_216), (12_217, 18_336)][blocks - 2];
         self.begin(1, blocks);
@@ -615,7 +624,8 @@ impl Maker {
         }
     }
 
-    /// The last reception again, as it was or contradicting itself.
+    /// The last reception again, as it was or contradicted, sometimes within one reception
+    /// that comes round to its own places.
     fn again(&mut self, slot: usize) {
         let Some((q, n, version, mut bits)) = self.car(slot).last.clone() else {
             return self.transmit(slot);
@@ -626,6 +636,13 @@ impl Maker {
             1 if self.random.below(4) == 0 => *bit ^= 1,
             _ => {}
         });
+        let turn = self.car(slot).turn();
+        if turn < 1_000 && self.random.below(2) == 0 {
+            let rounds = self.between(1, 4);
+            if let Ok(turns) = codeword::build(&self.car(slot).block, q, n, version, rounds * turn) {
+                bits = [turns, bits].concat();
+            }
+        }
         self.receive(slot, (q, n, version), bits);
     }
 

@@ -12,7 +12,10 @@ pub enum Fault {
     OpenKeeps,
     OpenClearsOneBlock,
     FirstBitStays,
-    FirstTurnStays,
+    LaterBitWins,
+    ThirdBitHeals,
+    DisputedHeard,
+    FirstTurnAlone,
     RepeatsCounted,
     TailsCounted,
     TerminalIgnored,
@@ -51,11 +54,14 @@ pub enum Fault {
 use Fault::*;
 
 /// The faults by their names.
-pub const FAULTS: [(&str, Fault); 37] = [
+pub const FAULTS: [(&str, Fault); 40] = [
     ("open_keeps", OpenKeeps),                     // open does not clear the room: June
     ("open_clears_one_block", OpenClearsOneBlock), // or its first code block alone
-    ("first_bit_stays", FirstBitStays),            // a later bit does not replace an earlier one
-    ("first_turn_stays", FirstTurnStays),          // nor does one of the same reception
+    ("first_bit_stays", FirstBitStays),            // of two different bits the earlier one is kept
+    ("later_bit_wins", LaterBitWins),              // or the later one, as before 02 E2
+    ("third_bit_heals", ThirdBitHeals),            // a disputed place takes the next bit
+    ("disputed_heard", DisputedHeard),             // a disputed place does not count as lacking
+    ("first_turn_alone", FirstTurnAlone),          // of a long reception the first turn is put
     ("repeats_counted", RepeatsCounted),           // a place heard in two receptions counts twice
     ("tails_counted", TailsCounted),               // tails of stream 0 count as lacking
     ("terminal_ignored", TerminalIgnored),         // every terminal is served
@@ -179,6 +185,9 @@ impl Spoiled {
         if let (NextRoom, Call::Read { slot, .. }) = (self.fault, &call) {
             self.lay_over(*slot);
         }
+        if let (ThirdBitHeals, Call::Receive { .. }) = (self.fault, &call) {
+            self.replace_disputed(slots::UNHEARD);
+        }
         let outcome = self.sound.call(&call);
         match call {
             Call::New { .. } => self.after_new(before, &outcome),
@@ -207,6 +216,7 @@ impl Spoiled {
     fn misheard(&self, mut call: Call) -> Call {
         match (&mut call, self.fault) {
             (Call::Receive { version, .. }, AlwaysVersion0) if *version < 4 => *version = 0,
+            (Call::Receive { slot, q, n, bits, .. }, FirstTurnAlone) => self.cut_to_a_turn(*slot, *q * *n, bits),
             (
                 Call::Receive { slot, terminal, .. }
                 | Call::Read { slot, terminal }
@@ -262,12 +272,29 @@ impl Spoiled {
                 let bytes = self.sound.store.iter_mut().zip(store);
                 bytes.filter(|(_, then)| **then < 2).for_each(|(now, then)| *now = *then);
             }
+            (LaterBitWins, Ok(_)) => {
+                let bytes = self.sound.store.iter_mut().zip(store);
+                let contradicted = bytes.filter(|(now, then)| **now == slots::DISPUTED && **then < 2);
+                contradicted.for_each(|(now, then)| *now = 1 - *then);
+            }
+            (ThirdBitHeals, _) => {
+                let bytes = self.sound.store.iter_mut().zip(store);
+                let untouched =
+                    bytes.filter(|(now, then)| **now == slots::UNHEARD && **then == slots::DISPUTED);
+                untouched.for_each(|(now, then)| *now = *then);
+            }
+            (DisputedHeard, Ok(_)) => {
+                let lacking = match self.undisputed(*slot, *terminal) {
+                    Err(Refusal::Lacking(lacking)) => lacking,
+                    _ => 0,
+                };
+                return Ok(vec![lacking.to_string()]);
+            }
             (RepeatsCounted, Ok(_)) => {
                 let alone = self.heard_alone(call, data_places(self.sound.state.heads[*slot].a));
                 self.lacking[*slot] = self.lacking[*slot].saturating_sub(alone);
                 return Ok(vec![self.lacking[*slot].to_string()]);
             }
-            (FirstTurnStays, Ok(_)) => self.first_turn_again(call)?,
             (TailsCounted, Ok(_)) => return Ok(vec![self.unheard(*slot, *terminal)?.to_string()]),
             (RefusedStores, Err(Refusal::Number(2))) => {
                 let mut stored = call.clone();
@@ -313,6 +340,7 @@ impl Spoiled {
                     false => Err(Refusal::CodeBlockWrong(0)),
                 }
             }
+            (DisputedHeard, Err(Refusal::Lacking(_))) => self.undisputed(slot, terminal),
             (TailsCounted, Err(Refusal::Lacking(_))) => Err(Refusal::Lacking(self.unheard(slot, terminal)?)),
             _ => self.ownership(terminal, outcome),
         }
@@ -334,18 +362,28 @@ impl Spoiled {
         Ok(runs)
     }
 
-    /// Puts the first turn of a longer reception once more, if there is one code block.
-    fn first_turn_again(&mut self, call: &Call) -> Result<(), Refusal> {
-        let mut first = call.clone();
-        if let Call::Receive { slot, q, n, bits, .. } = &mut first {
-            let s = sizes(self.sound.state.heads[*slot].a)?;
-            let turn = (3 * (s.long + 4) - 2 * s.filler) / (*q * *n) * (*q * *n);
-            if s.blocks == 1 && turn > 0 && bits.len() > turn {
-                bits.truncate(turn);
-                self.sound.call(&first)?;
-            }
+    /// Leaves the first turn of a longer reception for a slot of one code block.
+    fn cut_to_a_turn(&self, slot: usize, symbol: usize, bits: &mut Vec<u8>) {
+        let head = self.sound.state.heads.get(slot).filter(|head| head.open);
+        let Some(Ok(s)) = head.map(|head| sizes(head.a)) else { return };
+        let turn = (3 * (s.long + 4) - 2 * s.filler).next_multiple_of(symbol.max(1));
+        if s.blocks == 1 && bits.len() % symbol.max(1) == 0 && bits.iter().all(|bit| *bit < 2) {
+            bits.truncate(turn);
         }
-        Ok(())
+    }
+
+    fn replace_disputed(&mut self, by: u8) {
+        let disputed = self.sound.store.iter_mut().filter(|byte| **byte == slots::DISPUTED);
+        disputed.for_each(|byte| *byte = by);
+    }
+
+    /// What a read gives where every disputed place has heard a 0.
+    fn undisputed(&mut self, slot: usize, terminal: u16) -> Outcome {
+        let store = self.sound.store.clone();
+        self.replace_disputed(0);
+        let outcome = self.sound.call(&Call::Read { slot, terminal });
+        self.sound.store = store;
+        outcome
     }
 
     /// 9 before 8, a closed head's terminal being 0.

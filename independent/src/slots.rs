@@ -18,8 +18,11 @@ pub const BLOCKS_MAX: usize = 5;
 /// Bytes of a room for each code block: the circle of the largest K.
 pub const ROOM_OF_BLOCK: usize = 18_528;
 
-/// What Open writes; every value other than 0 and 1 means the same.
+/// What Open writes; every value above `DISPUTED` means the same.
 pub const UNHEARD: u8 = 2;
+
+/// A place that has heard both a 0 and a 1 since the slot was opened.
+pub const DISPUTED: u8 = 3;
 
 /// The refusal numbers of 01 beyond those of Build.
 pub const SHORT_STORE: u8 = 5;
@@ -118,8 +121,8 @@ fn may_open(state: &State, store: &[u8], slot: usize, a: usize) -> Answer {
     Ok(())
 }
 
-/// Receive: the bits go to the places Build would have taken them from. Gives how many
-/// data places lack a bit afterwards.
+/// Receive: the bits go one by one to the places Build would have taken them from. Gives how
+/// many data places lack a bit afterwards, disputed ones among them.
 #[allow(clippy::too_many_arguments)]
 pub fn receive(
     state: State,
@@ -140,13 +143,23 @@ pub fn receive(
             let (stretch, later) = rest.split_at(e_length);
             let part = &mut room[r * ROOM_OF_BLOCK..][..ROOM_OF_BLOCK];
             for (place, bit) in walked(&segmentation, r, version, e_length).into_iter().zip(stretch) {
-                part[place] = *bit;
+                part[place] = met(part[place], *bit);
             }
             rest = later;
         }
         lacking(&segmentation, room)
     });
     (state, answer)
+}
+
+/// What a place that kept `old` keeps after a bit, 02 E2.
+fn met(old: u8, bit: u8) -> u8 {
+    match old {
+        0 | 1 if old == bit => bit,
+        0 | 1 => DISPUTED,
+        DISPUTED => DISPUTED,
+        _ => bit,
+    }
 }
 
 fn may_receive(
@@ -215,7 +228,8 @@ fn released(
     Ok(b)
 }
 
-/// Streams: three runs of D bytes, 2 where nothing was heard, 0 for absent filler.
+/// Streams: three runs of D bytes, 2 where nothing was heard or the place is disputed, 0 for
+/// absent filler.
 pub fn streams(
     state: State,
     store: &[u8],

@@ -102,6 +102,21 @@ fn every_row_of_the_table_with_and_without_filler() {
 }
 
 #[test]
+fn rooms_of_any_bytes_and_contradictions_within_a_reception() {
+    let mut random = Generator::new(22);
+    for a in [1, 16, 40, 600, 6_120, 6_121] {
+        let turn = mother_code(a);
+        for g in [turn / 2, turn + 8, 2 * turn, 2 * turn + 2, 3 * turn + 24, 7 * turn] {
+            let mut both = Both::of(a);
+            both.literal.iter_mut().for_each(|byte| *byte = random.choose(&[0, 1, 2, 3, 4, 255]));
+            both.quick = both.literal.clone();
+            let bits = xorshift::block(allowed(g, 2, 1, a), random.number());
+            let _ = both.receive([2, 1, random.below(4)], &bits);
+        }
+    }
+}
+
+#[test]
 fn every_number_of_code_blocks_allocation_and_version() {
     for (from, to) in [(1, 6_120), (6_121, 12_216), (12_217, 18_336), (18_337, 24_456), (24_457, 30_576)] {
         let mut random = Generator::new(from as u64);

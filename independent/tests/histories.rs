@@ -136,9 +136,9 @@ fn the_first_history_meets_every_refusal() {
     let answers = all(1, 1)[0].iter().filter_map(|line| replay.answer(line)).collect::<Vec<String>>();
     let numbers = answers.iter().filter_map(|answer| answer.strip_prefix("refused\t"));
     let expected =
-        ["13", "13", "5", "6", "8", "1", "10", "7", "9", "11\t40", "3", "4", "2", "14", "12", "15", "16\t0"];
+        ["13", "13", "5", "6", "8", "1", "10", "7", "9", "11\t40", "3", "4", "2", "14", "12", "15", "11\t18", "11\t1", "11\t1", "16\t0"];
     assert_eq!(numbers.collect::<Vec<&str>>(), expected);
-    assert_eq!(answers.iter().filter(|answer| answer.starts_with("ok")).count(), answers.len() - 17);
+    assert_eq!(answers.iter().filter(|answer| answer.starts_with("ok")).count(), answers.len() - 20);
 }
 
 /// What a comparison meets, by the answers of this program: a kind and C, counted.

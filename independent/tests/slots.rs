@@ -4,7 +4,7 @@
 use independent::codeword::{build, streams as built_streams, G_MAX};
 use independent::sizes::sizes;
 use independent::slots::{close, new, open, read, receive, streams};
-use independent::slots::{Answer, Head, Refusal, State, ROOM_OF_BLOCK};
+use independent::slots::{Answer, Head, Refusal, State, DISPUTED, ROOM_OF_BLOCK};
 use independent::xorshift::{self, Generator};
 use std::collections::HashMap;
 
@@ -99,7 +99,7 @@ fn a_bit_that_came_twice_is_one_place_heard() {
 }
 
 #[test]
-fn a_later_bit_replaces_an_earlier_one() {
+fn two_different_bits_dispute_a_place_until_the_close() {
     let block = xorshift::block(16, 5);
     let (state, mut store) = opened(16);
     let truth = build(&block, 2, 1, 0, 132).unwrap();
@@ -107,10 +107,41 @@ fn a_later_bit_replaces_an_earlier_one() {
     wrong[0] ^= 1;
     assert_eq!(receive(state, &mut store, 0, CAR, 2, 1, 0, &wrong), (state, Ok(0)));
     assert_eq!(block_read(state, &store, 16), refused(12));
-    // Two turns in one reception: the second turn's bits count.
-    let two_turns = [wrong, truth].concat();
-    assert_eq!(receive(state, &mut store, 0, CAR, 2, 1, 0, &two_turns), (state, Ok(0)));
+    // The place that version 0 sends first is disputed, however often the block comes.
+    for _ in 0..3 {
+        assert_eq!(receive(state, &mut store, 0, CAR, 2, 1, 0, &truth), (state, Ok(1)));
+        assert_eq!(block_read(state, &store, 16), Err(Refusal::Lacking(1)));
+    }
+    assert_eq!(store.iter().filter(|byte| **byte == DISPUTED).count(), 1);
+    let mut output = [FILL; 132];
+    assert_eq!(streams(state, &store, 0, CAR, 0, &mut output), (state, Ok(())));
+    assert_eq!(output[20], 2);
+    // The next opening clears it.
+    let (state, _) = close(state, 0, CAR);
+    let (state, _) = open(state, &mut store, 0, CAR, 16);
+    assert_eq!(hear(state, &mut store, &block, 0, 132), Ok(0));
     assert_eq!(block_read(state, &store, 16), Ok(block));
+    // Two turns of one reception contradict each other as well.
+    let (state, mut store) = opened(16);
+    let two_turns = [wrong, truth].concat();
+    assert_eq!(receive(state, &mut store, 0, CAR, 2, 1, 0, &two_turns), (state, Ok(1)));
+}
+
+#[test]
+fn a_bit_meets_whatever_a_room_holds() {
+    let bits = [0, 1].repeat(66);
+    for old in [0, 1, 2, 3, 4, 7, 255] {
+        let (state, mut store) = opened(16);
+        store.fill(old);
+        let _ = receive(state, &mut store, 0, CAR, 2, 1, 0, &bits);
+        let unheard = old == 2 || old > 3;
+        let kept: Vec<u8> = store.iter().copied().filter(|byte| unheard == (*byte != old)).collect();
+        match old {
+            3 => assert!(store.iter().all(|byte| *byte == 3)),
+            0 | 1 => assert_eq!(store.iter().filter(|byte| **byte == 3).count(), 66),
+            _ => assert_eq!((kept.len(), kept.iter().sum::<u8>()), (132, 66)),
+        }
+    }
 }
 
 #[test]

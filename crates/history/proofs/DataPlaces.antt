@@ -1,7 +1,7 @@
--- How many data places are unsent, demand 3: all of them where none was sent, none exactly where all were; and how many a block has.
+-- How many data places are unsent or undecided, demand 3 and 02 E2: all of them where none has it, none exactly where all have; and how many a block has.
 -- Assumes nothing.
 use mathlib.Core.Path.{_≡_, refl, sym, _∙_, ap}
-use mathlib.Core.Bool.{Bool, true, false, cond}
+use mathlib.Core.Bool.{Bool, true, false}
 use mathlib.Core.List.{List}
 use Prim.Native.Nat.{ℕ, zero, suc, _+_, _-_, _*_, _≤_, _<_}
 use native.Mathlib.Nat.{add-zero}
@@ -15,41 +15,37 @@ use Rattle.segmentation.proofs.CodeBlocks.{taken-all, filler-first}
 use Rattle.slots.specs.Reading.{sumFrom}
 use Rattle.slots.proofs.Sums.{sumFrom-done, sumFrom-more, sumFrom-ext, sumFrom-same, sumFrom-none}
 use Rattle.history.specs.Calls.{Reception}
-use Rattle.history.specs.Sent.{notSent, unsentIn, unsent, DataPlace, sentData, AllSent, NoneSent, dataPlacesIn, dataPlaces}
+use Rattle.history.specs.Sent.{DataPlace, sentData, decidedData, missing, dataWithoutIn, dataWithout, unsent, undecided, AllSent, NoneSent, AllDecided, dataPlacesIn, dataPlaces}
 
--- 1 where a place is not heard, or not sent
-abbrev pub missing : Bool → ℕ
-missing t = cond t 0 1
+-- ---- the count of data places that have not what is asked
 
--- ---- the count of data places unsent
-
-module _ (A : ℕ) (xs : List Reception) where
+module _ (A : ℕ) (has : ℕ → ℕ → Bool) where
   -- the same of every data place
-  unsent-same : (t : Bool) → ((r i : ℕ) → DataPlace A r i → sentData A xs r i ≡ t) → (r : ℕ) → r < blocks (A + 24)
-      → unsentIn A xs r ≡ dataPlacesIn A r * missing t
-  unfolding unsentIn notSent dataPlacesIn
-  unsent-same t all r l =
+  without-same : (t : Bool) → ((r i : ℕ) → DataPlace A r i → has r i ≡ t) → (r : ℕ) → r < blocks (A + 24)
+      → dataWithoutIn A has r ≡ dataPlacesIn A r * missing t
+  unfolding dataWithoutIn dataPlacesIn
+  without-same t all r l =
       sumFrom-ext _ (λ (k : ℕ). missing t) (fillerOf (A + 24) r) (sizeOf (A + 24) r - fillerOf (A + 24) r)
       (λ i g h. ap missing (all r i (record { block = l; past-filler = g; below-size = omega arith })))
       ∙ sumFrom-same (missing t) (fillerOf (A + 24) r) (sizeOf (A + 24) r - fillerOf (A + 24) r)
 
-  -- none was sent
-  pub unsent-all : NoneSent A xs → unsent A xs ≡ dataPlaces A
-  unfolding unsent dataPlaces
-  unsent-all none = sumFrom-ext _ _ 0 (blocks (A + 24)) (λ r g l. unsent-same false none r (omega arith) ∙ omega arith)
+  -- none has it
+  without-all : ((r i : ℕ) → DataPlace A r i → has r i ≡ false) → dataWithout A has ≡ dataPlaces A
+  unfolding dataWithout dataPlaces
+  without-all none = sumFrom-ext _ _ 0 (blocks (A + 24)) (λ r g l. without-same false none r (omega arith) ∙ omega arith)
 
-  -- all were
-  pub unsent-none : AllSent A xs → unsent A xs ≡ 0
-  unfolding unsent
-  unsent-none all =
-      sumFrom-ext _ (λ (k : ℕ). 0) 0 (blocks (A + 24)) (λ r g l. unsent-same true all r (omega arith) ∙ omega arith)
+  -- all have
+  without-none : ((r i : ℕ) → DataPlace A r i → has r i ≡ true) → dataWithout A has ≡ 0
+  unfolding dataWithout
+  without-none all =
+      sumFrom-ext _ (λ (k : ℕ). 0) 0 (blocks (A + 24)) (λ r g l. without-same true all r (omega arith) ∙ omega arith)
       ∙ sumFrom-same 0 0 (blocks (A + 24))
       ∙ omega arith
 
-  -- and only where all were
-  pub none-unsent : unsent A xs ≡ 0 → AllSent A xs
-  unfolding unsent unsentIn notSent
-  none-unsent z r i d =
+  -- and only where all have
+  none-without : dataWithout A has ≡ 0 → (r i : ℕ) → DataPlace A r i → has r i ≡ true
+  unfolding dataWithout dataWithoutIn
+  none-without z r i d =
       let block = sumFrom-none _ 0 (blocks (A + 24)) z r (omega arith) (omega arith) in
       none-missing _ (sumFrom-none _ (fillerOf (A + 24) r) (sizeOf (A + 24) r - fillerOf (A + 24) r) block i (d .past-filler) (omega arith))
     where
@@ -57,9 +53,36 @@ module _ (A : ℕ) (xs : List Reception) where
       none-missing true e = refl
       none-missing false e = absurd (omega arith)
 
-  -- one was not
+  -- one has it not
+  without-some : (r i : ℕ) → DataPlace A r i → has r i ≡ false → dataWithout A has ≡ 0 → ⊥
+  without-some r i d f z = let one : _≡_ {A = ℕ} 1 0 = ap missing (sym f ∙ none-without z r i d) in omega arith
+
+-- ---- data places unsent, and undecided
+
+module _ (A : ℕ) (xs : List Reception) where
+  pub unsent-all : NoneSent A xs → unsent A xs ≡ dataPlaces A
+  unfolding unsent
+  unsent-all = without-all A (sentData A xs)
+
+  pub unsent-none : AllSent A xs → unsent A xs ≡ 0
+  unfolding unsent
+  unsent-none = without-none A (sentData A xs)
+
+  pub none-unsent : unsent A xs ≡ 0 → AllSent A xs
+  unfolding unsent
+  none-unsent = none-without A (sentData A xs)
+
   pub unsent-some : (r i : ℕ) → DataPlace A r i → sentData A xs r i ≡ false → unsent A xs ≡ 0 → ⊥
-  unsent-some r i d f z = let one : _≡_ {A = ℕ} 1 0 = ap missing (sym f ∙ none-unsent z r i d) in omega arith
+  unfolding unsent
+  unsent-some = without-some A (sentData A xs)
+
+  pub undecided-none : AllDecided A xs → undecided A xs ≡ 0
+  unfolding undecided
+  undecided-none = without-none A (decidedData A xs)
+
+  pub undecided-some : (r i : ℕ) → DataPlace A r i → decidedData A xs r i ≡ false → undecided A xs ≡ 0 → ⊥
+  unfolding undecided
+  undecided-some = without-some A (decidedData A xs)
 
 -- ---- how many data places there are
 

@@ -1,4 +1,5 @@
--- Demand 3: after any history a place of an open slot's room holds the last bit accepted for it since that opening, and unheard where there was none.
+-- Demand 3 in the words of 02 E2: after any history a place of an open slot's room holds the bit on which all bits accepted for it since that opening agree,
+-- is disputed if they differ, and unheard if there was none.
 -- Assumes nothing.
 use mathlib.Core.Path.{_≡_, refl, sym, _∙_, ap, ap₂, subst, subst₂, subst₃}
 use mathlib.Core.Bool.{Bool, true, false, cond, _&&_, false≢true}
@@ -22,20 +23,26 @@ use Rattle.slots.proofs.Accepted.{openable}
 use Rattle.slots.proofs.Acceptance.{receives}
 use Rattle.history.specs.Calls.{Reception, Call, opening, receiving, reading, streaming, closing, Made, History}
 use Rattle.history.specs.Run.{World, lent, storeAfterCall, step, begin, run}
-use Rattle.history.specs.Accepted.{lentLength, headsAfterCall, headsAfter, sinceCall, since, lastBit}
+use Rattle.history.specs.Accepted.{lentLength, headsAfterCall, headsAfter, sinceCall, since, arrivals}
 use Rattle.history.specs.Answered.{slotOf}
 use Rattle.history.specs.Holds.{Holds}
 use Rattle.history.proofs.State.{open-writes, receive-writes, room-lent, rooms-lent, length-lent, rooms-long, heads}
 use Rattle.history.proofs.Heads.{Good, good-call, new-is, run-good, refused-state}
+use Rattle.history.proofs.Arrived.{met, met-append, met-is, arrived-bits, since-bits}
 use Rattle.history.proofs.Received.{brought, received-here}
 use Rattle.history.proofs.Others.{head-stays, reception-fits, lent-at, rooms-whole, same-rooms, step-at, rooms-stay}
+
+-- the bits accepted for each place have met there, one after the other
+pub record Keeps (M slot A : ℕ) (xs : List Reception) (rooms : List ℕ) : Type 0 where
+  pub place : (r j : ℕ) → r < blocks (A + 24) → j < perBlock → getD rooms (byteOf M slot r j) 0 ≡ met unheard (arrivals A xs r j)
+  pub rest : (r j : ℕ) → blocks (A + 24) ≤ r → r < M → j < perBlock → getD rooms (byteOf M slot r j) 0 ≡ unheard
 
 -- the same bytes in the room
 holds-on : {M slot A : ℕ} {xs : List Reception} {rooms after : List ℕ} → blocks (A + 24) ≤ M
     → ((r j : ℕ) → r < M → j < perBlock → getD after (byteOf M slot r j) 0 ≡ getD rooms (byteOf M slot r j) 0)
-    → Holds M slot A xs rooms → Holds M slot A xs after
+    → Keeps M slot A xs rooms → Keeps M slot A xs after
 holds-on fits same h = record {
-  last = λ r j l k. same r j (omega arith) k ∙ h .last r j l k;
+  place = λ r j l k. same r j (omega arith) k ∙ h .place r j l k;
   rest = λ r j l g k. same r j g k ∙ h .rest r j l g k;
 }
 
@@ -51,7 +58,7 @@ since-other state room slot (closing s terminal) earlier n = rw (ne-eqb s slot (
 
 -- what is to be shown of a slot with a head, after receptions, of the rooms
 abbrev Kept : ℕ → ℕ → Head → List Reception → List ℕ → Type 0
-Kept M slot h xs rooms = h .opened ≡ true → Holds M slot (h .size) xs rooms
+Kept M slot h xs rooms = h .opened ≡ true → Keeps M slot (h .size) xs rooms
 
 -- ---- one call
 
@@ -110,7 +117,7 @@ module _ (w : World) (past : List ℕ) where
           subst (Kept M slot (headAt state slot) xs) (sym (same-rooms w (record { call = call; past = past }) e)) kept
 
       opening-here : (terminal A : ℕ) → KeptAfter slot xs (opening slot terminal A)
-      unfolding headsAfterCall sinceCall lastBit
+      unfolding headsAfterCall sinceCall arrivals met
       opening-here terminal A =
           rw (eq-eqb slot slot refl) (go (eqb number 0) refl (good-call g (length store) call))
         where
@@ -126,7 +133,7 @@ module _ (w : World) (past : List ℕ) where
           go : (b : Bool) → eqb number 0 ≡ b → Good (state .slots) M (after b)
               → Kept M slot (headAt (after b) slot) (cond (true && b) [] xs) (rooms call)
           go true e good = λ o. record {
-            last = λ r j l k. bytes r j (omega (arith, open-fits good o)) k;
+            place = λ r j l k. bytes r j (omega (arith, open-fits good o)) k;
             rest = λ r j l h k. bytes r j h k;
           }
             where
@@ -139,7 +146,7 @@ module _ (w : World) (past : List ℕ) where
           go false e good = same-store call (open-writes state store slot terminal A false e)
 
       receiving-here : (terminal : ℕ) (x : Reception) → KeptAfter slot xs (receiving slot terminal x)
-      unfolding headsAfterCall sinceCall lastBit sizeAtHead
+      unfolding headsAfterCall sinceCall arrivals sizeAtHead
       receiving-here terminal x = rw (eq-eqb slot slot refl) (go (eqb number 0) refl)
         where
           call : Call
@@ -150,11 +157,12 @@ module _ (w : World) (past : List ℕ) where
 
           go : (b : Bool) → eqb number 0 ≡ b → Kept M slot (headAt state slot) (cond (true && b) (x ∷ xs) xs) (rooms call)
           go true e = λ o. record {
-            last = λ r j l k.
+            place = λ r j l k.
                 let h : r < M = omega (arith, fits .0) in
                 bytes r j h k
                 ∙ received-here M slot A (x .Q) (x .N) (x .version) (x .bits) store (fits .1) r j l k (there r j h k)
-                ∙ ap (brought (A + 24) (x .Q) (x .N) (x .version) (x .bits) r j) (before r j h k ∙ kept o .last r j l k);
+                ∙ ap (brought (A + 24) (x .Q) (x .N) (x .version) (x .bits) r j) (before r j h k ∙ kept o .place r j l k)
+                ∙ sym (met-append unheard (arrivals A xs r j) _);
             rest = λ r j l h k.
                 bytes r j h k
                 ∙ received-past M slot A (x .Q) (x .N) (x .version) (x .bits) store (fits .0) (fits .1) r j l k
@@ -240,11 +248,22 @@ module _ (S M : ℕ) (store₀ : List ℕ) (slot : ℕ) where
   from-refused refused h o =
       absurd (false≢true (sym (ap (λ (t : State). headAt t slot .opened) (refused-state S M refused long h) ∙ ap (λ (k : Head). k .opened) (new-head 0 0 slot)) ∙ o))
 
-  -- THE promise on receptions: any S, M, store, history and slot
-  pub holds : slot < S → (h : History) → headAt (headsAfter S M long h) slot .opened ≡ true
-      → Holds M slot (headAt (headsAfter S M long h) slot .size) (since S M long slot h) (run S M store₀ h .rooms)
-  holds below h = go (badShape S M) refl
+  pub keeps : slot < S → (h : History) → headAt (headsAfter S M long h) slot .opened ≡ true
+      → Keeps M slot (headAt (headsAfter S M long h) slot .size) (since S M long slot h) (run S M store₀ h .rooms)
+  keeps below h = go (badShape S M) refl
     where
       go : (b : Bool) → badShape S M ≡ b → Kept M slot (headAt (headsAfter S M long h) slot) (since S M long slot h) (run S M store₀ h .rooms)
       go true e = from-refused e h
       go false e = from-accepted e below h
+
+  -- THE promise on receptions: any S, M, store, history and slot
+  pub holds : slot < S → (h : History) → headAt (headsAfter S M long h) slot .opened ≡ true
+      → Holds M slot (headAt (headsAfter S M long h) slot .size) (since S M long slot h) (run S M store₀ h .rooms)
+  holds below h is-open =
+      let kept = keeps below h is-open in
+      let size = headAt (headsAfter S M long h) slot .size in
+      let xs = since S M long slot h in
+      record {
+        place = λ r j l k. kept .place r j l k ∙ met-is (arrivals size xs r j) (arrived-bits size xs r j (since-bits S M long slot h));
+        rest = kept .rest;
+      }

@@ -37,18 +37,18 @@ refused-is number state o e d =
     let z : _≡_ {A = ℕ} 0 1 = cc in
     omega arith
 
-not-done : (n : ℕ) → Lacking n ≡ Done → ⊥
+pub not-done : (n : ℕ) → Lacking n ≡ Done → ⊥
 not-done n e = let z : _≡_ {A = ℕ} 0 1 = cc in omega arith
 
 module _ (state : State) (store : List ℕ) (slot terminal : ℕ) (out : List ℕ) where
   abbrev refusal : ℕ
   refusal = readNumber state (length store) slot terminal (length out)
 
-  refused-answer : eqb refusal 0 ≡ false → readOutcome state store slot terminal (length out) .answer ≡ Done → ⊥
+  pub refused-answer : eqb refusal 0 ≡ false → readOutcome state store slot terminal (length out) .answer ≡ Done → ⊥
   unfolding readOutcome
   refused-answer e d = refused-is refusal state _ e d
 
-  refused-output : eqb refusal 0 ≡ false → readOutput state store slot terminal out ≡ out
+  pub refused-output : eqb refusal 0 ≡ false → readOutput state store slot terminal out ≡ out
   unfolding readOutput released readOutcome unlessRefused isDone
   refused-output e =
       ap (λ (b : Bool). cond

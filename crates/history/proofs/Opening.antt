@@ -63,7 +63,7 @@ keeps-head state room slot call r =
     on-this (streaming s terminal block size) e r = refl
     on-this (closing s terminal) e r = either s closedHead (eqb (closeNumber state s terminal) 0) e r
 
-keeps-heads : (S M n slot : ℕ) (later h : History) → Undisturbed S M n slot later h
+pub keeps-heads : (S M n slot : ℕ) (later h : History) → Undisturbed S M n slot later h
     → headAt (headsAfter S M n (later ++ h)) slot ≡ headAt (headsAfter S M n h) slot
 unfolding headsAfter
 keeps-heads S M n slot [] h u = refl

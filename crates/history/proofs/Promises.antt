@@ -12,15 +12,16 @@ use Rattle.segmentation.specs.Segmentation.{blocks}
 use Rattle.slots.specs.declared.Answer.the-variants.{Done, Heard}
 use Rattle.slots.specs.declared.State.{State}
 use Rattle.slots.specs.State.{headAt, badShape}
-use Rattle.slots.specs.Answers.{numberOf, valuesOf, Lacking}
-use Rattle.slots.specs.Reading.{heardBlock}
+use Rattle.slots.specs.Answers.{numberOf, valuesOf, Lacking, isDone}
+use Rattle.slots.specs.Reading.{keptAt, checkedAnswer, heardBlock}
 use Rattle.slots.specs.Checks.{blocksAt, RightBlock, RightTransport}
 use Rattle.slots.proofs.Checks as checking
 use Rattle.slots.specs.Calls.{sizeAtHead, receiveNumber, receiveOutcome, readNumber, readOutcome, readOutput, streamsOutput}
 use Rattle.history.specs.Calls.{Reception, Call, opening, receiving, Made, History}
 use Rattle.history.specs.Run.{run}
 use Rattle.history.specs.Answered.{answerTo, slotOf, SameRoom, SameSlot, ownCalls}
-use Rattle.history.specs.Sent.{True, AllTrue, unsent, DataPlace, sentData, AllSent, NoneSent, dataPlaces}
+use Rattle.history.specs.Agreed.{holding}
+use Rattle.history.specs.Sent.{True, AllTrue, among, DataPlace, sentData, arrivalsAt, decidedData, unsent, undecided, AllSent, NoneSent, AllDecided, dataPlaces}
 use Rattle.history.specs.After.{made, stateAfter, roomsAfter, storeAfter, roomsLong, acceptedAfter}
 use Rattle.history.specs.Holds.{Holds}
 use Rattle.history.specs.Later.{Undisturbed, acceptedIn, Withheld}
@@ -34,19 +35,32 @@ use Rattle.history.proofs.Own as owning
 use Rattle.history.proofs.Release as releasing
 use Rattle.history.proofs.DataPlaces as counting
 use Rattle.history.proofs.June as incident
+use Rattle.history.proofs.ReleaseTrue as truth
+use Rattle.history.proofs.Disputes as disputing
 use Rattle.history.proofs.Parity as parity
 use Rattle.history.proofs.Repeats as repeating
 use Rattle.history.proofs.RepeatsCounted as counted
 
 -- ---- what a place holds
 
--- The room of an open slot has, for each circle place of each of its code blocks, the last bit accepted since that opening, and unheard
--- where there was none; the rest of the room is unheard. `Holds` has these two equations.
+-- The room of an open slot has, for each circle place of each of its code blocks, what the bits accepted for it since that opening say
+-- together (`holding` of `arrivals`); the rest of the room is unheard. `Holds` has these two equations.
 pub place-holds : (S M : ℕ) (store₀ : List ℕ) (h : History) (slot : ℕ) → slot < S → headAt (stateAfter S M store₀ h) slot .opened ≡ true
     → Holds M slot (sizeAtHead (stateAfter S M store₀ h) slot) (acceptedAfter S M store₀ h slot) (roomsAfter S M store₀ h)
 unfolding sizeAtHead
 place-holds S M store₀ h slot below is-open =
     rw (heads S M store₀ h) (holding.holds S M store₀ slot below h (rw (heads S M store₀ h) at is-open))
+
+-- `holding`, 02 E2: the bit on which all bits accepted for a place agree, disputed (3) if they differ, unheard (2) if none was accepted.
+-- `among c bits` says that c is one of the bits.
+pub place-agreed : (bits : List ℕ) (b : ℕ) → among b bits ≡ true → ((c : ℕ) → among c bits ≡ true → c ≡ b) → holding bits ≡ b
+place-agreed = disputing.holds-agreed
+
+pub place-disputed : (bits : List ℕ) (b c : ℕ) → among b bits ≡ true → among c bits ≡ true → (b ≡ c → ⊥) → holding bits ≡ 3
+place-disputed = disputing.holds-disputed
+
+pub place-unheard : holding [] ≡ 2
+place-unheard = disputing.holds-none
 
 -- ---- when a block is released
 
@@ -129,9 +143,79 @@ pub wrong-transport-last : (state : State) (store : List ℕ) (slot terminal siz
     × (RightTransport state store slot → ⊥)
 wrong-transport-last = checking.transport-wrong
 
+-- ---- two different bits for one place
+
+-- Whatever was accepted, 02 E2: where a read gives a block, at every data place the room has a bit that was accepted since the opening, and no
+-- accepted bit contradicts it.
+pub released-uncontradicted : (S M : ℕ) (store₀ : List ℕ) (h : History) (past : List ℕ) (slot terminal : ℕ) (out : List ℕ)
+    → let state : State = stateAfter S M store₀ h in
+    let store : List ℕ = storeAfter S M store₀ h past in
+    let A : ℕ = sizeAtHead state slot in
+    readOutcome state store slot terminal (length out) .answer ≡ Done
+    → (r i : ℕ)
+    → DataPlace A r i
+    → let bits : List ℕ = arrivalsAt A (acceptedAfter S M store₀ h slot) r i in
+    let bit : ℕ = keptAt (state .blocks) slot (A + 24) store r 0 i in
+    (among bit bits ≡ true) × ((c : ℕ) → among c bits ≡ true → c ≡ bit)
+released-uncontradicted = disputing.given-agreed
+
+-- Two different bits accepted for one data place withhold the block until the slot is closed: whatever calls come later, as long as none of them
+-- closes the slot (an open one cannot be opened), no read answers Done or writes a byte.
+pub contradiction-withholds : (S M : ℕ) (store₀ : List ℕ) (h : History) (slot r i b c : ℕ)
+    → (let A : ℕ = sizeAtHead (stateAfter S M store₀ h) slot in
+    let bits : List ℕ = arrivalsAt A (acceptedAfter S M store₀ h slot) r i in
+    DataPlace A r i × (among b bits ≡ true) × (among c bits ≡ true) × (b ≡ c → ⊥))
+    → (later : History)
+    → Undisturbed S M (roomsLong S M store₀) slot later h
+    → (past : List ℕ) (terminal : ℕ) (out : List ℕ)
+    → let state : State = stateAfter S M store₀ (later ++ h) in
+    let store : List ℕ = storeAfter S M store₀ (later ++ h) past in
+    (readOutcome state store slot terminal (length out) .answer ≡ Done → ⊥) × (readOutput state store slot terminal out ≡ out)
+contradiction-withholds = disputing.disputed-stays
+
+-- And nothing else withholds it but a place unheard or a wrong check: once the bits accepted for each data place agree, a read that is not
+-- refused for its arguments answers what the checks say (`checkedAnswer`: 16, then 12, then Done), and where they are right it gives the bits.
+pub nothing-else-withholds : (S M : ℕ) (store₀ : List ℕ) (h : History) (past : List ℕ) (slot terminal : ℕ) (out : List ℕ)
+    → let state : State = stateAfter S M store₀ h in
+    let store : List ℕ = storeAfter S M store₀ h past in
+    let A : ℕ = sizeAtHead state slot in
+    readNumber state (length store) slot terminal (length out) ≡ 0
+    → AllDecided A (acceptedAfter S M store₀ h slot)
+    → (readOutcome state store slot terminal (length out) ≡ record { answer = checkedAnswer (state .blocks) slot A store; state = state })
+    × (readOutput state store slot terminal out
+    ≡ cond (isDone (checkedAnswer (state .blocks) slot A store)) (heardBlock (state .blocks) slot A store ++ drop A out) out)
+nothing-else-withholds = disputing.decided-checked
+
+-- True transmissions of one block never contradict each other: a data place is decided exactly when it was sent.
+-- So demand 3 for them reads as before.
+pub true-agree : (a : List ℕ) → length a ≤ 30576 → AreBits a → (xs : List Reception) → AllTrue a xs
+    → (r i : ℕ) → r < blocks (length a + 24) → decidedData (length a) xs r i ≡ sentData (length a) xs r i
+true-agree a small bits xs true-all r i h = truth.true-decided a small bits xs true-all r _ h
+
 -- ---- the count
 
--- Receive answers how many data places the history has not sent, this reception among it.
+-- Whatever was accepted, 02 E2: Receive answers for how many data places no bit was accepted or the accepted ones differ, this reception
+-- among them.
+pub reception-undecided : (S M : ℕ) (store₀ : List ℕ) (h : History) (past : List ℕ) (slot terminal : ℕ) (x : Reception)
+    → let state : State = stateAfter S M store₀ h in
+    let store : List ℕ = storeAfter S M store₀ h past in
+    receiveNumber state (length store) slot terminal (x .Q) (x .N) (x .version) (x .bits) ≡ 0
+    → receiveOutcome state slot terminal (x .Q) (x .N) (x .version) (x .bits) store
+    ≡ record { answer = Heard (undecided (sizeAtHead state slot) (x ∷ acceptedAfter S M store₀ h slot)); state = state }
+reception-undecided = disputing.reception-any
+
+-- Read, not refused for its arguments, answers 11 with that number where there is such a place, and writes nothing.
+-- The count is over the calls, never over a room.
+pub reading-undecided : (S M : ℕ) (store₀ : List ℕ) (h : History) (past : List ℕ) (slot terminal : ℕ) (out : List ℕ)
+    → let state : State = stateAfter S M store₀ h in
+    let store : List ℕ = storeAfter S M store₀ h past in
+    let n : ℕ = undecided (sizeAtHead state slot) (acceptedAfter S M store₀ h slot) in
+    readNumber state (length store) slot terminal (length out) ≡ 0
+    → (n ≡ 0 → ⊥)
+    → Withheld state store slot terminal out n
+reading-undecided = disputing.undecided-withheld
+
+-- If all are true transmissions of one block, that is how many data places the history has not sent.
 -- The count is over the calls, never over a room.
 pub reception-counted : (S M : ℕ) (store₀ : List ℕ) (h : History) (past : List ℕ) (slot terminal : ℕ) (a : List ℕ)
     → let state : State = stateAfter S M store₀ h in

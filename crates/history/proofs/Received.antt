@@ -1,4 +1,4 @@
--- What a reception leaves at one place: the last of its bits for that place, and what was there before if it brought none.
+-- What a reception leaves at one place: its bits for that place meet, in arrival order, what was there.
 -- Assumes nothing.
 use mathlib.Core.Path.{_≡_, refl, sym, _∙_, ap, subst}
 use mathlib.Core.Bool.{Bool, true, false, cond}
@@ -16,7 +16,8 @@ use Rattle.slots.specs.State.{perBlock}
 use Rattle.slots.specs.Room.{meet, byteOf, putBit}
 use Rattle.slots.specs.Reception.{blockPlaces, putBits, putBlocks, received}
 use Rattle.slots.proofs.RoomLaws.{AllPlaces, byte-block, byte-place, length-putBits, putBits-out, putBlocks-out}
-use Rattle.history.specs.Accepted.{lastAmong}
+use Rattle.history.specs.Accepted.{arriving}
+use Rattle.history.proofs.Arrived.{met, met-next}
 
 module _ (M slot : ℕ) where
   -- one bit
@@ -36,18 +37,19 @@ module _ (M slot : ℕ) where
 
   -- the bits of a code block
   putBits-here : (r : ℕ) (js bits store : List ℕ) (j : ℕ) → byteOf M slot r j < length store
-      → getD (putBits M slot r js bits store) (byteOf M slot r j) 0 ≡ lastAmong js bits j (getD store (byteOf M slot r j) 0)
-  unfolding putBits putBit lastAmong
+      → getD (putBits M slot r js bits store) (byteOf M slot r j) 0 ≡ met (getD store (byteOf M slot r j) 0) (arriving js bits j)
+  unfolding putBits putBit arriving met
   putBits-here r [] bits store j l = refl
   putBits-here r (p ∷ js) bits store j l =
       let long = length-set store (byteOf M slot r p) (meet (getD store (byteOf M slot r p) 0) (getD bits 0 0)) in
       putBits-here r js (drop 1 bits) (putBit store (byteOf M slot r p) (getD bits 0 0)) j (rw long l)
-      ∙ ap (lastAmong js (drop 1 bits) j) (one-bit r p j (getD bits 0 0) store l)
+      ∙ ap (λ (v : ℕ). met v (arriving js (drop 1 bits) j)) (one-bit r p j (getD bits 0 0) store l)
+      ∙ met-next (eqb p j) (getD store (byteOf M slot r j) 0) (getD bits 0 0) (arriving js (drop 1 bits) j)
 
 -- what a reception's bits leave at place j of code block q, where `before` was kept
 abbrev pub brought : ℕ → ℕ → ℕ → ℕ → List ℕ → ℕ → ℕ → ℕ → ℕ
 brought B Q N v bits q j before =
-    lastAmong (blockPlaces B Q N v (length bits) q) (drop (sharesBefore (blocks B) Q N (length bits) q) bits) j before
+    met before (arriving (blockPlaces B Q N v (length bits) q) (drop (sharesBefore (blocks B) Q N (length bits) q) bits) j)
 
 module _ (M slot B Q N v : ℕ) (bits : List ℕ) where
   -- the store after the bits of code block r

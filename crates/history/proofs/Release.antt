@@ -10,6 +10,7 @@ use lib.Dec.{eqb}
 use lib.ListN.{length, drop}
 use Rattle.laws.specs.Bits.{AreBits}
 use Rattle.segmentation.specs.Segmentation.{blocks}
+use Rattle.segmentation.proofs.Segmentation.{in-range}
 use Rattle.slots.specs.declared.Answer.the-variants.{Done, Heard}
 use Rattle.slots.specs.declared.State.{State}
 use Rattle.slots.specs.Answers.{Lacking}
@@ -22,14 +23,15 @@ use Rattle.slots.proofs.Acceptance.{receives, reads}
 use Rattle.history.specs.Calls.{Reception, reading, Made, History}
 use Rattle.history.specs.Run.{World, lent, begin, run}
 use Rattle.history.specs.Accepted.{since}
-use Rattle.history.specs.Holds.{Holds}
-use Rattle.history.specs.Sent.{True, AllTrue, unsent}
+use Rattle.history.specs.Sent.{True, AllTrue, unsent, undecided}
 use Rattle.history.proofs.State.{heads}
 use Rattle.history.proofs.Heads.{run-good, refused-state}
 use Rattle.history.proofs.Others.{lent-at, rooms-whole}
-use Rattle.history.proofs.Holds.{holds}
-use Rattle.history.proofs.ReleaseCount.{HoldsLast}
-use Rattle.history.proofs.ReleaseAnswers.{read-answer, read-output, receive-answer}
+use Rattle.history.proofs.Arrived.{AllBits, since-bits}
+use Rattle.history.proofs.Holds.{Keeps, keeps}
+use Rattle.history.proofs.ReleaseCount.{HoldsMet, true-undecided}
+use Rattle.history.proofs.AnyAnswers.{receive-any}
+use Rattle.history.proofs.ReleaseAnswers.{read-answer, read-output}
 
 module _ (S M : ℕ) (store₀ : List ℕ) (h : History) (past : List ℕ) (slot terminal : ℕ) where
   -- the state after the history, the store that the next call is lent, and what was accepted for the slot since its opening
@@ -42,29 +44,33 @@ module _ (S M : ℕ) (store₀ : List ℕ) (h : History) (past : List ℕ) (slot
   abbrev pub accepted : List Reception
   accepted = since S M (length (begin S M store₀ .rooms)) slot h
 
-  -- the slot's room in the lent store holds the last accepted bits
-  kept : badState state ≡ false → storeLength state ≤ length store → slot < state .slots → headAt state slot .opened ≡ true
-      → HoldsLast (state .blocks) slot (sizeAtHead state slot) accepted store
+  -- they brought bits
+  pub given : AllBits accepted
+  given = since-bits S M (length (begin S M store₀ .rooms)) slot h
+
+  -- in the slot's room in the lent store they have met
+  pub kept : badState state ≡ false → storeLength state ≤ length store → slot < state .slots → headAt state slot .opened ≡ true
+      → HoldsMet (state .blocks) slot (sizeAtHead state slot) accepted store
   unfolding newState storeLength sizeAtHead
   kept sound long below opened = go (badShape S M) refl
     where
       w : World
       w = run S M store₀ h
 
-      go : (b : Bool) → badShape S M ≡ b → HoldsLast (state .blocks) slot (sizeAtHead state slot) accepted store
+      go : (b : Bool) → badShape S M ≡ b → HoldsMet (state .blocks) slot (sizeAtHead state slot) accepted store
       go true e =
           let none : state .slots ≡ 0 = ap (λ (t : State). t .slots) (heads S M store₀ h ∙ refused-state S M e (length (begin S M store₀ .rooms)) h) in
           absurd (omega arith)
-      go false e = λ r j l k. lent-at w made (byteOf (state .blocks) slot r j) (there r j l k) ∙ room .last r j l k
+      go false e = λ r j l k. lent-at w made (byteOf (state .blocks) slot r j) (there r j l k) ∙ room .place r j l k
         where
           made : Made
           made = record { call = reading slot terminal 0; past = past }
 
-          room : Holds (state .blocks) slot (sizeAtHead state slot) accepted (w .rooms)
+          room : Keeps (state .blocks) slot (sizeAtHead state slot) accepted (w .rooms)
           room =
               let good = run-good S M e store₀ h in
-              subst₂ (λ (n : ℕ) (t : State). Holds n slot (headAt t slot .size) accepted (w .rooms)) (sym (good .blocks)) (sym (heads S M store₀ h))
-              (holds S M store₀ slot (omega (arith, good .slots)) h (rw (heads S M store₀ h) at opened))
+              subst₂ (λ (n : ℕ) (t : State). Keeps n slot (headAt t slot .size) accepted (w .rooms)) (sym (good .blocks)) (sym (heads S M store₀ h))
+              (keeps S M store₀ slot (omega (arith, good .slots)) h (rw (heads S M store₀ h) at opened))
 
           there : (r j : ℕ) → r < blocks (sizeAtHead state slot + 24) → j < perBlock → byteOf (state .blocks) slot r j < length (w .rooms)
           there r j l k =
@@ -81,8 +87,8 @@ module _ (S M : ℕ) (store₀ : List ℕ) (h : History) (past : List ℕ) (slot
     released-iff out came =
         let w = reads state (length store) slot terminal (length out) came in
         let held = rw size-is at (kept (w .sound) (w .long) (w .below) (w .opened)) in (
-          read-answer state store slot terminal a bits size-is accepted true-all held (length out) came,
-          read-output state store slot terminal a bits size-is accepted true-all held out came,
+          read-answer state store slot terminal a bits size-is accepted given true-all held (length out) came,
+          read-output state store slot terminal a bits size-is accepted given true-all held out came,
         )
 
     -- one more true transmission, accepted
@@ -91,5 +97,7 @@ module _ (S M : ℕ) (store₀ : List ℕ) (h : History) (past : List ℕ) (slot
         ≡ record { answer = Heard (unsent (length a) (x ∷ accepted)); state = state }
     received-count x true-one came =
         let w = receives state (length store) slot terminal (x .Q) (x .N) (x .version) (x .bits) came in
-        let held = rw size-is at (kept (w .sound) (w .long) (w .below) (w .opened)) in
-        receive-answer state store slot terminal a bits size-is accepted true-all held x true-one came
+        let small = in-range (length a) (rw size-is at (open-size state (w .sound) slot (w .below) (w .opened) .0)) .1 in
+        receive-any state store slot terminal accepted given (kept (w .sound) (w .long) (w .below) (w .opened)) x came
+        ∙ ap (λ (n : ℕ). record { answer = Heard n; state = state })
+        (ap (λ (A : ℕ). undecided A (x ∷ accepted)) size-is ∙ true-undecided a small bits (x ∷ accepted) (true-one, true-all))

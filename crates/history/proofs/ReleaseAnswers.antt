@@ -1,44 +1,33 @@
--- What Read and Receive answer over a room that holds the last bits of true transmissions, demand 3: the block exactly when nothing is unsent, else how many data places are.
+-- What Read answers over a room in which true transmissions have met, demand 3: the block exactly when nothing is unsent, else how many data places are.
 -- Assumes nothing.
 use mathlib.Core.Path.{_≡_, refl, _∙_, ap, ap₂}
 use mathlib.Core.Bool.{Bool, true, false, cond}
-use mathlib.Core.List.{List, _∷_, _++_}
-use Prim.Native.Nat.{ℕ, _+_, _<_}
-use native.Mathlib.Omega.{arith}
+use mathlib.Core.List.{List, _++_}
+use Prim.Native.Nat.{ℕ, _+_}
 use lib.Dec.{eqb}
-use lib.ListN.{length, getD, drop}
-use borrow.Author.Tests.{eq-eqb, eqb-true}
+use lib.ListN.{length, drop}
+use borrow.Author.Tests.{eqb-true}
 use Rattle.segmentation.specs.Sizes.{badSize}
 use Rattle.laws.specs.Bits.{AreBits}
 use Rattle.slots.specs.declared.Answer.{Answer}
-use Rattle.slots.specs.declared.Answer.the-variants.{Done, Heard, Refused}
+use Rattle.slots.specs.declared.Answer.the-variants.{Done, Refused}
 use Rattle.slots.specs.declared.Outcome.{Outcome}
 use Rattle.slots.specs.declared.State.{State}
-use Rattle.slots.specs.State.{storeLength}
-use Rattle.slots.specs.Room.{byteOf}
-use Rattle.slots.specs.Reception.{received}
-use Rattle.slots.specs.Reading.{lacking, firstWrong, someWrong, wrongCheck, heardAnswer, heardBlock}
-use Rattle.slots.specs.Answers.{Lacking, WrongBlock, isDone, unlessRefused}
-use Rattle.slots.specs.Calls.{sizeAtHead, receiveNumber, receiveStore, receiveOutcome, readNumber, readOutcome, released, readOutput}
-use Rattle.slots.proofs.RoomLaws.{room-within, byte-in-room}
+use Rattle.slots.specs.Reading.{firstWrong, someWrong, wrongCheck, heardAnswer, heardBlock}
+use Rattle.slots.specs.Answers.{Lacking, WrongBlock, isDone}
+use Rattle.slots.specs.Calls.{sizeAtHead, readNumber, readOutcome, released, readOutput}
 use Rattle.slots.proofs.HeadLaws.{open-size}
-use Rattle.slots.proofs.Acceptance.{receives, reads}
+use Rattle.slots.proofs.Acceptance.{reads}
 use Rattle.history.specs.Calls.{Reception}
-use Rattle.history.specs.Accepted.{lastBit}
-use Rattle.history.specs.Sent.{True, AllTrue, unsent}
-use Rattle.history.proofs.Received.{brought, received-here}
-use Rattle.history.proofs.Others.{reception-fits}
-use Rattle.history.proofs.ReleaseCount.{HoldsLast, count}
+use Rattle.history.specs.Sent.{AllTrue, unsent}
+use Rattle.history.proofs.Arrived.{AllBits}
+use Rattle.history.proofs.ReleaseCount.{HoldsMet, count}
+use Rattle.history.proofs.AnyAnswers.{accepted-is}
 use Rattle.history.proofs.ReleaseSequence.{right-blocks, right-check, true-block}
 
--- an accepted call's outcome
-accepted-is : (number : ℕ) (state : State) (o : Outcome) → number ≡ 0 → unlessRefused number state o ≡ o
-unfolding unlessRefused
-accepted-is number state o e = ap (λ (b : Bool). cond b o (record { answer = Refused number; state = state })) (eq-eqb number 0 e)
-
--- a slot that is open for a block of as many bits as a has, and its room holds the last bits of true transmissions of a
+-- a slot that is open for a block of as many bits as a has, and in its room true transmissions of a have met
 module _ (state : State) (store : List ℕ) (slot terminal : ℕ) (a : List ℕ) (bits : AreBits a) (size-is : sizeAtHead state slot ≡ length a)
-    (xs : List Reception) (true-all : AllTrue a xs) (kept : HoldsLast (state .blocks) slot (length a) xs store) where
+    (xs : List Reception) (given : AllBits xs) (true-all : AllTrue a xs) (kept : HoldsMet (state .blocks) slot (length a) xs store) where
   module _ (size : ℕ) (came : readNumber state (length store) slot terminal size ≡ 0) where
     admitted : badSize (length a) ≡ false
     admitted =
@@ -49,7 +38,7 @@ module _ (state : State) (store : List ℕ) (slot terminal : ℕ) (a : List ℕ)
     room-answer : heardAnswer (state .blocks) slot (length a) store ≡ cond (eqb (unsent (length a) xs) 0) Done (Lacking (unsent (length a) xs))
     unfolding heardAnswer
     room-answer =
-        ap (λ (n : ℕ). cond (eqb n 0) heard (Lacking n)) (count a admitted bits xs true-all (state .blocks) slot store kept)
+        ap (λ (n : ℕ). cond (eqb n 0) heard (Lacking n)) (count a admitted bits xs true-all (state .blocks) slot store kept given)
         ∙ go (eqb (unsent (length a) xs) 0) refl
       where
         heard : Answer
@@ -90,33 +79,3 @@ module _ (state : State) (store : List ℕ) (slot terminal : ℕ) (a : List ℕ)
           ≡ cond t (a ++ drop (length a) out) out
       output true e = ap₂ (λ (l : List ℕ) (n : ℕ). l ++ drop n out) (block (eqb-true (unsent (length a) xs) 0 e)) size-is
       output false e = refl
-
-  module _ (x : Reception) (true-one : True a x)
-      (came : receiveNumber state (length store) slot terminal (x .Q) (x .N) (x .version) (x .bits) ≡ 0) where
-    -- the room after the reception holds the last bits with it
-    received-kept : HoldsLast (state .blocks) slot (length a) (x ∷ xs) (receiveStore state slot terminal (x .Q) (x .N) (x .version) (x .bits) store)
-    unfolding receiveStore lastBit storeLength
-    received-kept r j h l =
-        let w = receives state (length store) slot terminal (x .Q) (x .N) (x .version) (x .bits) came in
-        let fits = rw size-is at (reception-fits state (length store) slot terminal x came) in
-        let there : byteOf (state .blocks) slot r j < length store =
-        omega (arith, w .long, room-within (state .slots) (state .blocks) slot (w .below), byte-in-room (state .blocks) slot r j (omega arith) l) in
-        ap (λ (b : Bool). getD (cond b (received (state .blocks) slot (sizeAtHead state slot) (x .Q) (x .N) (x .version) (x .bits) store) store) (byteOf (state .blocks) slot r j) 0)
-        (eq-eqb (receiveNumber state (length store) slot terminal (x .Q) (x .N) (x .version) (x .bits)) 0 came)
-        ∙ ap (λ (A : ℕ). getD (received (state .blocks) slot A (x .Q) (x .N) (x .version) (x .bits) store) (byteOf (state .blocks) slot r j) 0) size-is
-        ∙ received-here (state .blocks) slot (length a) (x .Q) (x .N) (x .version) (x .bits) store (fits .1) r j h l there
-        ∙ ap (brought (length a + 24) (x .Q) (x .N) (x .version) (x .bits) r j) (kept r j h l)
-
-    -- Receive answers how many data places are unsent, the reception among the transmissions
-    pub receive-answer : receiveOutcome state slot terminal (x .Q) (x .N) (x .version) (x .bits) store
-        ≡ record { answer = Heard (unsent (length a) (x ∷ xs)); state = state }
-    unfolding receiveOutcome
-    receive-answer =
-        accepted-is (receiveNumber state (length store) slot terminal (x .Q) (x .N) (x .version) (x .bits)) state _ came
-        ∙ ap (λ (n : ℕ). record { answer = Heard n; state = state }) counted
-      where
-        counted : lacking (state .blocks) slot (sizeAtHead state slot) (receiveStore state slot terminal (x .Q) (x .N) (x .version) (x .bits) store) ≡ unsent (length a) (x ∷ xs)
-        counted =
-            let w = receives state (length store) slot terminal (x .Q) (x .N) (x .version) (x .bits) came in
-            let good : badSize (length a) ≡ false = rw size-is at (open-size state (w .sound) slot (w .below) (w .opened) .0) in
-            rw size-is (count a good bits (x ∷ xs) (true-one, true-all) (state .blocks) slot _ received-kept)

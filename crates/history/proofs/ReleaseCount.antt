@@ -1,7 +1,7 @@
--- The count that Receive and Read answer, demand 3: in a room that holds the last bits of true transmissions, as many data places lack a bit as the transmissions have not sent.
+-- The count that Receive and Read answer, demand 3 and 02 E2: as many data places lack a bit as are undecided by the receptions; of true transmissions, as they have not sent.
 -- Assumes nothing.
 use mathlib.Core.Path.{_≡_, _∙_, ap}
-use mathlib.Core.Bool.{Bool, true, false, cond}
+use mathlib.Core.Bool.{false, cond}
 use mathlib.Core.List.{List}
 use Prim.Native.Nat.{ℕ, _+_, _-_, _≤_, _<_}
 use native.Mathlib.Omega.{arith}
@@ -13,7 +13,7 @@ use Rattle.segmentation.specs.CodeBlocks.{withCheck, codeBlock}
 use Rattle.segmentation.proofs.Segmentation.{in-range}
 use Rattle.laws.specs.Bits.{AreBits}
 use Rattle.rate_matching.specs.Places.{placeNumber}
-use Rattle.codeword.proofs.Data.{withCheck-bits, codeBlock-bits, data-place}
+use Rattle.codeword.proofs.Data.{withCheck-bits, data-place}
 use Rattle.codeword.proofs.Taken.{length-withCheck}
 use Rattle.slots.specs.State.{perBlock}
 use Rattle.slots.specs.Room.{unheard, heard, byteOf}
@@ -21,18 +21,49 @@ use Rattle.slots.specs.Reading.{keptAt, lacks, lackingIn, lacking}
 use Rattle.slots.proofs.PlaceBounds.{place-below}
 use Rattle.slots.proofs.Sums.{sumFrom-ext}
 use Rattle.history.specs.Calls.{Reception}
-use Rattle.history.specs.Accepted.{lastBit}
-use Rattle.history.specs.Sent.{AllTrue, sent, notSent, unsentIn, unsent}
-use Rattle.history.proofs.DataPlaces.{missing}
-use Rattle.history.proofs.ReleaseMeet.{heard-bit, unheard-not}
-use Rattle.history.proofs.ReleaseTrue.{true-bit}
+use Rattle.history.specs.Accepted.{arrivals}
+use Rattle.history.specs.Agreed.{holding}
+use Rattle.history.specs.Sent.{AllTrue, sent, arrivalsAt, missing, dataWithoutIn, dataWithout, unsent, undecided}
+use Rattle.history.proofs.Arrived.{met, met-is, holding-heard, AllBits, arrived-bits}
+use Rattle.history.proofs.ReleaseTrue.{true-bit, true-decided}
 
--- the room of a slot holds the last bits of the receptions for a block of A bits
-abbrev pub HoldsLast : ℕ → ℕ → ℕ → List Reception → List ℕ → Type 0
-HoldsLast M slot A xs store = (r j : ℕ) → r < blocks (A + 24) → j < perBlock → getD store (byteOf M slot r j) 0 ≡ lastBit A xs r j
+-- in the room of a slot the bits of the receptions for a block of A bits have met
+abbrev pub HoldsMet : ℕ → ℕ → ℕ → List Reception → List ℕ → Type 0
+HoldsMet M slot A xs store = (r j : ℕ) → r < blocks (A + 24) → j < perBlock → getD store (byteOf M slot r j) 0 ≡ met unheard (arrivals A xs r j)
+
+-- ---- any receptions
+
+module _ (A : ℕ) (admitted : badSize A ≡ false) (xs : List Reception) (given : AllBits xs) (M slot : ℕ) (store : List ℕ) (kept : HoldsMet M slot A xs store) where
+  -- a data place keeps what its bits say together
+  pub kept-holding : (r i : ℕ) → r < blocks (A + 24) → i < sizeOf (A + 24) r
+      → keptAt M slot (A + 24) store r 0 i ≡ holding (arrivalsAt A xs r i)
+  unfolding keptAt
+  kept-holding r i h m =
+      let j : ℕ = placeNumber (sizeOf (A + 24) r + 4) 0 i in
+      kept r j h (place-below A admitted r 0 i (lit< tt) (omega arith)) ∙ met-is (arrivals A xs r j) (arrived-bits A xs r j given)
+
+  -- the count of data places that lack a bit is that of data places undecided
+  pub count-any : lacking M slot A store ≡ undecided A xs
+  unfolding lacking lackingIn lacks undecided dataWithout dataWithoutIn
+  count-any =
+      sumFrom-ext _ _ 0 (blocks (A + 24))
+      (λ r g h. sumFrom-ext _ _ (fillerOf (A + 24) r) (sizeOf (A + 24) r - fillerOf (A + 24) r)
+      (λ i l m. ap missing
+      (ap heard (kept-holding r i (omega arith) (omega arith))
+      ∙ holding-heard (arrivalsAt A xs r i) (arrived-bits A xs r (placeNumber (sizeOf (A + 24) r + 4) 0 i) given))))
+
+-- ---- true transmissions
+
+-- undecided are those not sent
+pub true-undecided : (a : List ℕ) → length a ≤ 30576 → AreBits a → (xs : List Reception) → AllTrue a xs → undecided (length a) xs ≡ unsent (length a) xs
+unfolding undecided unsent dataWithout dataWithoutIn
+true-undecided a small bits xs true-all =
+    sumFrom-ext _ _ 0 (blocks (length a + 24))
+    (λ r g h. sumFrom-ext _ _ (fillerOf (length a + 24) r) (sizeOf (length a + 24) r - fillerOf (length a + 24) r)
+    (λ i l m. ap missing (true-decided a small bits xs true-all r (placeNumber (sizeOf (length a + 24) r + 4) 0 i) (omega arith))))
 
 module _ (a : List ℕ) (admitted : badSize (length a) ≡ false) (bits : AreBits a) (xs : List Reception) (true-all : AllTrue a xs)
-    (M slot : ℕ) (store : List ℕ) (kept : HoldsLast M slot (length a) xs store) where
+    (M slot : ℕ) (store : List ℕ) (kept : HoldsMet M slot (length a) xs store) where
   -- a data place keeps the code block's own bit where it was sent
   pub kept-data : (r i : ℕ) → r < blocks (length a + 24) → fillerOf (length a + 24) r ≤ i → i < sizeOf (length a + 24) r
       → keptAt M slot (length a + 24) store r 0 i
@@ -46,19 +77,6 @@ module _ (a : List ℕ) (admitted : badSize (length a) ≡ false) (bits : AreBit
       ∙ ap (λ (x : ℕ). cond (sent (length a) xs r j) x unheard)
       (data-place (length a + 24) (omega arith) (omega arith) (withCheck a) (length-withCheck a) r h (withCheck-bits a bits) i l m)
 
-  lacks-is : (r i : ℕ) → r < blocks (length a + 24) → fillerOf (length a + 24) r ≤ i → i < sizeOf (length a + 24) r
-      → lacks M slot (length a + 24) store r i ≡ notSent (length a) xs r i
-  unfolding lacks notSent
-  lacks-is r i h l m = ap (λ (x : ℕ). missing (heard x)) (kept-data r i h l m) ∙ go (sent (length a) xs r (placeNumber (sizeOf (length a + 24) r + 4) 0 i))
-    where
-      go : (s : Bool) → missing (heard (cond s (getD (codeBlock (withCheck a) r) i 0) unheard)) ≡ missing s
-      go true = ap missing (heard-bit _ (codeBlock-bits (withCheck a) r (withCheck-bits a bits) i))
-      go false = ap missing unheard-not
-
   -- the count of data places that lack a bit is that of data places not sent
-  pub count : lacking M slot (length a) store ≡ unsent (length a) xs
-  unfolding lacking lackingIn unsent unsentIn
-  count =
-      sumFrom-ext _ _ 0 (blocks (length a + 24))
-      (λ r g h. sumFrom-ext _ _ (fillerOf (length a + 24) r) (sizeOf (length a + 24) r - fillerOf (length a + 24) r)
-      (λ i l m. lacks-is r i (omega arith) l (omega arith)))
+  pub count : AllBits xs → lacking M slot (length a) store ≡ unsent (length a) xs
+  count given = count-any (length a) admitted xs given M slot store kept ∙ true-undecided a (in-range (length a) admitted .1) bits xs true-all

@@ -26,7 +26,7 @@ use Rattle.slots.specs.Reading.{keptAt, firstWrong, someWrong, heardIn, heardFr
 use Rattle.history.specs.Calls.{Reception}
 use Rattle.history.specs.Sent.{AllTrue, unsent}
 use Rattle.history.proofs.DataPlaces.{none-unsent}
-use Rattle.history.proofs.ReleaseCount.{HoldsLast, kept-data}
+use Rattle.history.proofs.ReleaseCount.{HoldsMet, kept-data}
 use Rattle.history.proofs.ReleaseBlocks.{none-wrong}
 
 -- ---- the bits of b that each code block carries, in order
@@ -85,7 +85,7 @@ module _ (B : ℕ) (low : 24 ≤ B) (high : B ≤ 30600) (b : List ℕ) (long : 
 -- ---- the room
 
 module _ (a : List ℕ) (admitted : badSize (length a) ≡ false) (bits : AreBits a) (xs : List Reception) (true-all : AllTrue a xs)
-    (M slot : ℕ) (store : List ℕ) (kept : HoldsLast M slot (length a) xs store) (all : unsent (length a) xs ≡ 0) where
+    (M slot : ℕ) (store : List ℕ) (kept : HoldsMet M slot (length a) xs store) (all : unsent (length a) xs ≡ 0) where
   -- each data place holds the code block's bit
   held : (r i : ℕ) → r < blocks (length a + 24) → fillerOf (length a + 24) r ≤ i → i < sizeOf (length a + 24) r
       → keptAt M slot (length a + 24) store r 0 i ≡ getD (codeBlock (withCheck a) r) i 0

@@ -1,13 +1,13 @@
--- True transmissions, demand 3: every bit that came for a place of a code block is the one that the block has there, so the last one is that bit where the place was sent.
+-- True transmissions, demand 3: every bit that came for a place of a code block is the one that the block has there, so they agree on it where the place was sent.
 -- Assumes nothing.
 use mathlib.Core.Path.{_≡_, refl, _∙_, ap, ap₂}
-use mathlib.Core.Bool.{Bool, true, false, cond, _||_}
+use mathlib.Core.Bool.{Bool, true, false, cond, _&&_}
 use mathlib.Core.List.{List, [], _∷_, _++_, map}
 use Prim.Native.Nat.{ℕ, suc, _+_, _-_, _≤_, _<_}
 use native.Mathlib.Omega.{arith}
 use lib.Dec.{eqb}
 use lib.ListN.{length, drop}
-use borrow.Author.Tests.{eqb-true}
+use borrow.Author.Tests.{eqb-true, eq-eqb}
 use Rattle.segmentation.specs.Segmentation.{blocks, sizeOf, fillerOf}
 use Rattle.segmentation.specs.CodeBlocks.{withCheck}
 use Rattle.segmentation.proofs.CodeBlocks.{filler-within}
@@ -19,13 +19,14 @@ use Rattle.codeword.specs.Shares.{share, sharesBefore}
 use Rattle.codeword.specs.Codeword.{blockCircle, blockRows, sentBits, blockBits, bitsFrom}
 use Rattle.codeword.proofs.Data.{withCheck-bits, block-filled}
 use Rattle.codeword.proofs.Taken.{length-withCheck, stretch-is}
-use Rattle.slots.specs.Room.{unheard, meet}
+use Rattle.slots.specs.Room.{unheard}
 use Rattle.rate_matching.specs.Shape.{shape}
 use Rattle.slots.specs.Reception.{blockPlaces}
 use Rattle.history.specs.Calls.{Reception}
-use Rattle.history.specs.Accepted.{lastAmong, lastBit}
-use Rattle.history.specs.Sent.{True, AllTrue, among, sent}
-use Rattle.history.proofs.ReleaseMeet.{meet-first, meet-again}
+use Rattle.history.specs.Accepted.{arriving, arrivals}
+use Rattle.history.specs.Agreed.{allAre, decided}
+use Rattle.history.specs.Sent.{True, AllTrue, sent}
+use Rattle.history.proofs.Arrived.{met, all-append, all-met, all-decided, came-sent}
 
 -- ---- the places of a transmission, from the sizes alone
 
@@ -41,31 +42,16 @@ module _ (b : List ℕ) (B : ℕ) (low : 24 ≤ B) (high : B ≤ 30600) (long : 
 
 -- ---- the bits of true transmissions
 
--- one test more, asked first or last
-or-later : (s t u : Bool) → (s || (t || u)) ≡ ((t || s) || u)
-or-later true true u = refl
-or-later true false u = refl
-or-later false true u = refl
-or-later false false u = refl
-
--- bits by a rule f along places: where place j had f j or nothing before, it has f j afterwards if it had it or was among them
-last-of-rule : (f : ℕ → ℕ) (ps rest : List ℕ) (j : ℕ) (u : Bool)
-    → lastAmong ps (map f ps ++ rest) j (cond u (f j) unheard) ≡ cond (among j ps || u) (f j) unheard
-unfolding lastAmong among
-last-of-rule f [] rest j u = refl
-last-of-rule f (p ∷ ps) rest j u =
-    ap (lastAmong ps (map f ps ++ rest) j) (one (eqb p j) refl u)
-    ∙ last-of-rule f ps rest j (eqb p j || u)
-    ∙ ap (λ (t : Bool). cond t (f j) unheard) (or-later (among j ps) (eqb p j) u)
+-- bits by a rule f along places: all that come for place j are f j
+all-of-rule : (f : ℕ → ℕ) (ps rest : List ℕ) (j : ℕ) → allAre (f j) (arriving ps (map f ps ++ rest) j) ≡ true
+unfolding arriving allAre
+all-of-rule f [] rest j = refl
+all-of-rule f (p ∷ ps) rest j = go (eqb p j) refl (all-of-rule f ps rest j)
   where
-    here : eqb p j ≡ true → f p ≡ f j
-    here e = ap f (eqb-true p j e)
-
-    one : (t : Bool) → eqb p j ≡ t → (u : Bool)
-        → cond t (meet (cond u (f j) unheard) (f p)) (cond u (f j) unheard) ≡ cond (t || u) (f j) unheard
-    one true e true = ap (meet (f j)) (here e) ∙ meet-again (f j)
-    one true e false = meet-first (f p) ∙ here e
-    one false e u = refl
+    go : (t : Bool) → eqb p j ≡ t → allAre (f j) (arriving ps (map f ps ++ rest) j) ≡ true
+        → allAre (f j) (cond t (f p ∷ arriving ps (map f ps ++ rest) j) (arriving ps (map f ps ++ rest) j)) ≡ true
+    go true e all = ap₂ _&&_ (eq-eqb (f p) (f j) (ap f (eqb-true p j e))) all
+    go false e all = all
 
 module _ (a : List ℕ) (small : length a ≤ 30576) (bits : AreBits a) where
   -- the bits that a true transmission brings for code block r, and what follows them
@@ -81,12 +67,26 @@ module _ (a : List ℕ) (small : length a ≤ 30576) (bits : AreBits a) where
       ∙ ap (λ (l : List ℕ). l ++ bitsFrom (withCheck a) (x .Q) (x .N) (x .version) G (suc r) (blocks B - suc r))
       (block-bits (withCheck a) B (omega arith) (omega arith) (length-withCheck a) (withCheck-bits a bits) (x .Q) (x .N) (x .version) G r h)
 
-  -- the last bit for a place is the block's own bit there if the place was sent
-  pub true-bit : (xs : List Reception) → AllTrue a xs → (r j : ℕ) → r < blocks (length a + 24)
-      → lastBit (length a) xs r j ≡ cond (sent (length a) xs r j) (onCircle (blockCircle (withCheck a) r) j) unheard
-  unfolding lastBit sent
-  true-bit [] t r j h = refl
-  true-bit (x ∷ xs) t r j h =
+  -- true transmissions never contradict each other: all that they bring for a place is the block's own bit there
+  true-bits : (xs : List Reception) → AllTrue a xs → (r j : ℕ) → r < blocks (length a + 24)
+      → allAre (onCircle (blockCircle (withCheck a) r) j) (arrivals (length a) xs r j) ≡ true
+  unfolding arrivals allAre
+  true-bits [] t r j h = refl
+  true-bits (x ∷ xs) t r j h =
       let ps : List ℕ = blockPlaces (length a + 24) (x .Q) (x .N) (x .version) (length (x .bits)) r in
-      ap₂ (λ (l : List ℕ) (before : ℕ). lastAmong ps l j before) (brings x (t .0) r h) (true-bit xs (t .1) r j h)
-      ∙ last-of-rule (onCircle (blockCircle (withCheck a) r)) ps _ j (sent (length a) xs r j)
+      let f : ℕ → ℕ = onCircle (blockCircle (withCheck a) r) in
+      all-append (f j) (arrivals (length a) xs r j) _ (true-bits xs (t .1) r j h)
+      (ap (λ (l : List ℕ). allAre (f j) (arriving ps l j)) (brings x (t .0) r h) ∙ all-of-rule f ps _ j)
+
+  -- so a place keeps that bit if it was sent
+  pub true-bit : (xs : List Reception) → AllTrue a xs → (r j : ℕ) → r < blocks (length a + 24)
+      → met unheard (arrivals (length a) xs r j) ≡ cond (sent (length a) xs r j) (onCircle (blockCircle (withCheck a) r) j) unheard
+  true-bit xs t r j h =
+      all-met (onCircle (blockCircle (withCheck a) r) j) (arrivals (length a) xs r j) (true-bits xs t r j h)
+      ∙ ap (λ (b : Bool). cond b (onCircle (blockCircle (withCheck a) r) j) unheard) (came-sent (length a) xs r j)
+
+  -- and is decided exactly then
+  pub true-decided : (xs : List Reception) → AllTrue a xs → (r j : ℕ) → r < blocks (length a + 24)
+      → decided (arrivals (length a) xs r j) ≡ sent (length a) xs r j
+  true-decided xs t r j h =
+      all-decided (onCircle (blockCircle (withCheck a) r) j) (arrivals (length a) xs r j) (true-bits xs t r j h) ∙ came-sent (length a) xs r j

@@ -1,18 +1,17 @@
--- 'Accepted', 'since that opening' and 'last bit', demand 3: from the calls and the length of the store alone, never from what a room holds.
+-- 'Accepted', 'since that opening' and 'all bits accepted for it', demand 3 and 02 E2: from the calls and the length of the store alone, never from what a room holds.
 -- Assumes nothing.
-use mathlib.Core.Bool.{Bool, true, false, cond, _&&_}
-use mathlib.Core.List.{List, [], _∷_}
+use mathlib.Core.Bool.{true, cond, _&&_}
+use mathlib.Core.List.{List, [], _∷_, _++_}
 use Prim.Native.Nat.{ℕ, _+_}
 use lib.Dec.{eqb, ltb}
 use lib.ListN.{length, drop, getD}
 use Rattle.segmentation.specs.Segmentation.{blocks}
 use Rattle.codeword.specs.Shares.{sharesBefore}
 use Rattle.slots.specs.declared.State.{State}
-use Rattle.slots.specs.State.{storeLength, closedHead, headAt}
-use Rattle.slots.specs.Room.{unheard, meet}
+use Rattle.slots.specs.State.{storeLength, closedHead}
 use Rattle.slots.specs.Reception.{blockPlaces}
 use Rattle.slots.specs.Calls.{withHead, newOutcome, openNumber, receiveNumber, closeNumber}
-use Rattle.history.specs.Calls.{Reception, Call, opening, receiving, reading, streaming, closing, Made, History}
+use Rattle.history.specs.Calls.{Reception, Call, opening, receiving, reading, streaming, closing, History}
 
 -- the length of the store that a call is lent, where the rooms have n bytes
 unfoldable pub lentLength : State → ℕ → List ℕ → ℕ
@@ -51,17 +50,18 @@ since S M n slot [] = []
 since S M n slot (m ∷ h) =
     sinceCall (headsAfter S M n h) (lentLength (headsAfter S M n h) n (m .past)) slot (m .call) (since S M n slot h)
 
--- what is known of circle place j after bits for some places in arrival order, when `before` was known
-unfoldable pub lastAmong : List ℕ → List ℕ → ℕ → ℕ → ℕ
-lastAmong [] bits j before = before
-lastAmong (p ∷ ps) bits j before = lastAmong ps (drop 1 bits) j (cond (eqb p j) (meet before (getD bits 0 0)) before)
+-- those of the bits, given for some places in arrival order, that are for circle place j
+unfoldable pub arriving : List ℕ → List ℕ → ℕ → List ℕ
+arriving [] bits j = []
+arriving (p ∷ ps) bits j =
+    cond (eqb p j) (getD bits 0 0 ∷ arriving ps (drop 1 bits) j) (arriving ps (drop 1 bits) j)
 
--- the last bit that receptions for a block of A bits brought for circle place j of code block r, and unheard if there was none
-unfoldable pub lastBit : ℕ → List Reception → ℕ → ℕ → ℕ
-lastBit A [] r j = unheard
-lastBit A (x ∷ xs) r j =
-    lastAmong
+-- all bits that receptions for a block of A bits, latest first, brought for circle place j of code block r, in arrival order
+unfoldable pub arrivals : ℕ → List Reception → ℕ → ℕ → List ℕ
+arrivals A [] r j = []
+arrivals A (x ∷ xs) r j =
+    arrivals A xs r j
+    ++ arriving
     (blockPlaces (A + 24) (x .Q) (x .N) (x .version) (length (x .bits)) r)
     (drop (sharesBefore (blocks (A + 24)) (x .Q) (x .N) (length (x .bits)) r) (x .bits))
     j
-    (lastBit A xs r j)

@@ -1,4 +1,4 @@
--- What the room of an open slot holds, demand 3: for each place the last bit accepted since the opening, and unheard where there was none.
+-- What the room of an open slot holds, demand 3 in the words of 02 E2: for each place the bit on which all bits accepted since the opening agree, disputed or unheard.
 -- Assumes nothing.
 use mathlib.Core.Path.{_≡_}
 use mathlib.Core.List.{List}
@@ -8,11 +8,13 @@ use Rattle.segmentation.specs.Segmentation.{blocks}
 use Rattle.slots.specs.State.{perBlock}
 use Rattle.slots.specs.Room.{unheard, byteOf}
 use Rattle.history.specs.Calls.{Reception}
-use Rattle.history.specs.Accepted.{lastBit}
+use Rattle.history.specs.Accepted.{arrivals}
+use Rattle.history.specs.Agreed.{holding}
 
 -- the room of a slot for M code blocks that is open for a block of A bits, after the receptions xs
 pub record Holds (M slot A : ℕ) (xs : List Reception) (rooms : List ℕ) : Type 0 where
   -- a place of one of its code blocks
-  pub last : (r j : ℕ) → r < blocks (A + 24) → j < perBlock → getD rooms (byteOf M slot r j) 0 ≡ lastBit A xs r j
+  pub place : (r j : ℕ) → r < blocks (A + 24) → j < perBlock
+      → getD rooms (byteOf M slot r j) 0 ≡ holding (arrivals A xs r j)
   -- the rest of the room
   pub rest : (r j : ℕ) → blocks (A + 24) ≤ r → r < M → j < perBlock → getD rooms (byteOf M slot r j) 0 ≡ unheard

@@ -1,6 +1,7 @@
 pub mod Calls
 pub mod Run
 pub mod Accepted
+pub mod Agreed
 pub mod Sent
 pub mod Answered
 pub mod Holds

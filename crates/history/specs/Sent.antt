@@ -1,4 +1,4 @@
--- True transmissions and the data places that they have sent, demand 3: counted over the history, never over a room.
+-- True transmissions, the data places that were sent and those that are decided, demand 3 and 02 E2: counted over the history, never over a room.
 -- Assumes nothing.
 use mathlib.Core.Path.{_≡_}
 use mathlib.Core.Bool.{Bool, true, false, cond, _||_}
@@ -12,6 +12,8 @@ use Rattle.codeword.specs.Codeword.{codeword}
 use Rattle.slots.specs.Reception.{blockPlaces}
 use Rattle.slots.specs.Reading.{sumFrom}
 use Rattle.history.specs.Calls.{Reception}
+use Rattle.history.specs.Accepted.{arrivals}
+use Rattle.history.specs.Agreed.{decided}
 
 -- a true transmission of a block: what Build gives for it with the reception's Q, N, version and G
 abbrev pub True : List ℕ → Reception → Type 0
@@ -33,17 +35,6 @@ sent A [] r j = false
 sent A (x ∷ xs) r j =
     among j (blockPlaces (A + 24) (x .Q) (x .N) (x .version) (length (x .bits)) r) || sent A xs r j
 
--- 1 where data place i of code block r was not sent
-unfoldable pub notSent : ℕ → List Reception → ℕ → ℕ → ℕ
-notSent A xs r i = cond (sent A xs r (placeNumber (sizeOf (A + 24) r + 4) 0 i)) 0 1
-
-unfoldable pub unsentIn : ℕ → List Reception → ℕ → ℕ
-unsentIn A xs r = sumFrom (notSent A xs r) (fillerOf (A + 24) r) (sizeOf (A + 24) r - fillerOf (A + 24) r)
-
--- how many data places the receptions have not sent
-unfoldable pub unsent : ℕ → List Reception → ℕ
-unsent A xs = sumFrom (unsentIn A xs) 0 (blocks (A + 24))
-
 -- place i of stream 0 is a data place of code block r of a block of A bits
 pub record DataPlace (A r i : ℕ) : Type 0 where
   pub block : r < blocks (A + 24)
@@ -54,11 +45,43 @@ pub record DataPlace (A r i : ℕ) : Type 0 where
 abbrev pub sentData : ℕ → List Reception → ℕ → ℕ → Bool
 sentData A xs r i = sent A xs r (placeNumber (sizeOf (A + 24) r + 4) 0 i)
 
+-- all bits that the receptions brought for data place i of code block r, in arrival order
+abbrev pub arrivalsAt : ℕ → List Reception → ℕ → ℕ → List ℕ
+arrivalsAt A xs r i = arrivals A xs r (placeNumber (sizeOf (A + 24) r + 4) 0 i)
+
+-- a bit came for it, and all that came agree
+abbrev pub decidedData : ℕ → List Reception → ℕ → ℕ → Bool
+decidedData A xs r i = decided (arrivalsAt A xs r i)
+
+-- 1 where a place has not what is asked of it
+abbrev pub missing : Bool → ℕ
+missing t = cond t 0 1
+
+-- how many data places of code block r have not what is asked: those of stream 0 below K, filler left out
+unfoldable pub dataWithoutIn : ℕ → (ℕ → ℕ → Bool) → ℕ → ℕ
+dataWithoutIn A has r =
+    sumFrom (λ (i : ℕ). missing (has r i)) (fillerOf (A + 24) r) (sizeOf (A + 24) r - fillerOf (A + 24) r)
+
+-- how many data places of a block of A bits have not what is asked
+unfoldable pub dataWithout : ℕ → (ℕ → ℕ → Bool) → ℕ
+dataWithout A has = sumFrom (dataWithoutIn A has) 0 (blocks (A + 24))
+
+-- how many data places the receptions have not sent
+unfoldable pub unsent : ℕ → List Reception → ℕ
+unsent A xs = dataWithout A (sentData A xs)
+
+-- for how many data places no bit came or those that came differ
+unfoldable pub undecided : ℕ → List Reception → ℕ
+undecided A xs = dataWithout A (decidedData A xs)
+
 abbrev pub AllSent : ℕ → List Reception → Type 0
 AllSent A xs = (r i : ℕ) → DataPlace A r i → sentData A xs r i ≡ true
 
 abbrev pub NoneSent : ℕ → List Reception → Type 0
 NoneSent A xs = (r i : ℕ) → DataPlace A r i → sentData A xs r i ≡ false
+
+abbrev pub AllDecided : ℕ → List Reception → Type 0
+AllDecided A xs = (r i : ℕ) → DataPlace A r i → decidedData A xs r i ≡ true
 
 unfoldable pub dataPlacesIn : ℕ → ℕ → ℕ
 dataPlacesIn A r = sizeOf (A + 24) r - fillerOf (A + 24) r

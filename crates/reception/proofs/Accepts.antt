@@ -9,10 +9,12 @@ use native.Mathlib.Omega.{arith}
 use lib.ListN.{length}
 use borrow.Author.Tests.{ltb-false, le-leb}
 use borrow.Rule.Slice.PartMut.{midOf, putMid}
+use Rattle.laws.specs.Bits.{AreBits}
 use Rattle.segmentation.specs.Segmentation.{blocks}
 use Rattle.segmentation.specs.Sizes.{badSize}
 use Rattle.segmentation.proofs.Segmentation.{good-size}
 use Rattle.codeword.specs.Build.{badAllocation, badVersion}
+use Rattle.codeword.proofs.Accepted.{given-bits}
 use Rattle.slots.specs.declared.State.{State}
 use Rattle.slots.specs.declared.Outcome.{Outcome}
 use Rattle.slots.specs.declared.Answer.the-variants.{Heard}
@@ -28,7 +30,7 @@ use Rattle.reception.specs.Parts.{roomAfter, Accepted}
 use Rattle.reception.proofs.Slot.{room-accepts, room-received, room-lacking}
 
 -- the room after the bits are put is as long, so the places can be counted
-pub fits-still : {A Q N v G n m : ℕ} → Accepted A Q N v G n → m ≡ n → roomFits A m ≡ true
+pub fits-still : {A Q N v n m : ℕ} {bits : List ℕ} → Accepted A Q N v bits n → m ≡ n → roomFits A m ≡ true
 unfolding roomFits
 fits-still {A} {m = m} a e = let enough : blocks (A + 24) * perBlock ≤ m = omega (arith, a .fits) in rw (a .size, le-leb (blocks (A + 24) * perBlock) m enough)
 
@@ -40,6 +42,7 @@ pub record Ready (state : State) (room slot Q N v : ℕ) (bits : List ℕ) : Typ
   pub fits : blocks (sizeAtHead state slot + 24) ≤ state .blocks
   pub allocation : badAllocation (blocks (sizeAtHead state slot + 24)) Q N (length bits) ≡ false
   pub version : v ≤ 3
+  pub given : AreBits bits
   pub within : roomStart (state .blocks) slot + roomLength (state .blocks) ≤ room
 
 pub ready : {state : State} {room slot : ℕ} (terminal : ℕ) {Q N v : ℕ} {bits : List ℕ} {number : ℕ} → number ≡ receiveNumber state room slot terminal Q N v bits → number ≡ 0
@@ -56,6 +59,7 @@ ready {state} {room} {slot} terminal {Q} {N} {v} {bits} told zero =
       fits = head .few;
       allocation = is .allocation;
       version = ltb-false 3 v (is .version);
+      given = given-bits bits (is .given);
       within = omega (arith, is .long, room-within state (is .below));
     }
 
@@ -90,9 +94,9 @@ module _ {state : State} {room slot Q N v : ℕ} {bits : List ℕ} (is : Ready s
 -- ---- a reception of number 0 with `size` for the A of the slot's head
 
 module _ {state : State} {slot Q N v : ℕ} {bits : List ℕ} (store : List ℕ) {size : ℕ} (is : Ready state (length store) slot Q N v bits) (sized : size ≡ sizeAtHead state slot) where
-  pub room-ready : Accepted size Q N v (length bits) (length (lent state slot store))
+  pub room-ready : Accepted size Q N v bits (length (lent state slot store))
   unfolding roomStart roomLength
-  room-ready = rw sized (room-accepts (state .blocks) slot (sizeAtHead state slot) Q N v bits store (is .size) (is .fits) (is .version) refl refl (is .within) (is .allocation))
+  room-ready = rw sized (room-accepts (state .blocks) slot (sizeAtHead state slot) Q N v bits store (is .size) (is .fits) (is .version) refl refl (is .within) (is .allocation) (is .given))
 
   -- the room came back with the bits in it
   module _ (terminal : ℕ) {number count : ℕ} {last : List ℕ} (told : number ≡ receiveNumber state (length store) slot terminal Q N v bits) (zero : number ≡ 0)

@@ -2,22 +2,21 @@
 -- Assumes nothing.
 use mathlib.Core.Path.{_≡_, refl, sym, _∙_, ap, ap₂, subst}
 use mathlib.Core.List.{List, [], _∷_, _++_, map}
-use Prim.Native.Nat.{ℕ, zero, suc, _+_, _-_, _≤_, _<_, min}
-use native.Mathlib.Nat.{add-zero, zero-add, add-sub-cancel-left}
+use Prim.Native.Nat.{ℕ, _+_, _-_, _≤_, _<_, min}
+use native.Mathlib.Nat.{add-zero, add-sub-cancel-left}
 use native.Mathlib.Decide.{decLe}
 use native.Mathlib.Omega.{arith}
-use lib.ListN.{length, getD, take, drop, set, length-set, length-append, length-map, length-take, length-drop, take-append-drop, drop-of-length-le}
-use lib.Seq.{append-snoc, getD-take, take-all, take-length, drop-drop, drop-set-lt, take-nil, take-suc-set}
+use lib.ListN.{length, getD, take, drop, set, length-append, length-map, length-take, length-drop, drop-of-length-le}
+use lib.Seq.{getD-take, getD-drop, take-all, drop-drop, take-nil}
 use borrow.Rule.Slice.PartMut.{midOf, putMid, put-same}
 use Rattle.laws.specs.Lists.{tab, tabFrom}
 use Rattle.laws.proofs.Parts.{length-mid}
-use Rattle.laws.proofs.Tab.{length-tab, getD-tab, map-tab, tabFrom-shift}
+use Rattle.laws.proofs.Tab.{length-tab, take-tab, getD-tab, tab-split, map-tab, tabFrom-shift}
 use Rattle.rate_matching.specs.Walk.{itself}
-use Rattle.slots.specs.Room.{putBit}
+use Rattle.slots.specs.Room.{meet, putBit}
 use Rattle.reception.specs.Parts.{putFrom}
 use Rattle.reception.specs.Along.{putAlong, Put}
-use Rattle.reception.proofs.Meet.{put-is}
-use Rattle.reception.proofs.Putting.{length-putFrom, put-in}
+use Rattle.reception.proofs.Putting.{length-putFrom, putFrom-append, putFrom-front, put-in}
 
 -- ---- one bit after another
 
@@ -58,36 +57,54 @@ along-shift a (j ∷ js) (b ∷ bits) list =
 
 -- ---- a run: places side by side
 
-pub along-run : (k n : ℕ) (bits list : List ℕ) → k + n ≤ length list
-    → putAlong (tabFrom k n itself) bits list ≡ take k list ++ (take n bits ++ drop (k + length (take n bits)) list)
-unfolding tabFrom itself
-along-run k zero bits list h = no-places bits list ∙ sym (ap (λ (m : ℕ). take k list ++ drop m list) (add-zero k) ∙ take-append-drop k list)
-along-run k (suc n) [] list h = along-none (tabFrom k (suc n) itself) list ∙ sym (ap (λ (m : ℕ). take k list ++ drop m list) (add-zero k) ∙ take-append-drop k list)
-along-run k (suc n) (b ∷ bits) list h =
-    along-more k b (tabFrom (suc k) n itself) bits list
-    ∙ ap (putAlong (tabFrom (suc k) n itself) bits) (put-is list (0 + k) b ∙ ap (λ (i : ℕ). set list i b) (zero-add k))
-    ∙ along-run (suc k) n bits (set list k b) (rw (length-set list k b) (omega arith))
-    ∙ rw (take-suc-set list k b (omega arith), append-snoc, drop-set-lt (suc k + length (take n bits)) list k b (omega arith), next)
-  where
-    next : suc k + length (take n bits) ≡ k + suc (length (take n bits))
-    next = omega arith
+-- the first i bits have met the front of the run
+pub record Meeting (bits run₀ run : List ℕ) (i : ℕ) : Type 0 where
+  pub passed : i ≤ length bits
+  pub told : run ≡ putFrom 0 (tab i itself) bits run₀
 
--- as many entries as there are
-as-many : (l : List ℕ) {n : ℕ} (m : ℕ) → n ≡ min (length l) m → take n l ≡ take m l
-as-many l {n} m e = elim (decLe (length l) m) [
-  | yes h ↦ take-all n l (omega arith) ∙ sym (take-all m l h)
-  | no h ↦ let is : n ≡ m = omega arith in ap (λ (k : ℕ). take k l) is
-]
+module _ {bits run₀ : List ℕ} where
+  pub meeting-start : Meeting bits run₀ run₀ 0
+  unfolding tab tabFrom putFrom
+  meeting-start = record { passed = omega arith; told = refl }
 
--- n bits copied over the front of a run, as many as there are of both
-pub run-copied : (bits run : List ℕ) {at n : ℕ} {run′ : List ℕ} → at ≤ length bits → n ≡ min (length bits - at) (length run)
-    → (let src = midOf at (at + n - at) bits in run′ ≡ take (length src) src ++ drop (length src) run) → Put (tab (length run) itself) bits at run run′ (at + n)
-unfolding tab
-run-copied bits run {at} {n} {run′} h e t = record {
+  pub meeting-long : {run : List ℕ} {i : ℕ} → Meeting bits run₀ run i → length run ≡ length run₀
+  meeting-long {run} {i} w = ap length (w .told) ∙ length-putFrom 0 (tab i itself) bits run₀
+
+  pub meeting-next : {run : List ℕ} {i : ℕ} → i < length bits → Meeting bits run₀ run i
+      → Meeting bits run₀ (set run i (meet (getD run i 0) (getD bits i 0))) (i + 1)
+  unfolding tab tabFrom putFrom putBit itself
+  meeting-next {run} {i} h w = record {
+    passed = omega arith;
+    told =
+        sym
+        (ap (λ (js : List ℕ). putFrom 0 js bits run₀) (tab-split i 1 itself)
+        ∙ putFrom-append 0 (tab i itself) ((i + 0) ∷ []) bits run₀
+        ∙ ap₂ (λ (n : ℕ) (l : List ℕ). putBit l (0 + (i + 0)) (getD (drop n bits) 0 0)) (length-tab i itself) (sym (w .told))
+        ∙ ap₂ (λ (n b : ℕ). putBit run n b) here (getD-drop i bits 0 0 ∙ ap (λ (n : ℕ). getD bits n 0) (add-zero i)));
+  }
+    where
+      here : 0 + (i + 0) ≡ i
+      here = omega arith
+
+  pub meeting-finish : {run : List ℕ} {i : ℕ} → length bits ≤ i → Meeting bits run₀ run i → run ≡ putAlong (tab (length bits) itself) bits run₀
+  unfolding putAlong
+  meeting-finish {run} {i} h w =
+      let all : i ≡ length bits = omega (arith, w .passed) in
+      w .told
+      ∙ ap (λ (js : List ℕ). putFrom 0 js bits run₀) (ap (λ (n : ℕ). tab n itself) all ∙ sym (take-all (length bits) (tab (length bits) itself) (omega (arith, length-tab (length bits) itself))))
+
+-- n bits at the front of a run, as many as there are of both
+pub run-met : (bits run : List ℕ) {at n : ℕ} {run′ : List ℕ} → at ≤ length bits → n ≡ min (length bits - at) (length run)
+    → (let src = midOf at (at + n - at) bits in run′ ≡ putAlong (tab (length src) itself) src run) → Put (tab (length run) itself) bits at run run′ (at + n)
+unfolding putAlong
+run-met bits run {at} {n} {run′} h e t = record {
   told =
       t
-      ∙ ap₂ (λ (l : List ℕ) (m : ℕ). l ++ drop m run) front count
-      ∙ sym (along-run 0 (length run) (drop at bits) run (omega arith) ∙ ap (λ (m : ℕ). take (length run) (drop at bits) ++ drop m run) (zero-add (length (take (length run) (drop at bits)))));
+      ∙ ap (λ (m : ℕ). putFrom 0 (take m (tab m itself)) src run) long
+      ∙ ap (λ (js : List ℕ). putFrom 0 js src run) (take-all n (tab n itself) (omega (arith, length-tab n itself)))
+      ∙ ap (λ (m : ℕ). putFrom 0 (tab n itself) (take m (drop at bits)) run) (add-sub-cancel-left at n)
+      ∙ putFrom-front 0 (tab n itself) n (drop at bits) run (omega (arith, length-tab n itself))
+      ∙ ap (λ (js : List ℕ). putFrom 0 js (drop at bits) run) (sym places);
   ends = rw (length-tab (length run) itself) (omega arith);
 }
   where
@@ -97,11 +114,11 @@ run-copied bits run {at} {n} {run′} h e t = record {
     long : length src ≡ n
     long = length-mid at (at + n) bits (omega arith) ∙ omega arith
 
-    count : length src ≡ length (take (length run) (drop at bits))
-    count = long ∙ sym (rw (length-take, length-drop) (omega arith))
-
-    front : take (length src) src ≡ take (length run) (drop at bits)
-    front = take-length src ∙ ap (λ (m : ℕ). take m (drop at bits)) (add-sub-cancel-left at n) ∙ as-many (drop at bits) (length run) (e ∙ ap (λ (m : ℕ). min m (length run)) (sym (length-drop at bits)))
+    places : take (length (drop at bits)) (tab (length run) itself) ≡ tab n itself
+    places = elim (decLe (length bits - at) (length run)) [
+      | yes l ↦ ap (λ (m : ℕ). take m (tab (length run) itself)) (length-drop at bits) ∙ take-tab (length bits - at) (length run) itself l ∙ ap (λ (m : ℕ). tab m itself) (omega arith)
+      | no l ↦ take-all (length (drop at bits)) (tab (length run) itself) (rw (length-tab (length run) itself, length-drop at bits) (omega arith)) ∙ ap (λ (m : ℕ). tab m itself) (omega arith)
+    ]
 
 -- ---- where the bits end
 

@@ -79,7 +79,7 @@ module _ {A Q N v : ℕ} {bits room₀ : List ℕ} where
       none : blocks (A + 24) - r ≡ 0
       none = omega arith
 
-  module _ {room : List ℕ} {at from r : ℕ} (ok : Accepted A Q N v (length bits) (length room₀)) (h : r < blocks (A + 24))
+  module _ {room : List ℕ} {at from r : ℕ} (ok : Accepted A Q N v bits (length room₀)) (h : r < blocks (A + 24))
       (b : Blocks A Q N v bits room₀ room at from r) where
     -- the part of the room that is lent
     pub part-within : from + perBlock ≤ length room

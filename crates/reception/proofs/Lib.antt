@@ -1,5 +1,5 @@
-pub mod Meet
 pub mod Putting
+pub mod Ring
 pub mod Along
 pub mod Walking
 pub mod Rounds

@@ -1,60 +1,28 @@
--- Turn after turn of a code block's bits, 01 'Receive': one round, and the turns that a later one puts over.
+-- Turn after turn of a code block's bits, 01 'Receive' and 02 E2: one round, and turns that meet in a ring.
 -- Assumes nothing.
-use mathlib.Core.Path.{_≡_, refl, sym, _∙_, ap, ap₂}
-use mathlib.Core.List.{List, [], _∷_}
-use Prim.Native.Nat.{ℕ, zero, suc, _+_, _-_, _*_, _/_, _%_, _≤_, _<_}
-use native.Mathlib.Nat.{zero-add, zero-mod, mod-self, add-mod-right, div-add-mod'}
+use mathlib.Core.Path.{_≡_, sym, _∙_, ap, ap₂}
+use mathlib.Core.List.{List, _++_, append-nil, map}
+use Prim.Native.Nat.{ℕ, _+_, _-_, _%_, _≤_, _<_, min}
+use native.Mathlib.Nat.{zero-mod, mod-self, mod-lt, add-mod-right, add-sub-cancel-left}
 use native.Mathlib.Decide.{decLe, ℕ-discrete}
 use native.Mathlib.Omega.{arith}
-use lib.ListN.{length, getD, take, drop, set, length-drop, drop-of-length-le}
-use lib.Seq.{take-all, drop-drop, set-set, set-comm}
+use lib.Dec.{lit<}
+use lib.ListN.{length, getD, take, drop, length-drop, drop-of-length-le}
+use lib.Seq.{take-all, take-length, length-take-le, drop-drop}
 use borrow.Rule.Slice.PartMut.{midOf}
+use Rattle.laws.specs.Bits.{AreBits}
 use Rattle.laws.specs.Lists.{tab, tabFrom}
+use Rattle.laws.proofs.AreBits.{take-below, drop-below}
 use Rattle.laws.proofs.Parts.{length-mid}
-use Rattle.laws.proofs.Tab.{tab-rest, rest-none}
-use Rattle.rate_matching.specs.Walk.{turnAfterTurn}
+use Rattle.laws.proofs.Tab.{length-tab, length-tabFrom, getD-tab, getD-tabFrom, tabFrom-ext, map-tabFrom, tab-rest, rest-none}
+use Rattle.rate_matching.specs.Walk.{itself, turnAfterTurn}
 use Rattle.rate_matching.proofs.MatcherTurns.{turn-front, turn-next}
-use Rattle.slots.specs.Room.{putBit}
-use Rattle.reception.specs.Parts.{putFrom, LastTurns}
-use Rattle.reception.specs.Along.{putAlong, Put}
-use Rattle.reception.proofs.Meet.{put-is}
-use Rattle.reception.proofs.Putting.{putFrom-append}
-use Rattle.reception.proofs.Along.{along-none}
-
--- ---- a later bit replaces an earlier one
-
-bit-is : (list : List ℕ) (p b : ℕ) → putBit list (0 + p) b ≡ set list p b
-bit-is list p b = put-is list (0 + p) b ∙ ap (λ (n : ℕ). set list n b) (zero-add p)
-
-over : (list : List ℕ) (p a b : ℕ) → putBit (set list p a) (0 + p) b ≡ putBit list (0 + p) b
-over list p a b = bit-is (set list p a) p b ∙ set-set list p a b ∙ sym (bit-is list p b)
-
--- a bit at a place that is put later is not seen
-one-over : (ps bits list : List ℕ) (i x : ℕ) → i < length ps → putFrom 0 ps bits (set list (getD ps i 0) x) ≡ putFrom 0 ps bits list
-unfolding putFrom
-one-over [] bits list i x h = absurd (omega arith)
-one-over (p ∷ ps) bits list zero x h = ap (putFrom 0 ps (drop 1 bits)) (over list p x (getD bits 0 0))
-one-over (p ∷ ps) bits list (suc i) x h = elim (ℕ-discrete (getD ps i 0) p) [
-  | yes e ↦ ap (putFrom 0 ps (drop 1 bits)) (ap (λ (n : ℕ). putBit (set list n x) (0 + p) (getD bits 0 0)) e ∙ over list p x (getD bits 0 0))
-  | no e ↦
-      ap (putFrom 0 ps (drop 1 bits))
-      (bit-is (set list (getD ps i 0) x) p (getD bits 0 0) ∙ set-comm list (getD ps i 0) p x (getD bits 0 0) e ∙ ap (λ (l : List ℕ). set l (getD ps i 0) x) (sym (bit-is list p (getD bits 0 0))))
-      ∙ one-over ps (drop 1 bits) (putBit list (0 + p) (getD bits 0 0)) i x (omega arith)
-]
-
--- nor are bits at several of the places
-some-over : (ps bits qs others list : List ℕ) → ((i : ℕ) → i < length qs → (k : ℕ) × (k < length ps) × (getD ps k 0 ≡ getD qs i 0))
-    → putFrom 0 ps bits (putFrom 0 qs others list) ≡ putFrom 0 ps bits list
-unfolding putFrom
-some-over ps bits [] others list f = refl
-some-over ps bits (q ∷ qs) others list f =
-    some-over ps bits qs (drop 1 others) (putBit list (0 + q) (getD others 0 0)) (λ i h. f (suc i) (omega arith))
-    ∙ ap (putFrom 0 ps bits) (bit-is list q (getD others 0 0) ∙ ap (λ (n : ℕ). set list n (getD others 0 0)) (sym (f 0 (omega arith) .2)))
-    ∙ one-over ps bits list (f 0 (omega arith) .0) (getD others 0 0) (f 0 (omega arith) .1)
-
--- a whole turn is put over by the next
-turn-over : (ps bits others list : List ℕ) → putFrom 0 ps bits (putFrom 0 ps others list) ≡ putFrom 0 ps bits list
-turn-over ps bits others list = some-over ps bits ps others list (λ i h. (i, h, refl))
+use Rattle.slots.proofs.Meeting.{known-bit}
+use Rattle.reception.specs.Parts.{putFrom}
+use Rattle.reception.specs.Along.{putAlong, Put, ringAfter}
+use Rattle.reception.proofs.Putting.{length-putFrom, putFrom-append, putFrom-front}
+use Rattle.reception.proofs.Ring.{through}
+use Rattle.reception.proofs.Along.{along-none, put-as, put-long}
 
 -- ---- turn after turn
 
@@ -66,7 +34,7 @@ module _ (ps bits : List ℕ) where
   pub rest-all : (list : List ℕ) → Rest 0 list ≡ putFrom 0 (tab (length bits) (turnAfterTurn ps)) bits list
   rest-all list = ap (λ (js : List ℕ). putFrom 0 js bits list) (tab-rest (length bits) (turnAfterTurn ps))
 
-  rest-end : (i : ℕ) (list : List ℕ) → length bits ≤ i → Rest i list ≡ list
+  pub rest-end : (i : ℕ) (list : List ℕ) → length bits ≤ i → Rest i list ≡ list
   unfolding putFrom
   rest-end i list h = ap (λ (js : List ℕ). putFrom 0 js (drop i bits) list) (rest-none i (length bits) (turnAfterTurn ps) h)
 
@@ -77,24 +45,6 @@ module _ (ps bits : List ℕ) where
         ap (λ (js : List ℕ). putFrom 0 js (drop i bits) list) (turn-next ps i some w (length bits) h)
         ∙ putFrom-append 0 ps (tabFrom (i + length ps) (length bits - (i + length ps)) (turnAfterTurn ps)) (drop i bits) list
         ∙ ap (λ (bs : List ℕ). putFrom 0 (tabFrom (i + length ps) (length bits - (i + length ps)) (turnAfterTurn ps)) bs (putFrom 0 ps (drop i bits) list)) (drop-drop (length ps) i bits)
-
-    -- the turns before the last whole one are put over
-    rest-over : (i : ℕ) (list : List ℕ) → i % length ps ≡ 0 → i + length ps + length ps ≤ length bits → Rest i list ≡ Rest (i + length ps) list
-    rest-over i list w h =
-        rest-turn i list w (omega arith)
-        ∙ rest-turn (i + length ps) (putFrom 0 ps (drop i bits) list) next h
-        ∙ ap (Rest (i + length ps + length ps)) (turn-over ps (drop (i + length ps) bits) (drop i bits) list)
-        ∙ sym (rest-turn (i + length ps) list next h)
-      where
-        next : (i + length ps) % length ps ≡ 0
-        next = add-mod-right i (length ps) ∙ w
-
-    rest-far : (m i : ℕ) (list : List ℕ) → i % length ps ≡ 0 → i + m * length ps + length ps ≤ length bits → Rest i list ≡ Rest (i + m * length ps) list
-    rest-far zero i list w h = ap (λ (n : ℕ). Rest n list) (omega arith)
-    rest-far (suc m) i list w h =
-        rest-over i list w (omega arith)
-        ∙ rest-far m (i + length ps) list (add-mod-right i (length ps) ∙ w) (omega arith)
-        ∙ ap (λ (n : ℕ). Rest n list) (omega arith)
 
     -- ---- one round, as far as there are bits
 
@@ -119,11 +69,6 @@ module _ (ps bits : List ℕ) where
             ap (λ (js : List ℕ). putFrom 0 js (drop i bits) list)
             (turn-front ps i some v (length bits - i) (omega arith) ∙ ap (λ (n : ℕ). take n ps) (sym (length-drop i bits)))
 
-    -- the bits end within the first turn
-    pub one-round : {list list′ : List ℕ} {e : ℕ} → Put ps bits 0 list list′ e → e ≡ length bits → list′ ≡ putFrom 0 (tab (length bits) (turnAfterTurn ps)) bits list
-    one-round {list} {list′} {e} p h =
-        sym (sym (rest-all list) ∙ rest-round 0 (omega arith) (λ n. zero-mod (length ps)) p ∙ rest-end e list′ (omega arith))
-
 -- the bits from i on are lent
 lent-rest : (ps bits : List ℕ) (i : ℕ) {list list′ : List ℕ} {m : ℕ} → i ≤ length bits → Put ps (midOf i (length bits - i) bits) 0 list list′ m → Put ps bits i list list′ (i + m)
 lent-rest ps bits i {list} {list′} {m} h p = record {
@@ -131,54 +76,139 @@ lent-rest ps bits i {list} {list′} {m} h p = record {
   ends = omega (arith, p .ends, length-mid i (length bits) bits (omega arith));
 }
 
--- the first turn, and the last ones
-module _ (ps bits : List ℕ) (some : 0 < length ps) {part₀ part₁ part₂ : List ℕ} {turn from m : ℕ} (first : Put ps bits 0 part₀ part₁ turn)
-    (last : LastTurns turn (length bits) from) (second : Put ps (midOf from (length bits - from) bits) 0 part₁ part₂ m) where
+-- ---- turns that meet in a ring
+
+-- the turns up to bit i have met in the ring
+pub record Turning (n : ℕ) (bits ring : List ℕ) (i : ℕ) : Type 0 where
+  pub passed : (n + n ≤ i) × (i ≤ length bits)
+  pub whole : (i ≡ length bits → ⊥) → i % n ≡ 0
+  pub long : length ring ≡ n
+  pub told : Rest (tab n itself) bits i ring ≡ ringAfter n bits
+
+module _ {n : ℕ} {bits : List ℕ} (few : n + n ≤ length bits) where
+  -- the second turn is copied
+  pub turning-start : (ring₀ : List ℕ) {ring : List ℕ} → length ring₀ ≡ n → (let src = midOf n (n + n - n) bits in ring ≡ take (length src) src ++ drop (length src) ring₀)
+      → Turning n bits ring (n + n)
+  unfolding ringAfter
+  turning-start ring₀ {ring} l e = record {
+    passed = (omega arith, few);
+    whole = λ q. add-mod-right n n ∙ mod-self n;
+    long = ap length is ∙ second-long;
+    told = ap (Rest (tab n itself) bits (n + n)) is;
+  }
+    where
+      n-long : length (midOf n (n + n - n) bits) ≡ n
+      n-long = length-mid n (n + n) bits few ∙ add-sub-cancel-left n n
+
+      second : midOf n (n + n - n) bits ≡ take n (drop n bits)
+      second = ap (λ (m : ℕ). take m (drop n bits)) (add-sub-cancel-left n n)
+
+      second-long : length (take n (drop n bits)) ≡ n
+      second-long = ap length (sym second) ∙ n-long
+
+      is : ring ≡ take n (drop n bits)
+      is =
+          e
+          ∙ ap₂ _++_ (take-length (midOf n (n + n - n) bits) ∙ second) (drop-of-length-le ring₀ {i = length (midOf n (n + n - n) bits)} (omega (arith, n-long)))
+          ∙ append-nil (take n (drop n bits))
+
+  pub turning-next : {ring ring′ : List ℕ} {i e : ℕ} → 0 < n → i < length bits → Turning n bits ring i
+      → Put (tab (length ring) itself) bits i ring ring′ e → Turning n bits ring′ e
+  turning-next {ring} {ring′} {i} {e} some h t p = record {
+    passed = (omega (arith, ends, t .passed), omega (arith, ends));
+    whole = λ q. let is : e ≡ i + n = omega (arith, ends) in ap (λ (k : ℕ). k % n) is ∙ add-mod-right i n ∙ t .whole (λ l. omega arith);
+    long = put-long p ∙ t .long;
+    told =
+        sym (rest-round (tab n itself) bits (rw (length-tab n itself) some) i (omega arith) (λ l. rw (length-tab n itself) (t .whole l)) round)
+        ∙ t .told;
+  }
+    where
+      round : Put (tab n itself) bits i ring ring′ e
+      round = put-as (ap (λ (m : ℕ). tab m itself) (t .long)) p
+
+      ends : e ≡ min (i + n) (length bits)
+      ends = round .ends ∙ ap (λ (m : ℕ). min (i + m) (length bits)) (length-tab n itself)
+
+  pub turning-finish : {ring : List ℕ} {i : ℕ} → length bits ≤ i → Turning n bits ring i → ring ≡ ringAfter n bits
+  turning-finish {ring} {i} h t = sym (rest-end (tab n itself) bits i ring h) ∙ t .told
+
+length-ring : (n : ℕ) (bits : List ℕ) → n + n ≤ length bits → length (ringAfter n bits) ≡ n
+unfolding ringAfter
+length-ring n bits few = length-putFrom 0 _ (drop (n + n) bits) (take n (drop n bits)) ∙ length-take-le n (drop n bits) (rw (length-drop n bits) (omega arith))
+
+-- ---- the first turn, and what comes after it
+
+module _ (ps bits : List ℕ) (some : 0 < length ps) {part₀ part₁ : List ℕ} {n : ℕ} (first : Put ps bits 0 part₀ part₁ n) where
+  -- the first turn has been put
+  begun : putFrom 0 (tab (length bits) (turnAfterTurn ps)) bits part₀ ≡ Rest ps bits n part₁
+  begun = sym (rest-all ps bits part₀) ∙ rest-round ps bits some 0 (omega arith) (λ e. zero-mod (length ps)) first
+
   -- where more than a turn is put, a turn is known
-  known : (turn ≡ length bits → ⊥) → turn ≡ length ps
-  known e = omega (arith, first .ends)
+  known : n < length bits → n ≡ length ps
+  known h = omega (arith, first .ends)
 
-  pub to-within : from + m ≤ length bits
-  to-within = omega (arith, last .within, lent-rest ps bits from (last .within) second .ends)
+  pub first-some : n < length bits → 0 < n
+  first-some h = omega (arith, known h)
 
-  begins : (from ≡ length bits → ⊥) → from % length ps ≡ 0
-  begins e = rw (← (known (λ q. e (omega (arith, last .after, last .within))))) (last .whole)
-
-  skipped : Rest ps bits turn part₁ ≡ Rest ps bits from part₁
-  skipped = elim (ℕ-discrete from turn) [
-    | yes e ↦ ap (λ (n : ℕ). Rest ps bits n part₁) (sym e)
-    | no e ↦
-        let is : turn ≡ length ps = known (λ q. e (omega (arith, last .after, last .within))) in
-        let digits : from / length ps * length ps + from % length ps ≡ from = div-add-mod' from (length ps) in
-        far (from / length ps) is (omega (arith, digits, rw is at (last .whole))) (omega (arith, last .after)) (omega (arith, last .full e))
-  ]
-    where
-      far : (q : ℕ) → turn ≡ length ps → from ≡ q * length ps → turn ≤ from → from + turn ≤ length bits → Rest ps bits turn part₁ ≡ Rest ps bits from part₁
-      far zero is at low h = absurd (omega arith)
-      far (suc q) is at low h =
-          ap (λ (n : ℕ). Rest ps bits n part₁) is
-          ∙ rest-far ps bits some q (length ps) part₁ (mod-self (length ps)) (omega arith)
-          ∙ ap (λ (n : ℕ). Rest ps bits n part₁) (omega arith)
-
-  to-begins : (from + m ≡ length bits → ⊥) → (from + m) % length ps ≡ 0
-  to-begins e = ap (λ (n : ℕ). (from + n) % length ps) whole ∙ add-mod-right from (length ps) ∙ begins (λ q. e (omega (arith, q, to-within)))
-    where
-      whole : m ≡ length ps
-      whole = omega (arith, lent-rest ps bits from (last .within) second .ends)
-
-  pub rounds : {part₃ : List ℕ} {k : ℕ} → Put ps (midOf (from + m) (length bits - (from + m)) bits) 0 part₂ part₃ k
-      → part₃ ≡ putFrom 0 (tab (length bits) (turnAfterTurn ps)) bits part₀
-  rounds {part₃} {k} third =
+  -- not more than one turn is left
+  pub two-rounds : length bits - n ≤ n → {part₂ : List ℕ} {m : ℕ} → Put ps (midOf n (length bits - n) bits) 0 part₁ part₂ m
+      → part₂ ≡ putFrom 0 (tab (length bits) (turnAfterTurn ps)) bits part₀
+  two-rounds few {part₂} {m} second =
       sym
-      (sym (rest-all ps bits part₀)
-      ∙ rest-round ps bits some 0 (omega arith) (λ e. zero-mod (length ps)) first
-      ∙ skipped
-      ∙ rest-round ps bits some from (last .within) begins (lent-rest ps bits from (last .within) second)
-      ∙ rest-round ps bits some (from + m) to-within to-begins after
-      ∙ rest-end ps bits (from + m + k) part₃ all)
+      (begun
+      ∙ rest-round ps bits some n within (λ e. ap (λ (k : ℕ). k % length ps) (known (omega (arith, within))) ∙ mod-self (length ps)) left
+      ∙ rest-end ps bits (n + m) part₂ (omega (arith, left .ends, first .ends)))
     where
-      after : Put ps bits (from + m) part₂ part₃ (from + m + k)
-      after = lent-rest ps bits (from + m) to-within third
+      within : n ≤ length bits
+      within = omega (arith, first .ends)
 
-      all : length bits ≤ from + m + k
-      all = omega (arith, after .ends, lent-rest ps bits from (last .within) second .ends, first .ends, last .few)
+      left : Put ps bits n part₁ part₂ (n + m)
+      left = lent-rest ps bits n within second
+
+  -- more than one: they have met in a ring, which is put as one turn
+  pub ring-round : n < length bits - n → AreBits bits → {part₂ : List ℕ} → part₂ ≡ putAlong ps (ringAfter n bits) part₁
+      → part₂ ≡ putFrom 0 (tab (length bits) (turnAfterTurn ps)) bits part₀
+  unfolding putAlong ringAfter turnAfterTurn itself
+  ring-round more are {part₂} put =
+      put
+      ∙ ap (λ (js : List ℕ). putFrom 0 js (ringAfter n bits) part₁) (take-all (length (ringAfter n bits)) ps (omega (arith, length-ring n bits few, turn-is)))
+      ∙ through ps js (drop (n + n) bits) (take n (drop n bits)) part₁ (omega (arith, second-long, turn-is)) inside
+      (λ i. known-bit _ (take-below 2 (lit< tt) n (drop n bits) (drop-below 2 n bits are) i))
+      (λ i. known-bit _ (drop-below 2 (n + n) bits are i))
+      ∙ ap₂ (λ (ks : List ℕ) (l : List ℕ). putFrom 0 ks (drop (n + n) bits) l) places (putFrom-front 0 ps n (drop n bits) part₁ (omega (arith, turn-is)))
+      ∙ sym (begun ∙ second)
+    where
+      few : n + n ≤ length bits
+      few = omega arith
+
+      turn-is : n ≡ length ps
+      turn-is = known (omega arith)
+
+      js : List ℕ
+      js = tabFrom (n + n) (length bits - (n + n)) (turnAfterTurn (tab n itself))
+
+      second-long : length (take n (drop n bits)) ≡ n
+      second-long = length-take-le n (drop n bits) (rw (length-drop n bits) (omega arith))
+
+      -- bit k comes to entry k % n of the ring
+      entry : (k : ℕ) → getD (tab n itself) (k % length (tab n itself)) 0 ≡ k % length ps
+      entry k =
+          ap (λ (m : ℕ). getD (tab n itself) (k % m) 0) (length-tab n itself)
+          ∙ getD-tab n itself (k % n) 0 (mod-lt k (omega (arith, some, turn-is)))
+          ∙ ap (λ (m : ℕ). k % m) turn-is
+
+      inside : (i : ℕ) → i < length js → getD js i 0 < length ps
+      inside i h =
+          rw (getD-tabFrom (n + n) (length bits - (n + n)) (turnAfterTurn (tab n itself)) i 0 (omega (arith, length-tabFrom (n + n) (length bits - (n + n)) (turnAfterTurn (tab n itself)))), entry (n + n + i))
+          (mod-lt (n + n + i) some)
+
+      places : map (λ (k : ℕ). getD ps k 0) js ≡ tabFrom (n + n) (length bits - (n + n)) (turnAfterTurn ps)
+      places =
+          map-tabFrom (n + n) (length bits - (n + n)) (turnAfterTurn (tab n itself)) (λ (k : ℕ). getD ps k 0)
+          ∙ tabFrom-ext (n + n) (length bits - (n + n)) _ (turnAfterTurn ps) (λ k l m. ap (λ (i : ℕ). getD ps i 0) (entry k))
+
+      second : Rest ps bits n part₁ ≡ Rest ps bits (n + n) (putFrom 0 ps (drop n bits) part₁)
+      second =
+          ap (λ (m : ℕ). Rest ps bits m part₁) turn-is
+          ∙ rest-turn ps bits some (length ps) part₁ (mod-self (length ps)) (omega (arith, turn-is))
+          ∙ ap₂ (λ (m : ℕ) (l : ℕ). Rest ps bits m (putFrom 0 ps (drop l bits) part₁)) (omega (arith, turn-is)) (sym turn-is)

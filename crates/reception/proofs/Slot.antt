@@ -11,6 +11,7 @@ use lib.ListN.{length, drop}
 use borrow.Author.Tests.{le-ltb}
 use borrow.Rule.Slice.PartMut.{midOf, putMid, put-same}
 use Rattle.laws.proofs.Parts.{length-mid}
+use Rattle.laws.specs.Bits.{AreBits}
 use Rattle.segmentation.specs.Segmentation.{blocks}
 use Rattle.segmentation.specs.Sizes.{badSize}
 use Rattle.codeword.specs.Build.{badAllocation, badVersion}
@@ -66,12 +67,13 @@ module _ (M slot A Q N v : ℕ) (bits store : List ℕ) {from long : ℕ} (admit
   lent-long = length-mid from (from + long) store within ∙ add-sub-cancel-left from long
 
   -- what the parts of the reception may take for granted
-  pub room-accepts : badAllocation (blocks (A + 24)) Q N (length bits) ≡ false → Accepted A Q N v (length bits) (length (midOf from (from + long - from) store))
+  pub room-accepts : badAllocation (blocks (A + 24)) Q N (length bits) ≡ false → AreBits bits → Accepted A Q N v bits (length (midOf from (from + long - from) store))
   unfolding roomLength
-  room-accepts allocation = record {
+  room-accepts allocation given = record {
     size = admitted;
     allocation = allocation;
     version = version;
+    given = given;
     fits = omega (arith, lent-long, mul-le-mul-right perBlock few);
   }
 

@@ -1,11 +1,13 @@
--- Bits put at places as they come, 01 'Receive', and what the parts of a code block's circle may take for granted.
+-- Bits put at places as they come, 01 'Receive', turns brought together in a ring, and what the parts of a code block's circle may take for granted.
 -- Assumes nothing.
 use mathlib.Core.Path.{_≡_}
 use mathlib.Core.List.{List}
-use Prim.Native.Nat.{ℕ, _+_, _*_, _≤_, _<_, min}
+use Prim.Native.Nat.{ℕ, _+_, _-_, _*_, _≤_, _<_, min}
 use lib.ListN.{length, take, drop}
+use Rattle.laws.specs.Lists.{tab, tabFrom}
 use Rattle.rate_matching.specs.SubBlocks.{rows, dummies}
 use Rattle.rate_matching.specs.Circle.{circleLength}
+use Rattle.rate_matching.specs.Walk.{itself, turnAfterTurn}
 use Rattle.rate_matching.specs.Places.{longest}
 use Rattle.reception.specs.Parts.{putFrom}
 
@@ -17,6 +19,11 @@ putAlong places bits list = putFrom 0 (take (length bits) places) bits list
 pub record Put (places bits : List ℕ) (at : ℕ) (list list′ : List ℕ) (end : ℕ) : Type 0 where
   pub told : list′ ≡ putAlong places (drop at bits) list
   pub ends : end ≡ min (at + length places) (length bits)
+
+-- the turns of n bits after the first, brought together place by place: the second turn, and what comes after it meets what is there
+unfoldable pub ringAfter : ℕ → List ℕ → List ℕ
+ringAfter n bits =
+    putFrom 0 (tabFrom (n + n) (length bits - (n + n)) (turnAfterTurn (tab n itself))) (drop (n + n) bits) (take n (drop n bits))
 
 -- D places a stream with dummies before them, F of them filler, and a list of `long` entries that has the circle's places
 pub record Walked (D F long : ℕ) : Type 0 where

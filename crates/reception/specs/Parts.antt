@@ -3,8 +3,9 @@
 use mathlib.Core.Path.{_≡_}
 use mathlib.Core.Bool.{false}
 use mathlib.Core.List.{List, [], _∷_}
-use Prim.Native.Nat.{ℕ, _+_, _*_, _%_, _≤_}
+use Prim.Native.Nat.{ℕ, _+_, _*_, _≤_}
 use lib.ListN.{length, drop, getD}
+use Rattle.laws.specs.Bits.{AreBits}
 use Rattle.segmentation.specs.Segmentation.{blocks}
 use Rattle.segmentation.specs.Sizes.{badSize}
 use Rattle.rate_matching.specs.SubBlocks.{rows}
@@ -30,16 +31,9 @@ unfoldable pub roomAfter : ℕ → ℕ → ℕ → ℕ → List ℕ → List ℕ
 roomAfter A Q N v bits room = received 1 0 A Q N v bits room
 
 -- an accepted reception for a block of A bits, and a room of n bytes for its code blocks
-pub record Accepted (A Q N v G n : ℕ) : Type 0 where
+pub record Accepted (A Q N v : ℕ) (bits : List ℕ) (n : ℕ) : Type 0 where
   pub size : badSize A ≡ false
-  pub allocation : badAllocation (blocks (A + 24)) Q N G ≡ false
+  pub allocation : badAllocation (blocks (A + 24)) Q N (length bits) ≡ false
   pub version : v ≤ 3
+  pub given : AreBits bits
   pub fits : blocks (A + 24) * perBlock ≤ n
-
--- bit r of e is where a turn begins after the first: not more than two turns are left from there on, and a whole one where r is not the second turn's begin
-pub record LastTurns (turn e r : ℕ) : Type 0 where
-  pub whole : r % turn ≡ 0
-  pub after : turn ≤ r
-  pub within : r ≤ e
-  pub few : e ≤ r + 2 * turn
-  pub full : (r ≡ turn → ⊥) → r + turn ≤ e

@@ -2,16 +2,40 @@
 use rate_matching::rows_before;
 use rate_matching::table::columns;
 ghost use mathlib.Core.Path.{_≡_};
-ghost use Prim.Native.Nat.{_+_, _-_, _*_, _≤_};
+ghost use Prim.Native.Nat.{_+_, _-_, _*_, _≤_, _<_};
 ghost use lib.ListN.{length};
 ghost use Rattle.laws.specs.Lists.{tab, tabFrom};
 ghost use Rattle.rate_matching.specs.SubBlocks.{rows, rowsBefore};
 ghost use Rattle.rate_matching.specs.Circle.{startOf};
 ghost use Rattle.rate_matching.specs.Walk.{itself, turn};
 ghost use Rattle.rate_matching.specs.Shape.{shape, bitPlaces, second, pairPlaces, lastPlace};
-ghost use Rattle.reception.specs.Along.{Put, Walked, Column};
+ghost use Rattle.slots.specs.Room.{meet};
+ghost use Rattle.reception.specs.Along.{putAlong, Put, ringAfter, Walked, Column};
 
-// Puts the bits from `at` on over the front of a run, as many as there are of both, and tells where they end.
+// What a place that kept `old` keeps after the bit `new`: no branch, so that a run is met many places at a time.
+fn met(old: u8, new: u8) -> u8
+    ensures { λ r. ⌜ r ≡ meet old new ⌝ }
+{
+    if (old == 2) | (old > 3) | (old == new) {
+        new
+    } else {
+        3
+    }
+}
+
+// Puts bits at the front of a run.
+fn meet_run(bits: &[u8], run: &mut [u8])
+    requires { ⌜ length (now bits) ≤ length (now run) ⌝ }
+    ensures { λ _. ⌜ now (run .exit) ≡ putAlong (tab (length (now (bits .entry))) itself) (now (bits .entry)) (now (run .entry)) ⌝ }
+{
+    let mut i = 0;
+    while i < bits.len() {
+        run[i] = met(run[i], bits[i]);
+        i += 1;
+    }
+}
+
+// Puts the bits from `at` on at the front of a run, as many as there are of both, and tells where they end.
 fn put_run(bits: &[u8], at: usize, run: &mut [u8]) -> usize
     requires { ⌜ at ≤ length (now bits) ⌝ }
     ensures { λ r. ⌜ Put (tab (length (now (run .entry))) itself) (now (bits .entry)) at (now (run .entry)) (now (run .exit)) r ⌝ }
@@ -19,8 +43,21 @@ fn put_run(bits: &[u8], at: usize, run: &mut [u8]) -> usize
     let left = bits.len() - at;
     let n = if left < run.len() { left } else { run.len() };
     let end = at + n;
-    bytes::copy(&bits[at..end], run);
+    meet_run(&bits[at..end], run);
     end
+}
+
+// Brings the turns after the first together in a ring as long as a turn.
+pub(crate) fn meet_turns(bits: &[u8], ring: &mut [u8])
+    requires { ⌜ (0 < length (now ring)) × (length (now ring) + length (now ring) ≤ length (now bits)) ⌝ }
+    ensures { λ _. ⌜ now (ring .exit) ≡ ringAfter (length (now (ring .entry))) (now (bits .entry)) ⌝ }
+{
+    let n = ring.len();
+    let mut i = n + n;
+    bytes::copy(&bits[n..i], ring);
+    while i < bits.len() {
+        i = put_run(bits, i, ring);
+    }
 }
 
 // Puts bits in the columns of stream 0 from column `from` to column `to`.

@@ -76,7 +76,7 @@ fn put_and_count(
     bits: &[u8],
     room: &mut [u8],
 ) -> usize
-    requires { ⌜ Accepted size q n version (length (now bits)) (length (now room)) ⌝ }
+    requires { ⌜ Accepted size q n version (now bits) (length (now room)) ⌝ }
     ensures stored { λ r. ⌜ now (room .exit) ≡ roomAfter size q n version (now (bits .entry)) (now (room .entry)) ⌝ }
     ensures count { λ r. ⌜ r ≡ lacking 1 0 size (now (room .exit)) ⌝ }
 {

@@ -2,43 +2,69 @@
 use crate::circle;
 use slots::states::PER_BLOCK;
 ghost use mathlib.Core.Path.{_≡_};
-ghost use Prim.Native.Nat.{_≤_, _<_};
+ghost use Prim.Native.Nat.{_+_, _≤_, _<_};
 ghost use lib.ListN.{length};
-ghost use Rattle.slots.specs.State.{perBlock};
-ghost use Rattle.reception.specs.Parts.{partAfter, roomAfter, Accepted, LastTurns};
-ghost use Rattle.reception.specs.Along.{Walked};
+ghost use Rattle.laws.specs.Bits.{AreBits};
+ghost use Rattle.rate_matching.specs.SubBlocks.{rows};
+ghost use Rattle.rate_matching.specs.Circle.{startOf};
+ghost use Rattle.rate_matching.specs.Walk.{turn};
+ghost use Rattle.rate_matching.specs.Shape.{shape};
+ghost use Rattle.reception.specs.Parts.{partAfter, roomAfter, Accepted};
+ghost use Rattle.reception.specs.Along.{putAlong, ringAfter, Walked};
 
-// Where the last turns of `e` bits begin, the first having been put: not more than two turns are left from there on, and a whole one
-// where turns are left out.
-fn last_turns(turn: usize, e: usize) -> usize
-    requires { ⌜ (0 < turn) × (turn ≤ e) × (turn ≤ perBlock) ⌝ }
-    ensures { λ r. ⌜ LastTurns turn e r ⌝ }
+// The places of a turn that the short and the long ring have room for.
+const SHORT_RING: usize = 3168;
+
+const LONG_RING: usize = 18528;
+
+// Puts the turns after the first, which are more than one: they meet in a ring, which is put as one turn.
+fn put_turns(d: usize, filler: usize, version: usize, bits: &[u8], ring: &mut [u8], part: &mut [u8])
+    requires { ⌜ Walked d filler (length (now part)) × (version ≤ 3) × (0 < length (now ring)) × (length (now ring) + length (now ring) ≤ length (now bits)) ⌝ }
+    ensures { λ _. ⌜ now (part .exit) ≡ putAlong (turn (shape d filler) (startOf (rows d) version)) (ringAfter (length (now (ring .entry))) (now (bits .entry))) (now (part .entry)) ⌝ }
 {
-    if e <= 3 * turn {
-        turn
-    } else {
-        (e / turn - 1) * turn
-    }
+    circle::meet_turns(bits, ring);
+    circle::put_round(d, filler, version, ring, part);
 }
 
-// Puts the bits that redundancy version `version` sent of a code block with streams of d places, of which `filler` are filler. A later
-// bit replaces an earlier one, so that of many turns only the first, which tells how long a turn is, and the last are put.
+// The same with the short ring, for turns of n bits.
+fn put_short(d: usize, filler: usize, version: usize, n: usize, bits: &[u8], part: &mut [u8])
+    requires { ⌜ Walked d filler (length (now part)) × (version ≤ 3) × (0 < n) × (n ≤ 3168) × (n + n ≤ length (now bits)) ⌝ }
+    ensures { λ _. ⌜ now (part .exit) ≡ putAlong (turn (shape d filler) (startOf (rows d) version)) (ringAfter n (now (bits .entry))) (now (part .entry)) ⌝ }
+{
+    let mut ring = [0u8; SHORT_RING];
+    put_turns(d, filler, version, bits, &mut ring[..n], part);
+}
+
+// The same with the long ring.
+fn put_long(d: usize, filler: usize, version: usize, n: usize, bits: &[u8], part: &mut [u8])
+    requires { ⌜ Walked d filler (length (now part)) × (version ≤ 3) × (0 < n) × (n ≤ 18528) × (n + n ≤ length (now bits)) ⌝ }
+    ensures { λ _. ⌜ now (part .exit) ≡ putAlong (turn (shape d filler) (startOf (rows d) version)) (ringAfter n (now (bits .entry))) (now (part .entry)) ⌝ }
+{
+    let mut ring = [0u8; LONG_RING];
+    put_turns(d, filler, version, bits, &mut ring[..n], part);
+}
+
+// Puts the bits that redundancy version `version` sent of a code block with streams of d places, of which `filler` are filler. The first
+// turn tells how long a turn is.
 fn put_block(d: usize, filler: usize, version: usize, bits: &[u8], part: &mut [u8])
-    requires { ⌜ Walked d filler (length (now part)) × (version ≤ 3) ⌝ }
+    requires { ⌜ Walked d filler (length (now part)) × (version ≤ 3) × AreBits (now bits) ⌝ }
     ensures { λ _. ⌜ now (part .exit) ≡ partAfter d filler version (now (bits .entry)) (now (part .entry)) ⌝ }
 {
-    let turn = circle::put_round(d, filler, version, bits, part);
-    if turn == bits.len() {
+    let n = circle::put_round(d, filler, version, bits, part);
+    if bits.len() - n <= n {
+        circle::put_round(d, filler, version, &bits[n..], part);
         return;
     }
-    let from = last_turns(turn, bits.len());
-    let to = from + circle::put_round(d, filler, version, &bits[from..], part);
-    circle::put_round(d, filler, version, &bits[to..], part);
+    if n <= SHORT_RING {
+        put_short(d, filler, version, n, bits, part);
+        return;
+    }
+    put_long(d, filler, version, n, bits, part);
 }
 
 // Puts a reception's bits in a room: each code block has its stretch of the bits and its part of the room.
 pub(crate) fn put_blocks(a: usize, q: usize, n: usize, version: usize, bits: &[u8], room: &mut [u8])
-    requires { ⌜ Accepted a q n version (length (now bits)) (length (now room)) ⌝ }
+    requires { ⌜ Accepted a q n version (now bits) (length (now room)) ⌝ }
     ensures { λ _. ⌜ now (room .exit) ≡ roomAfter a q n version (now (bits .entry)) (now (room .entry)) ⌝ }
 {
     let s = segmentation::segments_for(a);

@@ -8,6 +8,7 @@ pub mod PlaceBounds
 pub mod Acceptance
 pub mod Sums
 pub mod First
+pub mod Meeting
 pub mod SameKept
 pub mod HeardBits
 pub mod Checks

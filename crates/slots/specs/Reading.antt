@@ -78,13 +78,16 @@ heardSequence M slot A store = heardFrom M slot (A + 24) store 0 (blocks (A + 24
 unfoldable pub wrongCheck : ℕ → ℕ → ℕ → List ℕ → Bool
 wrongCheck M slot A store = not (eqb (crc 24 gCRC24A (heardSequence M slot A store)) 0)
 
--- what Read answers from the room: 11 with the count, then 16 with the code block, then 12
+-- what Read answers where nothing is lacking: 16 with the code block, then 12
+abbrev pub checkedAnswer : ℕ → ℕ → ℕ → List ℕ → Answer
+checkedAnswer M slot A store =
+    cond (someWrong M slot A store) (WrongBlock (firstWrong M slot A store))
+    (cond (wrongCheck M slot A store) (Refused 12) Done)
+
+-- what Read answers from the room: 11 with the count, then 16 and 12
 unfoldable pub heardAnswer : ℕ → ℕ → ℕ → List ℕ → Answer
 heardAnswer M slot A store =
-    cond (eqb (lacking M slot A store) 0)
-    (cond (someWrong M slot A store) (WrongBlock (firstWrong M slot A store))
-    (cond (wrongCheck M slot A store) (Refused 12) Done))
-    (Lacking (lacking M slot A store))
+    cond (eqb (lacking M slot A store) 0) (checkedAnswer M slot A store) (Lacking (lacking M slot A store))
 
 -- the A bits that a read gives
 unfoldable pub heardBlock : ℕ → ℕ → ℕ → List ℕ → List ℕ

@@ -1,4 +1,4 @@
--- `circle::put_run` meets its contract: as many bits are copied as there are, and as the run has places (`Along`).
+-- `circle::put_run` meets its contract: as many bits meet the run as there are, and as the run has places (`Along`).
 -- Assumes nothing.
 use mathlib.Core.Path.{_≡_}
 use mathlib.Core.Logic.{⊎-elim}
@@ -7,7 +7,7 @@ use native.Mathlib.Omega.{arith}
 use lib.ListN.{length}
 use borrow.Author.Needs.{needs}
 use Rattle.laws.proofs.Parts.{length-mid}
-use Rattle.reception.proofs.Along.{run-copied}
+use Rattle.reception.proofs.Along.{run-met}
 use Rattle.reception.proofs.circle.put_run.Statement.{statement}
 use Rattle.reception.proofs.circle.put_run.Tie as tie
 
@@ -21,27 +21,27 @@ sub-left c = search needs
 add-end : tie.Need-add-end
 add-end c = omega (arith, fewer (c .before))
 
-sub-copy : tie.Need-sub-copy
-sub-copy c = search needs
+sub-meet-run : tie.Need-sub-meet-run
+sub-meet-run c = search needs
 
-part-copy-start : tie.Need-part-copy-start
-part-copy-start c = search needs
+part-meet-run-start : tie.Need-part-meet-run-start
+part-meet-run-start c = search needs
 
-part-copy-end : tie.Need-part-copy-end
-part-copy-end c = omega (arith, fewer (c .before))
+part-meet-run-end : tie.Need-part-meet-run-end
+part-meet-run-end c = omega (arith, fewer (c .before))
 
-copy-requires : tie.Need-copy-requires
-copy-requires c κs =
+meet-run-requires : tie.Need-meet-run-requires
+meet-run-requires c κs =
     let e = c .before .before .before .before .before .before in
     let n = c .before .before .before .if1 .n in
-    let lent = length-mid (e .args .at) (e .args .at + n) (e .args .bits .now) (part-copy-end (c .before .before)) in
+    let lent = length-mid (e .args .at) (e .args .at + n) (e .args .bits .now) (part-meet-run-end (c .before .before)) in
     omega (arith, lent, fewer (c .before .before .before))
 
 same-length : tie.Need-same-length
 same-length c = search needs
 
 returns : tie.Need-returns
-returns c = run-copied _ _ (c .before .before .before .before .before .before .before .before .before .pre) (fewer (c .before .before .before .before .before .before)) (c .before .before .copy .ensures .1)
+returns c = run-met _ _ (c .before .before .before .before .before .before .before .before .before .pre) (fewer (c .before .before .before .before .before .before)) (c .before .before .meet-run .ensures)
 
 pub put-run-spec : {M : Type 1} → statement M
 put-run-spec =
@@ -49,9 +49,9 @@ put-run-spec =
     (tie.spec
     sub-left
     add-end
-    sub-copy
-    part-copy-start
-    part-copy-end
-    copy-requires
+    sub-meet-run
+    part-meet-run-start
+    part-meet-run-end
+    meet-run-requires
     same-length
     returns)

@@ -1,35 +1,24 @@
--- `parts::put_block` meets its contract: the first turn and the last ones are all that is seen of the bits (`Rounds`).
+-- `parts::put_block` meets its contract: the first turn, and what comes after it in one round or by a ring (`Rounds`).
 -- Assumes nothing.
 use native.Mathlib.Omega.{arith}
 use borrow.Author.Needs.{needs}
 use Rattle.rate_matching.specs.Walk.{sentPlaces}
 use Rattle.reception.specs.Parts.{partAfter}
-use Rattle.reception.proofs.Along.{put-within}
-use Rattle.reception.proofs.Rounds.{one-round, rounds}
-use Rattle.reception.proofs.Walking.{round-some, round-few}
+use Rattle.reception.proofs.Along.{put-long}
+use Rattle.reception.proofs.Rounds.{first-some, two-rounds, ring-round}
+use Rattle.reception.proofs.Walking.{walked-still, round-some, round-few}
 use Rattle.reception.proofs.parts.put_block.Statement.{statement}
 use Rattle.reception.proofs.parts.put_block.Tie as tie
+
+-- the first turn is put: the function's entry
+abbrev entry : tie.After-put-round → tie.Start
+entry c = c .before .before .before .before
 
 put-round-requires : tie.Need-put-round-requires
 put-round-requires c κs = search needs
 
-same-length : tie.Need-same-length
-same-length c = search needs
-
-returns : tie.Need-returns
-unfolding partAfter sentPlaces
-returns c =
-    let first = c .before .before .before in
-    let e = first .before .before .before .before in
-    one-round _ _ (round-some (e .pre .0) (e .pre .1)) (first .put-round .ensures) (c .if1 .taken)
-
-last-turns-requires : tie.Need-last-turns-requires
-last-turns-requires c κs =
-    let put = c .before .before .before in
-    let e = put .before .before .before .before in
-    let some = round-some (e .pre .0) (e .pre .1) in
-    let few = round-few (e .pre .0) (e .pre .1) in
-    (omega (arith, put .put-round .ensures .ends, some), put-within (put .put-round .ensures), omega (arith, put .put-round .ensures .ends, few))
+sub-if1 : tie.Need-sub-if1
+sub-if1 c = search needs
 
 sub-put-round : tie.Need-sub-put-round
 sub-put-round c = search needs
@@ -43,20 +32,22 @@ part-put-round-end c = search needs
 put-round-requires-2 : tie.Need-put-round-requires-2
 put-round-requires-2 c κs = search needs
 
-add-to : tie.Need-add-to
-add-to c = search needs
+same-length : tie.Need-same-length
+same-length c = search needs
 
-sub-put-round-2 : tie.Need-sub-put-round-2
-sub-put-round-2 c = search needs
+returns : tie.Need-returns
+unfolding partAfter sentPlaces
+returns c =
+    let first = c .before .before .before .before .before .before .before .before in
+    let e = entry first in
+    two-rounds _ _ (round-some (e .pre .0) (e .pre .1)) (first .put-round .ensures) (omega arith) (c .before .before .put-round2 .ensures)
 
-part-put-round-start-2 : tie.Need-part-put-round-start-2
-part-put-round-start-2 c = search needs
-
-part-put-round-end-2 : tie.Need-part-put-round-end-2
-part-put-round-end-2 c = search needs
-
-put-round-requires-3 : tie.Need-put-round-requires-3
-put-round-requires-3 c κs = search needs
+put-short-requires : tie.Need-put-short-requires
+put-short-requires c κs =
+    let first = c .before .before .before .before .before in
+    let e = entry first in
+    let told = first .put-round .ensures in
+    (walked-still (e .pre .0) (put-long told), e .pre .1, first-some _ _ (round-some (e .pre .0) (e .pre .1)) told (omega arith), omega arith, omega arith)
 
 same-length-2 : tie.Need-same-length-2
 same-length-2 c = search needs
@@ -64,29 +55,42 @@ same-length-2 c = search needs
 returns-2 : tie.Need-returns-2
 unfolding partAfter sentPlaces
 returns-2 c =
-    let third = c .before .before in
-    let second = third .before .before .before .before .before in
-    let last = second .before .before .before in
-    let first = last .before .before .before .before in
-    let e = first .before .before .before .before in
-    rounds _ _ (round-some (e .pre .0) (e .pre .1)) (first .put-round .ensures) (last .last-turns .ensures) (second .put-round2 .ensures) (third .put-round3 .ensures)
+    let first = c .before .before .before .before .before .before .before .before in
+    let e = entry first in
+    ring-round _ _ (round-some (e .pre .0) (e .pre .1)) (first .put-round .ensures) (omega arith) (e .pre .2) (c .before .before .put-short .ensures)
+
+put-long-requires : tie.Need-put-long-requires
+put-long-requires c κs =
+    let first = c .before .before .before .before .before in
+    let e = entry first in
+    let told = first .put-round .ensures in
+    (walked-still (e .pre .0) (put-long told), e .pre .1, first-some _ _ (round-some (e .pre .0) (e .pre .1)) told (omega arith), omega (arith, told .ends, round-few (e .pre .0) (e .pre .1)), omega arith)
+
+same-length-3 : tie.Need-same-length-3
+same-length-3 c = search needs
+
+returns-3 : tie.Need-returns-3
+unfolding partAfter sentPlaces
+returns-3 c =
+    let first = c .before .before .before .before .before .before .before .before in
+    let e = entry first in
+    ring-round _ _ (round-some (e .pre .0) (e .pre .1)) (first .put-round .ensures) (omega arith) (e .pre .2) (c .before .before .put-long .ensures)
 
 pub put-block-spec : {M : Type 1} → statement M
 put-block-spec =
     tie.close
     (tie.spec
     put-round-requires
-    same-length
-    returns
-    last-turns-requires
+    sub-if1
     sub-put-round
     part-put-round-start
     part-put-round-end
     put-round-requires-2
-    add-to
-    sub-put-round-2
-    part-put-round-start-2
-    part-put-round-end-2
-    put-round-requires-3
+    same-length
+    returns
+    put-short-requires
     same-length-2
-    returns-2)
+    returns-2
+    put-long-requires
+    same-length-3
+    returns-3)

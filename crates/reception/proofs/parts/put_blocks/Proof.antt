@@ -4,7 +4,9 @@ use mathlib.Core.Path.{_≡_, _∙_, ap}
 use Prim.Native.Nat.{ℕ, _+_, _-_, _≤_, _<_}
 use native.Mathlib.Nat.{add-sub-cancel-left}
 use native.Mathlib.Omega.{arith}
-use lib.ListN.{length}
+use lib.Dec.{lit<}
+use lib.ListN.{length, drop}
+use Rattle.laws.proofs.AreBits.{take-below, drop-below}
 use Rattle.laws.proofs.Parts.{length-mid}
 use Rattle.segmentation.specs.Segmentation.{blocks, sizeOf}
 use Rattle.codeword.specs.Build.{shareOf}
@@ -92,9 +94,12 @@ put-block-requires : tie.Need-put-block-requires Inv-loop μ-loop
 put-block-requires c κs =
     let i = c .before .before .before .before .before in
     let r = i .before .loop .r in
+    let at = i .before .loop .at in
+    let E = c .before .before .share-of .result in
+    let given = entry i .args .bits .now in
     let filled = c .before .before .before .filler-of .ensures ∙ block i .filled in
     rw (size (c .before .before .before .before), filled, length-mid _ _ (i .before .loop .room) (part-fits i), add-sub-cancel-left (i .before .loop .from) 18528)
-    (block-walked _ (entry i .pre .size) r, entry i .pre .version)
+    (block-walked _ (entry i .pre .size) r, entry i .pre .version, take-below 2 (lit< tt) (at + E - at) (drop at given) (drop-below 2 at given (entry i .pre .given)))
 
 add-r : tie.Need-add-r Inv-loop μ-loop
 add-r c =

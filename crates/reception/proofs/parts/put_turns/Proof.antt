@@ -1,0 +1,40 @@
+-- `parts::put_turns` meets its contract: the ring has the turns, and is put.
+-- Assumes nothing.
+use mathlib.Core.Path.{_∙_, ap}
+use mathlib.Core.List.{List}
+use Prim.Native.Nat.{ℕ}
+use borrow.Author.Needs.{needs}
+use Rattle.rate_matching.specs.SubBlocks.{rows}
+use Rattle.rate_matching.specs.Circle.{startOf}
+use Rattle.rate_matching.specs.Walk.{turn}
+use Rattle.rate_matching.specs.Shape.{shape}
+use Rattle.reception.specs.Along.{putAlong}
+use Rattle.reception.proofs.parts.put_turns.Statement.{statement}
+use Rattle.reception.proofs.parts.put_turns.Tie as tie
+
+meet-turns-requires : tie.Need-meet-turns-requires
+meet-turns-requires c κs = search needs
+
+put-round-requires : tie.Need-put-round-requires
+put-round-requires c κs = search needs
+
+same-length : tie.Need-same-length
+same-length c = search needs
+
+same-length-2 : tie.Need-same-length-2
+same-length-2 c = search needs
+
+-- before the ring is put: the turns have met in it
+abbrev met : tie.After-put-round → tie.After-meet-turns
+met c = c .before .before .before .before .before
+
+returns : tie.Need-returns
+returns c =
+    let p = c .before .before in
+    let e = c .before .before .before .before .before .before .before .before .before .before .before .before .args in
+    p .put-round .ensures .told
+    ∙ ap (λ (l : List ℕ). putAlong (turn (shape (e .d) (e .filler)) (startOf (rows (e .d)) (e .version))) l (e .part .now)) (met p .meet-turns .ensures)
+
+pub put-turns-spec : {M : Type 1} → statement M
+put-turns-spec =
+    tie.close (tie.spec meet-turns-requires put-round-requires same-length same-length-2 returns)
