@@ -6,6 +6,8 @@ use lib.ListN.{length}
 use Rattle.segmentation.specs.declared.SizesAnswer.{SizesAnswer}
 use Rattle.segmentation.specs.Sizes.{sizesAnswer}
 use Rattle.codeword.specs.Build.{buildNumber, buildOutput}
+use Rattle.planning.specs.declared.WorstAnswer.{WorstAnswer}
+use Rattle.planning.specs.Worst.{worstAnswer}
 use Rattle.reports.specs.Calls.{reportBuildNumber, reportBuildOutput, partNumber, partOutput, dataPart}
 use Rattle.face.specs.Face.{sizesNumber, sizesBytes}
 use Rattle.control_messages.specs.declared.Owner.{Owner}
@@ -52,6 +54,10 @@ WhoseStatement run = Gives (whoseAnswer run) tt
 
 abbrev pub WhoseToCStatement : List ℕ → ℕ → Given ℕ ℕ → Type 0
 WhoseToCStatement run before = Gives (numberOf (whoseAnswer run)) (terminalOf (whoseAnswer run) before)
+
+-- how many repeats at worst
+abbrev pub WorstStatement : ℕ → ℕ → ℕ → Given WorstAnswer (Unit {0}) → Type 0
+WorstStatement A Q N = Gives (worstAnswer A Q N) tt
 
 abbrev pub NewStatement : ℕ → ℕ → Given Outcome (Unit {0}) → Type 0
 NewStatement S M = Gives (newOutcome S M) tt
