@@ -6,9 +6,10 @@
  *
  *   byte 0         1 for zemrukste_build, 2 for zemrukste_sizes, 3 for zemrukste_build_two, 4 for
  *                  zemrukste_report_build, 5 for zemrukste_report_part, 6 for
- *                  zemrukste_control_build, 7 for zemrukste_control_whose
+ *                  zemrukste_control_build, 7 for zemrukste_control_whose, 8 for zemrukste_pack, 9
+ *                  for zemrukste_unpack
  *   byte 1         what is lent as a null pointer, added (lengths 0 alone): 1 the block, the
- *                  header or the received run, 2 the output, 4 the payload
+ *                  header, the received run or the room, 2 the output, 4 the payload
  *   byte 2         the fill: what every byte of the output and its guards is before the call
  *   byte 3         0
  *   bytes 4 - 7    header_len, at most block_len, for zemrukste_build_two, else 0
@@ -21,7 +22,7 @@
  * zemrukste_report_part) and control, then the block or the received run, then the report. For
  * the control calls the block is the payload or the run, q is the terminal and g is e;
  * zemrukste_control_whose has an out_len of 2, and its output is the terminal, lowest byte
- * first. The answer is 8 bytes:
+ * first. A room to change is the block, and m is q. The answer is 8 bytes:
  *
  *   bytes 0 - 3    the number the call gave back
  *   byte 4         1 if the block (or run) and the report are the same after the call as
@@ -32,7 +33,7 @@
  *
  * Requests come one behind another and are answered in their order. The end of the input
  * between two requests ends the bridge with exit status 0; a request cut short, one of
- * another kind, a block above 65,536 bytes, a run or an output above 262,144 or a report
+ * another kind, a block above 65,536 bytes, a run, a room or an output above 262,144 or a report
  * above 4,096 with exit status 2.
  *
  * Freestanding but for read and write: no other library function, no memory but its own.
@@ -61,6 +62,8 @@ enum {
     REPORT_PART = 5,
     CONTROL_BUILD = 6,
     CONTROL_WHOSE = 7,
+    PACK = 8,
+    UNPACK = 9,
     NULL_BLOCK = 1,
     NULL_OUTPUT = 2,
     NULL_PAYLOAD = 4
@@ -170,6 +173,10 @@ static uint32_t called(uint8_t kind, uint8_t nulls, size_t header_len, size_t le
         return zemrukste_report_part(third, q, n, fourth, (size_t)number(7), lent, length, out, out_len);
     if (kind == CONTROL_BUILD)
         return zemrukste_control_build(lent, length, (uint16_t)q, fourth, out, out_len);
+    if (kind == PACK)
+        return zemrukste_pack(q, lent, length, out, out_len);
+    if (kind == UNPACK)
+        return zemrukste_unpack(q, lent, length, out, out_len);
     return whose(lent, length, out);
 }
 
@@ -184,11 +191,11 @@ static int serve(void)
     uint32_t given;
     size_t whole;
 
-    if (kind < BUILD || kind > CONTROL_WHOSE || out_len > OUTPUT_MAX)
+    if (kind < BUILD || kind > UNPACK || out_len > OUTPUT_MAX)
         return 0;
     if ((kind == CONTROL_BUILD && number(1) > 65535) || (kind == CONTROL_WHOSE && out_len != 2))
         return 0;
-    if (length > (kind == REPORT_PART ? RUN_MAX : BLOCK_MAX) || header_len > (kind == BUILD_TWO ? length : 0))
+    if (length > (kind == REPORT_PART || kind >= PACK ? RUN_MAX : BLOCK_MAX) || header_len > (kind == BUILD_TWO ? length : 0))
         return 0;
     if (kind == REPORT_BUILD || kind == REPORT_PART) {
         if (read_all(request + REQUEST_LEN, MORE_LEN) < MORE_LEN)

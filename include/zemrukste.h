@@ -2,7 +2,8 @@
  * Zemrukste: coding of the uplink shared channel (3GPP TS 36.212 V11.5.1, UL-SCH data and channel
  * reports ahead of it) and of downlink control messages (clause 5.3.3).
  *
- * Calls for the cell's scheduler. All work on numbers and byte slices alone:
+ * Calls for the cell's scheduler, and for the change of form of a room in a unit with less
+ * memory. All work on numbers and byte slices alone:
  *
  * - A bit is one byte, 0 or 1.
  * - A slice is a pointer and its length in bytes. A length of 0 may come with a null
@@ -41,6 +42,11 @@ extern "C" {
 /* Bytes that zemrukste_sizes writes. */
 #define ZEMRUKSTE_SIZES_LEN 24
 
+/* Bytes that a room has for each of its m code blocks, and those of its packed form; m is 1
+   to 5. */
+#define ZEMRUKSTE_ROOM_PER_BLOCK 18528
+#define ZEMRUKSTE_PACKED_PER_BLOCK 4632
+
 /* The numbers given back, and what to do about each. */
 #define ZEMRUKSTE_OK 0
 /* The block's length A is not 1 to 30,576: choose a transport block size in that range. */
@@ -58,8 +64,12 @@ extern "C" {
 #define ZEMRUKSTE_BAD_VERSION 4
 /* The output is too short: lend at least g bytes (zemrukste_build, zemrukste_build_two),
    n * control + g (zemrukste_report_build), o (zemrukste_report_part), 24 (zemrukste_sizes),
-   e (zemrukste_control_build). */
+   e (zemrukste_control_build).
+   For the change of form either buffer is too short: lend a whole room and the whole of its
+   other form. */
 #define ZEMRUKSTE_SHORT_OUTPUT 5
+/* m is not 1 to 5: give the M of the state that the room belongs to. */
+#define ZEMRUKSTE_BAD_SHAPE 13
 /* A report has 1 to 11 bits: correct its length. */
 #define ZEMRUKSTE_BAD_REPORT 17
 /* The control bits a layer are not a positive multiple of q, or above 4,096: correct the
@@ -196,6 +206,28 @@ uint32_t zemrukste_control_build(const uint8_t *payload, size_t payload_len, uin
  * own. Refused: *terminal stays as it was. Refusals in their order: 20, 2.
  */
 uint32_t zemrukste_control_whose(const uint8_t *run, size_t run_len, uint16_t *terminal);
+
+/*
+ * The packed form of one room, and the room back from it. A room keeps one place a byte; its
+ * packed form keeps four places a byte, the first in the top two bits: v0 * 64 + v1 * 16 +
+ * v2 * 4 + v3.
+ *
+ *   m                  the code blocks that the room is for: 1 to 5
+ *   from, from_len     the room: at least 18,528 * m bytes (zemrukste_pack), 4,632 * m
+ *                      (zemrukste_unpack)
+ *   to, to_len         the other form: at least 4,632 * m bytes (zemrukste_pack), 18,528 * m
+ *                      (zemrukste_unpack)
+ *
+ * Accepted (0): the first 4,632 * m (18,528 * m) bytes of to are the room in the other form;
+ * the others stay as they were. A place of a room with a value above 3 means unheard and
+ * becomes 2, which means the same: there and back gives the room with that one change, back
+ * and there gives the packed room itself. Refused: every byte of to stays as it was.
+ * Refusals in their order: 13, 5.
+ */
+uint32_t zemrukste_pack(size_t m, const uint8_t *from, size_t from_len, uint8_t *to,
+                        size_t to_len);
+uint32_t zemrukste_unpack(size_t m, const uint8_t *from, size_t from_len, uint8_t *to,
+                          size_t to_len);
 
 #ifdef __cplusplus
 }

@@ -5,8 +5,10 @@
 use crate::cases_control;
 use crate::codeword::{segmentation_of, A_MAX, G_MAX};
 use crate::control;
+use crate::packing::PACKED_OF_BLOCK;
 use crate::protocol::{BLOCK_MAX, OUTPUT_MAX};
 use crate::report::{self, CONTROL_MAX, O_MAX};
+use crate::slots::{BLOCKS_MAX, ROOM_OF_BLOCK};
 use crate::table::TABLE;
 use crate::xorshift::{self, Generator};
 
@@ -33,6 +35,36 @@ pub enum Asked {
     ReportPart(ReportPart),
     Control(Control),
     Whose(Block),
+    Change(Change),
+}
+
+/// The change of form of one room.
+#[derive(Clone, Debug)]
+pub struct Change {
+    pub way: Way,
+    pub m: usize,
+    /// How many bytes are lent to be changed, and what makes them.
+    pub length: usize,
+    pub seed: u64,
+}
+
+#[derive(Clone, Copy, Debug, PartialEq, Eq)]
+pub enum Way {
+    Pack,
+    Unpack,
+}
+
+impl Change {
+    /// Any bytes; to be packed, often places as a room has them, now and then higher ones.
+    pub fn bytes(&self) -> Vec<u8> {
+        let mut random = Generator::new(self.seed);
+        let mut byte = || random.below(256) as u8;
+        let mut any = |_| match self.way {
+            Way::Pack => byte() >> (byte() & 7),
+            Way::Unpack => byte(),
+        };
+        (0..self.length).map(&mut any).collect()
+    }
 }
 
 /// A report ahead of a block.
@@ -149,6 +181,7 @@ pub fn all(seed: u64, random: usize) -> Vec<Case> {
     maker.reports();
     maker.runs();
     maker.run_faults();
+    maker.changes();
     maker.cases.append(&mut cases_control::all(seed, random));
     maker.cases
 }
@@ -592,6 +625,43 @@ impl Maker {
         let run = Run { report, ahead, flips, data };
         let length = o + self.random.below(3);
         self.push(group, Asked::ReportPart(ReportPart { a, q, n, o, control, run }), length);
+    }
+
+    // The change of form of a room.
+
+    /// Each M: buffers just long enough, longer, each just too short and both; M out of range, which comes first.
+    fn changes(&mut self) {
+        for way in [Way::Pack, Way::Unpack] {
+            let (read, written) = match way {
+                Way::Pack => (ROOM_OF_BLOCK, PACKED_OF_BLOCK),
+                Way::Unpack => (PACKED_OF_BLOCK, ROOM_OF_BLOCK),
+            };
+            for m in 1..=BLOCKS_MAX {
+                let (from, to) = (m * read, m * written);
+                for (from, to) in [(from, to), (from + 1, to), (from, to + 3), (from + 4, to + 100)] {
+                    self.change("change of form", way, m, from, to);
+                }
+                for (from, to) in [(from - 1, to), (from, to - 1), (from - 1, to - 1), (0, to), (from, 0)] {
+                    self.change("buffers too short", way, m, from, to);
+                }
+            }
+            for m in [0, BLOCKS_MAX + 1, 255].into_iter().chain(HUGE) {
+                for (from, to) in [(5 * read, 5 * written), (read, written), (1, 1)] {
+                    self.change("M out of range", way, m, from, to);
+                }
+                self.change("null buffers", way, m, 0, 0);
+                self.last().null_block = true;
+                self.last().null_output = true;
+            }
+            self.change("null buffers", way, 1, 0, 0);
+            self.last().null_block = true;
+            self.last().null_output = true;
+        }
+    }
+
+    fn change(&mut self, group: &'static str, way: Way, m: usize, length: usize, output_length: usize) {
+        let seed = self.random.number();
+        self.push(group, Asked::Change(Change { way, m, length, seed }), output_length);
     }
 
     // Helps.

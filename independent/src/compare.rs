@@ -1,9 +1,10 @@
 //! Compares another program, behind a bridge, with the literal modules: every answer, and
 //! every byte of every output.
 
-use crate::cases::{self, Asked, Block, Build, Case, Content, Control, ReportBuild, ReportPart};
+use crate::cases::{self, Asked, Block, Build, Case, Change, Content, Control, ReportBuild, ReportPart, Way};
 use crate::codeword;
 use crate::control;
+use crate::packing;
 use crate::rate;
 use crate::report;
 use crate::sizes;
@@ -105,6 +106,8 @@ fn request(case: &Case) -> Request {
             Call::BuildTwo { block: block.bytes(), cut: *cut, q: *q, n: *n, version: *version, g: *g }
         }
         Asked::Sizes(a) => Call::Sizes { a: *a },
+        Asked::Change(change @ Change { way: Way::Pack, m, .. }) => Call::Pack { m: *m, from: change.bytes() },
+        Asked::Change(change @ Change { way: Way::Unpack, m, .. }) => Call::Unpack { m: *m, from: change.bytes() },
         Asked::ReportBuild(ReportBuild { report, control, data }) => Call::ReportBuild {
             report: report.bytes(),
             control: *control,
@@ -146,6 +149,8 @@ pub fn expected(case: &Case) -> Answer {
             codeword::build_two_into(header, payload, *q, *n, *version, *g, lent)
         }
         Asked::Sizes(a) => sizes_into(*a, lent),
+        Asked::Change(change @ Change { way: Way::Pack, m, .. }) => packing::pack(*m, &change.bytes(), lent),
+        Asked::Change(change @ Change { way: Way::Unpack, m, .. }) => packing::unpack(*m, &change.bytes(), lent),
         Asked::ReportBuild(ReportBuild { report, control, data }) => {
             let Build { block, q, n, version, g } = data;
             report::build_into(&report.bytes(), *control, &block.bytes(), *q, *n, *version, *g, lent)
@@ -263,6 +268,9 @@ fn description(case: &Case) -> String {
     };
     match &case.asked {
         Asked::Sizes(a) => format!("Sizes: A = {a}, {lent}"),
+        Asked::Change(Change { way, m, length, seed }) => {
+            format!("{way:?}: M = {m}, {length} bytes of seed {seed}, {lent}")
+        }
         Asked::Build(build) | Asked::BuildTwo(build, _) => {
             let name = match case.asked {
                 Asked::BuildTwo(_, cut) => format!("Build of two slices, cut behind {cut} bits"),

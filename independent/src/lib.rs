@@ -19,6 +19,7 @@ pub mod codeword; // 5.1.5, and the whole chain
 pub mod report; // 5.2.2.6.4 and 5.2.2.7, E3 of 02
 pub mod control; // 5.3.3, with 5.1.3.1 and 5.1.4.2
 pub mod slots; // New, Open, Receive, Read, Streams and Close of 01
+pub mod packing; // the packed form of a room, 02 E7
 pub mod sizes; // the call Sizes and the sizes program of 01
 pub mod worst; // how many repeats at worst, E8 of 02
 pub mod stage; // every stage as readable text

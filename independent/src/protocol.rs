@@ -2,14 +2,14 @@
 //! `face/bridge.c`. Numbers are lowest byte first.
 //!
 //! A request is 56 bytes: its kind (1 Build, 2 Sizes, 3 Build of two slices, 4 Build with a
-//! report, 5 the report of a run, 6 a control message, 7 whose it is), null pointers (1 block,
-//! header or run, 2 output, 4 payload), the fill, a zero, the header's length as 4 bytes (0 but
+//! report, 5 the report of a run, 6 a control message, 7 whose it is, 8 Pack, 9 Unpack), null
+//! pointers (1 block, header, run or room, 2 output, 4 payload), the fill, a zero, the header's length as 4 bytes (0 but
 //! for the third kind), then block length (or A), Q, N, version, G and output length as 8 bytes
 //! each; kind 5 has the run's length, Q, N, A, O and output length there. Kinds 4 and 5 have two
 //! more numbers behind it, the report's length (0 for kind 5) and the control bits a layer. Then
 //! come the block or run, of two slices the header first, and the report. A control message's
 //! block is the payload or the run, its Q the terminal, its G the E; whose a run is lies in an
-//! output of two bytes. An answer is 8 bytes: the number given back
+//! output of two bytes. A room to change is the block, and M its Q. An answer is 8 bytes: the number given back
 //! as 4, then 1 if the block is unchanged, three zeros; the output comes behind it between
 //! two guards. Before the call every byte of output and guards is the fill.
 
@@ -33,6 +33,8 @@ const REPORT_BUILD: u8 = 4;
 const REPORT_PART: u8 = 5;
 const CONTROL: u8 = 6;
 const WHOSE: u8 = 7;
+const PACK: u8 = 8;
+const UNPACK: u8 = 9;
 const NULL_BLOCK: u8 = 1;
 const NULL_OUTPUT: u8 = 2;
 const NULL_PAYLOAD: u8 = 4;
@@ -48,6 +50,8 @@ pub enum Call {
     ReportPart { a: usize, q: usize, n: usize, o: usize, control: usize, received: Vec<u8> },
     Control { payload: Vec<u8>, terminal: u16, e: usize },
     Whose { run: Vec<u8> },
+    Pack { m: usize, from: Vec<u8> },
+    Unpack { m: usize, from: Vec<u8> },
 }
 
 #[derive(Debug, PartialEq, Eq)]
@@ -80,6 +84,8 @@ impl Request {
                 (BUILD_TWO, block, *cut, [block.len(), *q, *n, *version, *g], None)
             }
             Call::Sizes { a } => (SIZES, none, 0, [*a, 0, 0, 0, 0], None),
+            Call::Pack { m, from } => (PACK, from, 0, [from.len(), *m, 0, 0, 0], None),
+            Call::Unpack { m, from } => (UNPACK, from, 0, [from.len(), *m, 0, 0, 0], None),
             Call::ReportBuild { report, control, block, q, n, version, g } => {
                 (REPORT_BUILD, block, 0, [block.len(), *q, *n, *version, *g], Some((report, *control)))
             }
@@ -115,8 +121,9 @@ impl Request {
         let number = |place: usize| u64::from_le_bytes(numbers[place]) as usize;
         let output_length = limited(number(5), OUTPUT_MAX)?;
         let mut block = Vec::new();
-        if [BUILD, BUILD_TWO, CONTROL, WHOSE].contains(&head[0]) {
-            block.resize(limited(number(0), BLOCK_MAX)?, 0);
+        if [BUILD, BUILD_TWO, CONTROL, WHOSE, PACK, UNPACK].contains(&head[0]) {
+            let most = if head[0] < PACK { BLOCK_MAX } else { RUN_MAX };
+            block.resize(limited(number(0), most)?, 0);
             from.read_exact(&mut block)?;
         }
         let [q, n, version, g] = [1, 2, 3, 4].map(number);
@@ -128,6 +135,8 @@ impl Request {
                 Call::BuildTwo { block, cut, q, n, version, g }
             }
             SIZES => Call::Sizes { a: number(0) },
+            PACK => Call::Pack { m: q, from: block },
+            UNPACK => Call::Unpack { m: q, from: block },
             REPORT_BUILD | REPORT_PART => {
                 let mut further = [0; 16];
                 from.read_exact(&mut further)?;

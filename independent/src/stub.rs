@@ -6,6 +6,7 @@ use crate::control;
 use crate::compare::sizes_into;
 use crate::crc;
 use crate::fast::Workspace;
+use crate::packing;
 use crate::fast_control;
 use crate::protocol::{Answer, Call, Request, GUARD};
 use crate::rate;
@@ -41,6 +42,9 @@ pub enum Fault {
     TurboColumns,
     LateEnd,
     WhoseOnRefusal,
+    LowFirst,
+    NoChange,
+    LastGroup,
     EndsEarly,
     Garbles,
     ControlLate,
@@ -50,7 +54,7 @@ pub enum Fault {
 use Fault::*;
 
 /// The faults by their names.
-pub const FAULTS: [(&str, Fault); 29] = [
+pub const FAULTS: [(&str, Fault); 32] = [
     ("long-first", LongFirst),                  // long code blocks come first
     ("early-shares", EarlyShares),              // the early code blocks have the larger share
     ("start-at-zero", StartAtZero),             // the walk starts at place 0
@@ -76,6 +80,9 @@ pub const FAULTS: [(&str, Fault); 29] = [
     ("turbo-columns", TurboColumns),           // table 5.1.4-1 for 5.1.4-2
     ("late-end", LateEnd),                     // 5 before 3
     ("whose-on-refusal", WhoseOnRefusal),      // a refused run names terminal 0
+    ("low-first", LowFirst),                    // the first place in the low bits
+    ("no-change", NoChange),                    // 3 becomes 2
+    ("last-group", LastGroup),                  // the last four places are left out
     ("ends-early", EndsEarly),                  // ends after 1,000 answers
     ("garbles", Garbles),                       // answers out of form
     ("control-late", ControlLate),              // 17 after 18
@@ -132,6 +139,8 @@ impl Stub {
                 self.build(&block, unseen, q, n, version, g, lent)
             }
             Call::Sizes { a } => self.sizes(a, lent),
+            Call::Pack { m, from } => self.pack(m, from, lent),
+            Call::Unpack { m, from } => packing::unpack(m, &from, lent),
             Call::ReportBuild { report, control, block, q, n, version, g } => {
                 self.report_build(&report, control, &block, q, n, version, g, lent)
             }
@@ -144,6 +153,21 @@ impl Stub {
         }
         let number = answer.map_or_else(u32::from, |()| 0);
         Answer { number, block_kept: !(self.has(WritesBlock) && number == 0), output }
+    }
+
+    fn pack(&self, m: usize, mut from: Vec<u8>, output: &mut [u8]) -> Result<(), u8> {
+        if self.has(NoChange) {
+            from.iter_mut().for_each(|value| *value = if *value == 3 { 2 } else { *value });
+        }
+        if self.has(LowFirst) {
+            from.as_chunks_mut::<4>().0.iter_mut().for_each(|places| places.reverse());
+        }
+        let last = output.get(m.wrapping_mul(packing::PACKED_OF_BLOCK).wrapping_sub(1)).copied();
+        packing::pack(m, &from, output)?;
+        if let (true, Some(byte)) = (self.has(LastGroup), last) {
+            output[m * packing::PACKED_OF_BLOCK - 1] = byte;
+        }
+        Ok(())
     }
 
     fn sizes(&self, a: usize, output: &mut [u8]) -> Result<(), u8> {

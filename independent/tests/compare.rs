@@ -223,6 +223,12 @@ fn requests_and_answers_in_bytes() {
     request.write(&mut bytes).unwrap();
     assert_eq!((bytes.len(), &bytes[..10]), (56, &[2, 2, 255, 0, 0, 0, 0, 0, 0x71, 0x77][..]));
     assert_eq!(Request::read(&mut &bytes[..]).unwrap(), Some(request));
+    let call = Call::Unpack { m: 2, from: vec![170] };
+    let request = Request { call, output_length: 4, fill: 3, null_block, null_output, null_payload };
+    let mut bytes = Vec::new();
+    request.write(&mut bytes).unwrap();
+    assert_eq!((bytes.len(), bytes[0], bytes[16], bytes[56]), (57, 9, 2, 170));
+    assert_eq!(Request::read(&mut &bytes[..]).unwrap(), Some(request));
     let answer = Answer { number: 0x0102_0304, block_kept: true, output: vec![9; 2 * GUARD + 1] };
     let mut bytes = Vec::new();
     answer.write(&mut bytes).unwrap();

@@ -7,6 +7,7 @@ ghost use Prim.Native.Nat.{_*_};
 ghost use lib.ListN.{length};
 ghost use Rattle.codeword.specs.Build.{buildNumber, buildOutput};
 ghost use Rattle.reports.specs.Calls.{reportBuildNumber, reportBuildOutput, partNumber, partOutput};
+ghost use Rattle.packing.specs.Change.{packNumber, packOutput, unpackNumber, unpackOutput};
 ghost use Rattle.face.specs.Face.{fourBytes, inBytes, sizesNumber, sizesBytes};
 
 // Build: 0, or the number of the refusal, which writes nothing.
@@ -93,6 +94,24 @@ pub extern "C" fn zemrukste_report_part(
     ensures output { λ r. ⌜ now (out .exit) ≡ partOutput a q n o control (now (received .entry)) (now (out .entry)) ⌝ }
 {
     reports::part(a, q, n, o, control, received, out) as u32
+}
+
+// The packed form of one room of m code blocks: 0, or the number of the refusal, which writes nothing.
+#[no_mangle]
+pub extern "C" fn zemrukste_pack(m: usize, from: &[u8], to: &mut [u8]) -> u32
+    ensures number { λ r. ⌜ r ≡ packNumber m (length (now (from .entry))) (length (now (to .entry))) ⌝ }
+    ensures output { λ r. ⌜ now (to .exit) ≡ packOutput m (now (from .entry)) (now (to .entry)) ⌝ }
+{
+    packing::pack_room(m, from, to) as u32
+}
+
+// The room of m code blocks back from its packed form: 0, or the number of the refusal, which writes nothing.
+#[no_mangle]
+pub extern "C" fn zemrukste_unpack(m: usize, from: &[u8], to: &mut [u8]) -> u32
+    ensures number { λ r. ⌜ r ≡ unpackNumber m (length (now (from .entry))) (length (now (to .entry))) ⌝ }
+    ensures output { λ r. ⌜ now (to .exit) ≡ unpackOutput m (now (from .entry)) (now (to .entry)) ⌝ }
+{
+    packing::unpack_room(m, from, to) as u32
 }
 
 // The numbers one after another, four bytes each.

@@ -5,7 +5,7 @@ use mathlib.Core.List.{List, [], append-nil}
 use Prim.Native.Nat.{ℕ}
 use Rattle.slots.specs.declared.State.{State}
 use Rattle.statements.specs.Outcome.{Given, Gives, SingleOutcome}
-use Rattle.statements.specs.Calls.{SizesStatement, BuildStatement, BuildTwoStatement, SizesToCStatement, ReportBuildStatement, ReportPartStatement, DataPartStatement, ControlStatement, WhoseStatement, WhoseToCStatement, WorstStatement, NewStatement, OpenStatement, ReceiveStatement, ReadStatement, StreamsStatement, CloseStatement}
+use Rattle.statements.specs.Calls.{SizesStatement, BuildStatement, BuildTwoStatement, SizesToCStatement, ReportBuildStatement, ReportPartStatement, DataPartStatement, ControlStatement, WhoseStatement, WhoseToCStatement, WorstStatement, PackStatement, UnpackStatement, NewStatement, OpenStatement, ReceiveStatement, ReadStatement, StreamsStatement, CloseStatement}
 
 -- the law: what an answer and the bytes afterwards are said to be, they are
 pub single : {A B : Type 0} (answer : A) (after : B) → SingleOutcome (Gives answer after)
@@ -48,6 +48,12 @@ whose-to-c-single run before = single _ _
 
 pub worst-single : (A Q N : ℕ) → SingleOutcome (WorstStatement A Q N)
 worst-single A Q N = single _ _
+
+pub pack-single : (M : ℕ) (from to : List ℕ) → SingleOutcome (PackStatement M from to)
+pack-single M from to = single _ _
+
+pub unpack-single : (M : ℕ) (from to : List ℕ) → SingleOutcome (UnpackStatement M from to)
+unpack-single M from to = single _ _
 
 pub new-single : (S M : ℕ) → SingleOutcome (NewStatement S M)
 new-single S M = single _ _

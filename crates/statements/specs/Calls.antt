@@ -15,6 +15,7 @@ use Rattle.control_messages.specs.Calls.{controlNumber, controlOutput, whoseAns
 use Rattle.slots.specs.declared.State.{State}
 use Rattle.slots.specs.declared.Outcome.{Outcome}
 use Rattle.slots.specs.Calls.{newOutcome, openOutcome, openStore, receiveOutcome, receiveStore, readOutcome, readOutput, streamsOutcome, streamsOutput, closeOutcome}
+use Rattle.packing.specs.Change.{packNumber, packOutput, unpackNumber, unpackOutput}
 use Rattle.statements.specs.Outcome.{Given, Gives}
 
 -- Sizes and New lend nothing
@@ -58,6 +59,13 @@ WhoseToCStatement run before = Gives (numberOf (whoseAnswer run)) (terminalOf (w
 -- how many repeats at worst
 abbrev pub WorstStatement : ℕ → ℕ → ℕ → Given WorstAnswer (Unit {0}) → Type 0
 WorstStatement A Q N = Gives (worstAnswer A Q N) tt
+
+-- the change of form of one room, both ways, and zemrukste_pack and zemrukste_unpack
+abbrev pub PackStatement : ℕ → List ℕ → List ℕ → Given ℕ (List ℕ) → Type 0
+PackStatement M from to = Gives (packNumber M (length from) (length to)) (packOutput M from to)
+
+abbrev pub UnpackStatement : ℕ → List ℕ → List ℕ → Given ℕ (List ℕ) → Type 0
+UnpackStatement M from to = Gives (unpackNumber M (length from) (length to)) (unpackOutput M from to)
 
 abbrev pub NewStatement : ℕ → ℕ → Given Outcome (Unit {0}) → Type 0
 NewStatement S M = Gives (newOutcome S M) tt

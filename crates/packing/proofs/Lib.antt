@@ -1,0 +1,5 @@
+pub mod Places
+pub mod Forms
+pub mod Changing
+pub mod Rooms
+pub mod Carried

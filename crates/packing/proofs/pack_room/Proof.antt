@@ -1,0 +1,81 @@
+-- `pack_room` meets its contract: the refusals in their order, and the room packed over the front (`Rooms`).
+-- Assumes nothing.
+use mathlib.Core.Path.{_≡_, sym, _∙_}
+use mathlib.Core.Bool.{false}
+use Prim.Native.Nat.{_*_, _≤_}
+use native.Mathlib.Omega.{arith}
+use borrow.Author.Needs.{needs}
+use Rattle.laws.proofs.Parts.{front-count}
+use Rattle.slots.specs.State.{roomLength}
+use Rattle.packing.specs.Change.{packedLength, badBlocks, packNumber, packOutput}
+use Rattle.packing.proofs.Rooms.{in-range, refused-13, refused-5, refused-5-too, accepted, packed-room}
+use Rattle.packing.proofs.pack_room.Statement.{statement}
+use Rattle.packing.proofs.pack_room.Tie as tie
+
+good : (c : tie.Else1) → badBlocks (c .before .before .before .before .args .m) ≡ false
+good c = sym (c .before .bad-blocks .ensures) ∙ c .if1 .left
+
+few : (c : tie.Else1) → c .before .before .before .before .args .m ≤ 5
+few c = in-range _ (good c) .1
+
+bad-blocks-requires : tie.Need-bad-blocks-requires
+bad-blocks-requires c κs = search needs
+
+returns : tie.Need-returns
+unfolding packNumber packOutput
+returns c = refused-13 _ _ _ _ _ _ _ (sym (c .before .bad-blocks .ensures) ∙ c .if1 .taken)
+
+mul-long : tie.Need-mul-long
+mul-long c = omega (arith, few c)
+
+mul-short : tie.Need-mul-short
+mul-short c = omega (arith, few c)
+
+returns-2 : tie.Need-returns-2
+unfolding packNumber packOutput packedLength roomLength
+returns-2 c = refused-5 _ _ _ _ _ _ _ (good (c .before)) (c .if2 .taken)
+
+returns-3 : tie.Need-returns-3
+unfolding packNumber packOutput packedLength roomLength
+returns-3 c = refused-5-too _ _ _ _ _ _ _ (good (c .before .before)) (c .before .if2 .left) (c .if3 .taken)
+
+slice-aggregate-pack-places : tie.Need-slice-aggregate-pack-places
+slice-aggregate-pack-places c = front-count _ _ (c .before .before .if2 .left)
+
+slice-relend-prefix-pack-places : tie.Need-slice-relend-prefix-pack-places
+slice-relend-prefix-pack-places c = search needs
+
+slice-aggregate-pack-places-2 : tie.Need-slice-aggregate-pack-places-2
+slice-aggregate-pack-places-2 c = front-count _ _ (c .before .before .if3 .left)
+
+pack-places-requires : tie.Need-pack-places-requires
+pack-places-requires c κs = search needs
+
+same-length : tie.Need-same-length
+same-length c = search needs
+
+returns-4 : tie.Need-returns-4
+unfolding packNumber packOutput packedLength roomLength
+returns-4 c =
+    let put = c .before .before in
+    let third = put .before .before .before in
+    let e = third .before .before .before .before .before .before in
+    accepted _ _ _ _ _ _ _ (good (third .before .before)) (third .before .if2 .left) (third .if3 .left)
+    (packed-room (e .args .m * 4632) (e .args .m * 18528) (omega arith) (e .args .from .now) (e .args .to .now) (third .before .if2 .left) (third .if3 .left) (put .pack-places .ensures))
+
+pub pack-room-spec : {M : Type 1} → statement M
+pack-room-spec =
+    tie.close
+    (tie.spec
+    bad-blocks-requires
+    returns
+    mul-long
+    mul-short
+    returns-2
+    returns-3
+    slice-aggregate-pack-places
+    slice-relend-prefix-pack-places
+    slice-aggregate-pack-places-2
+    pack-places-requires
+    same-length
+    returns-4)
