@@ -89,6 +89,28 @@ static int control(void)
     return 0;
 }
 
+/* A room of one code block in its packed form, and back: the value above 3 becomes 2. */
+static int change(void)
+{
+    static uint8_t room[ZEMRUKSTE_ROOM_PER_BLOCK] = {0, 1, 2, 3, 9, 1, 0, 2}, back[ZEMRUKSTE_ROOM_PER_BLOCK];
+    static uint8_t packed[ZEMRUKSTE_PACKED_PER_BLOCK];
+
+    put("a room that begins 01239102, packed: ");
+    if (zemrukste_pack(1, room, sizeof room, packed, sizeof packed) != 0)
+        return 1;
+    put_number(packed[0]);
+    put(" ");
+    put_number(packed[1]);
+    put(", and back: ");
+    if (zemrukste_unpack(1, packed, sizeof packed, back, sizeof back) != 0)
+        return 1;
+    put_bits(back, 8);
+    put("\nthe same for six code blocks: refused with ");
+    put_number(zemrukste_pack(6, room, sizeof room, packed, sizeof packed));
+    put("\n");
+    return 0;
+}
+
 int main(void)
 {
     static const uint8_t block[1] = {1};
@@ -145,5 +167,7 @@ int main(void)
     number = zemrukste_build(0, 0, 2, 1, 0, 24, out, sizeof out);
     put_number(number);
     put("\n");
-    return control();
+    if (control() != 0)
+        return 1;
+    return change();
 }
