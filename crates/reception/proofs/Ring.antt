@@ -1,20 +1,19 @@
 -- Bits that meet in a ring, which is then put as one turn, 02 E2: it is as if each had been put at its own place.
 -- Assumes nothing.
 use mathlib.Core.Path.{_≡_, refl, sym, _∙_, ap}
+use mathlib.Core.Bool.{cond}
 use mathlib.Core.List.{List, [], _∷_, map}
 use Prim.Native.Nat.{ℕ, zero, suc, _+_, _≤_, _<_}
 use native.Mathlib.Nat.{zero-add}
 use native.Mathlib.Decide.{decLt, ℕ-discrete}
 use native.Mathlib.Omega.{arith}
+use lib.Dec.{eqb}
 use lib.ListN.{length, getD, drop, set, length-set}
 use lib.Seq.{set-set, set-comm, set-out, getD-set-same, getD-set-other, getD-drop}
-use Rattle.slots.specs.Room.{meet, putBit}
+use Rattle.slots.specs.Room.{disputed, meet, putBit}
 use Rattle.slots.proofs.Meeting.{Known, meet-known, meet-together, meet-order}
 use Rattle.reception.specs.Parts.{putFrom}
-
--- something was heard for each entry
-abbrev pub AllKnown : List ℕ → Type 0
-AllKnown l = (i : ℕ) → Known (getD l i 0)
+use Rattle.reception.specs.Along.{AllKnown}
 
 known-rest : (l : List ℕ) → AllKnown l → AllKnown (drop 1 l)
 known-rest l h i = rw (getD-drop 1 l i 0) (h (1 + i))
@@ -73,13 +72,23 @@ one-more (p ∷ ps) (a ∷ ring) l zero b e m h g =
 one-more (p ∷ ps) (a ∷ ring) l (suc k) b e m h g =
     one-more ps ring (putBit l (0 + p) a) k b (omega arith) (omega arith) (λ i. h (suc i)) g
 
-known-put : (ring : List ℕ) (k b : ℕ) → AllKnown ring → Known b → AllKnown (putBit ring k b)
+pub known-put : (ring : List ℕ) (k b : ℕ) → AllKnown ring → Known b → AllKnown (putBit ring k b)
 unfolding putBit
 known-put [] k b h g i = h i
 known-put (a ∷ ring) zero b h g zero = meet-known a b (h 0) g
 known-put (a ∷ ring) zero b h g (suc i) = h (suc i)
 known-put (a ∷ ring) (suc k) b h g zero = h 0
 known-put (a ∷ ring) (suc k) b h g (suc i) = known-put ring k b (λ n. h (suc n)) g i
+
+pub known-along : (js bits ring : List ℕ) → AllKnown bits → AllKnown ring → AllKnown (putFrom 0 js bits ring)
+unfolding putFrom
+known-along [] bits ring h g = g
+known-along (j ∷ js) bits ring h g = known-along js (drop 1 bits) (putBit ring (0 + j) (getD bits 0 0)) (known-rest bits h) (known-put ring (0 + j) (getD bits 0 0) g (h 0))
+
+-- where something was heard, a shorter test does
+pub meet-known-is : (old new : ℕ) → Known old → meet old new ≡ cond (eqb old new) new disputed
+unfolding meet
+meet-known-is old new h = rw h
 
 -- bits in the ring, and the ring at some places: the bits at those places
 pub through : (ps : List ℕ) (js bits ring l : List ℕ) → length ring ≡ length ps → ((i : ℕ) → i < length js → getD js i 0 < length ps)

@@ -1,6 +1,6 @@
 -- Turn after turn of a code block's bits, 01 'Receive' and 02 E2: one round, and turns that meet in a ring.
 -- Assumes nothing.
-use mathlib.Core.Path.{_≡_, sym, _∙_, ap, ap₂}
+use mathlib.Core.Path.{_≡_, sym, _∙_, ap, ap₂, subst}
 use mathlib.Core.List.{List, _++_, append-nil, map}
 use Prim.Native.Nat.{ℕ, _+_, _-_, _%_, _≤_, _<_, min}
 use native.Mathlib.Nat.{zero-mod, mod-self, mod-lt, add-mod-right, add-sub-cancel-left}
@@ -22,7 +22,7 @@ use Rattle.reception.specs.Parts.{putFrom}
 use Rattle.reception.specs.Along.{putAlong, Put, ringAfter}
 use Rattle.reception.proofs.Putting.{length-putFrom, putFrom-append, putFrom-front}
 use Rattle.reception.proofs.Ring.{through}
-use Rattle.reception.proofs.Along.{along-none, put-as, put-long}
+use Rattle.reception.proofs.Along.{along-none, run-met, put-as, put-long}
 
 -- ---- turn after turn
 
@@ -85,6 +85,14 @@ pub record Turning (n : ℕ) (bits ring : List ℕ) (i : ℕ) : Type 0 where
   pub long : length ring ≡ n
   pub told : Rest (tab n itself) bits i ring ≡ ringAfter n bits
 
+pub ring-second : (n : ℕ) (bits ring₀ : List ℕ) {ring : List ℕ} → n + n ≤ length bits → length ring₀ ≡ n
+    → (let src = midOf n (n + n - n) bits in ring ≡ take (length src) src ++ drop (length src) ring₀) → ring ≡ take n (drop n bits)
+ring-second n bits ring₀ few l e =
+    e
+    ∙ ap₂ _++_ (take-length (midOf n (n + n - n) bits) ∙ ap (λ (m : ℕ). take m (drop n bits)) (add-sub-cancel-left n n))
+    (drop-of-length-le ring₀ {i = length (midOf n (n + n - n) bits)} (omega (arith, length-mid n (n + n) bits few)))
+    ∙ append-nil (take n (drop n bits))
+
 module _ {n : ℕ} {bits : List ℕ} (few : n + n ≤ length bits) where
   -- the second turn is copied
   pub turning-start : (ring₀ : List ℕ) {ring : List ℕ} → length ring₀ ≡ n → (let src = midOf n (n + n - n) bits in ring ≡ take (length src) src ++ drop (length src) ring₀)
@@ -107,19 +115,16 @@ module _ {n : ℕ} {bits : List ℕ} (few : n + n ≤ length bits) where
       second-long = ap length (sym second) ∙ n-long
 
       is : ring ≡ take n (drop n bits)
-      is =
-          e
-          ∙ ap₂ _++_ (take-length (midOf n (n + n - n) bits) ∙ second) (drop-of-length-le ring₀ {i = length (midOf n (n + n - n) bits)} (omega (arith, n-long)))
-          ∙ append-nil (take n (drop n bits))
+      is = ring-second n bits ring₀ few l e
 
-  pub turning-next : {ring ring′ : List ℕ} {i e : ℕ} → 0 < n → i < length bits → Turning n bits ring i
+  pub turning-next : {ring ring′ : List ℕ} {i e : ℕ} → 0 < n → Turning n bits ring i
       → Put (tab (length ring) itself) bits i ring ring′ e → Turning n bits ring′ e
-  turning-next {ring} {ring′} {i} {e} some h t p = record {
+  turning-next {ring} {ring′} {i} {e} some t p = record {
     passed = (omega (arith, ends, t .passed), omega (arith, ends));
-    whole = λ q. let is : e ≡ i + n = omega (arith, ends) in ap (λ (k : ℕ). k % n) is ∙ add-mod-right i n ∙ t .whole (λ l. omega arith);
+    whole = λ q. let is : e ≡ i + n = omega (arith, ends) in ap (λ (k : ℕ). k % n) is ∙ add-mod-right i n ∙ t .whole (λ l. omega (arith, t .passed));
     long = put-long p ∙ t .long;
     told =
-        sym (rest-round (tab n itself) bits (rw (length-tab n itself) some) i (omega arith) (λ l. rw (length-tab n itself) (t .whole l)) round)
+        sym (rest-round (tab n itself) bits (rw (length-tab n itself) some) i (t .passed .1) (λ l. rw (length-tab n itself) (t .whole l)) round)
         ∙ t .told;
   }
     where
@@ -131,6 +136,21 @@ module _ {n : ℕ} {bits : List ℕ} (few : n + n ≤ length bits) where
 
   pub turning-finish : {ring : List ℕ} {i : ℕ} → length bits ≤ i → Turning n bits ring i → ring ≡ ringAfter n bits
   turning-finish {ring} {i} h t = sym (rest-end (tab n itself) bits i ring h) ∙ t .told
+
+  -- a whole turn more
+  pub turning-whole : {ring ring′ : List ℕ} {i : ℕ} → 0 < n → n ≤ length bits - i → Turning n bits ring i
+      → (let src = midOf i (i + n - i) bits in ring′ ≡ putAlong (tab (length src) itself) src ring) → Turning n bits ring′ (i + n)
+  turning-whole {ring} {ring′} {i} some h t e =
+      turning-next some t (run-met bits ring (t .passed .1) (omega (arith, t .long)) e)
+
+  -- what is left is less than one
+  pub turning-last : {ring ring′ : List ℕ} {i : ℕ} → 0 < n → length bits - i < n → Turning n bits ring i
+      → (let src = midOf i (length bits - i) bits in ring′ ≡ putAlong (tab (length src) itself) src ring) → ring′ ≡ ringAfter n bits
+  turning-last {ring} {ring′} {i} some h t e =
+      let m : ℕ = length bits - i in
+      let same : m ≡ i + m - i = sym (add-sub-cancel-left i m) in
+      let put = run-met bits ring {n = m} (t .passed .1) (omega (arith, t .long)) (subst (λ (k : ℕ). ring′ ≡ putAlong (tab (length (midOf i k bits)) itself) (midOf i k bits) ring) same e) in
+      turning-finish (omega (arith, t .passed)) (turning-next some t put)
 
 length-ring : (n : ℕ) (bits : List ℕ) → n + n ≤ length bits → length (ringAfter n bits) ≡ n
 unfolding ringAfter

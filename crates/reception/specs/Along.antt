@@ -1,14 +1,16 @@
 -- Bits put at places as they come, 01 'Receive', turns brought together in a ring, and what the parts of a code block's circle may take for granted.
 -- Assumes nothing.
 use mathlib.Core.Path.{_≡_}
+use mathlib.Core.Bool.{false}
 use mathlib.Core.List.{List}
 use Prim.Native.Nat.{ℕ, _+_, _-_, _*_, _≤_, _<_, min}
-use lib.ListN.{length, take, drop}
+use lib.ListN.{length, getD, take, drop}
 use Rattle.laws.specs.Lists.{tab, tabFrom}
 use Rattle.rate_matching.specs.SubBlocks.{rows, dummies}
 use Rattle.rate_matching.specs.Circle.{circleLength}
 use Rattle.rate_matching.specs.Walk.{itself, turnAfterTurn}
 use Rattle.rate_matching.specs.Places.{longest}
+use Rattle.slots.specs.Room.{isUnheard}
 use Rattle.reception.specs.Parts.{putFrom}
 
 -- bits at the first of some places, as many as there are of both
@@ -19,6 +21,10 @@ putAlong places bits list = putFrom 0 (take (length bits) places) bits list
 pub record Put (places bits : List ℕ) (at : ℕ) (list list′ : List ℕ) (end : ℕ) : Type 0 where
   pub told : list′ ≡ putAlong places (drop at bits) list
   pub ends : end ≡ min (at + length places) (length bits)
+
+-- something was heard for each entry
+abbrev pub AllKnown : List ℕ → Type 0
+AllKnown l = (i : ℕ) → isUnheard (getD l i 0) ≡ false
 
 -- the turns of n bits after the first, brought together place by place: the second turn, and what comes after it meets what is there
 unfoldable pub ringAfter : ℕ → List ℕ → List ℕ

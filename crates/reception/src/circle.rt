@@ -2,15 +2,18 @@
 use rate_matching::rows_before;
 use rate_matching::table::columns;
 ghost use mathlib.Core.Path.{_≡_};
+ghost use mathlib.Core.Bool.{cond};
 ghost use Prim.Native.Nat.{_+_, _-_, _*_, _≤_, _<_};
+ghost use lib.Dec.{eqb};
 ghost use lib.ListN.{length};
+ghost use Rattle.laws.specs.Bits.{AreBits};
 ghost use Rattle.laws.specs.Lists.{tab, tabFrom};
 ghost use Rattle.rate_matching.specs.SubBlocks.{rows, rowsBefore};
 ghost use Rattle.rate_matching.specs.Circle.{startOf};
 ghost use Rattle.rate_matching.specs.Walk.{itself, turn};
 ghost use Rattle.rate_matching.specs.Shape.{shape, bitPlaces, second, pairPlaces, lastPlace};
-ghost use Rattle.slots.specs.Room.{meet};
-ghost use Rattle.reception.specs.Along.{putAlong, Put, ringAfter, Walked, Column};
+ghost use Rattle.slots.specs.Room.{disputed, meet};
+ghost use Rattle.reception.specs.Along.{putAlong, Put, AllKnown, ringAfter, Walked, Column};
 
 // What a place that kept `old` keeps after the bit `new`: no branch, so that a run is met many places at a time.
 fn met(old: u8, new: u8) -> u8
@@ -35,6 +38,25 @@ fn meet_run(bits: &[u8], run: &mut [u8])
     }
 }
 
+// The same of two that were heard: a shorter test for the many turns of a ring.
+fn agreed(old: u8, new: u8) -> u8
+    ensures { λ r. ⌜ r ≡ cond (eqb old new) new disputed ⌝ }
+{
+    if old == new { new } else { 3 }
+}
+
+// Puts bits at the front of a run in which something was heard everywhere.
+fn agree_run(bits: &[u8], run: &mut [u8])
+    requires { ⌜ (length (now bits) ≤ length (now run)) × AllKnown (now bits) × AllKnown (now run) ⌝ }
+    ensures { λ _. ⌜ now (run .exit) ≡ putAlong (tab (length (now (bits .entry))) itself) (now (bits .entry)) (now (run .entry)) ⌝ }
+{
+    let mut i = 0;
+    while i < bits.len() {
+        run[i] = agreed(run[i], bits[i]);
+        i += 1;
+    }
+}
+
 // Puts the bits from `at` on at the front of a run, as many as there are of both, and tells where they end.
 fn put_run(bits: &[u8], at: usize, run: &mut [u8]) -> usize
     requires { ⌜ at ≤ length (now bits) ⌝ }
@@ -49,15 +71,18 @@ fn put_run(bits: &[u8], at: usize, run: &mut [u8]) -> usize
 
 // Brings the turns after the first together in a ring as long as a turn.
 pub(crate) fn meet_turns(bits: &[u8], ring: &mut [u8])
-    requires { ⌜ (0 < length (now ring)) × (length (now ring) + length (now ring) ≤ length (now bits)) ⌝ }
+    requires { ⌜ (0 < length (now ring)) × (length (now ring) + length (now ring) ≤ length (now bits)) × AreBits (now bits) ⌝ }
     ensures { λ _. ⌜ now (ring .exit) ≡ ringAfter (length (now (ring .entry))) (now (bits .entry)) ⌝ }
 {
     let n = ring.len();
     let mut i = n + n;
     bytes::copy(&bits[n..i], ring);
-    while i < bits.len() {
-        i = put_run(bits, i, ring);
+    while n <= bits.len() - i {
+        let end = i + n;
+        agree_run(&bits[i..end], ring);
+        i = end;
     }
+    agree_run(&bits[i..], ring);
 }
 
 // Puts bits in the columns of stream 0 from column `from` to column `to`.

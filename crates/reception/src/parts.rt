@@ -19,7 +19,7 @@ const LONG_RING: usize = 18528;
 
 // Puts the turns after the first, which are more than one: they meet in a ring, which is put as one turn.
 fn put_turns(d: usize, filler: usize, version: usize, bits: &[u8], ring: &mut [u8], part: &mut [u8])
-    requires { ⌜ Walked d filler (length (now part)) × (version ≤ 3) × (0 < length (now ring)) × (length (now ring) + length (now ring) ≤ length (now bits)) ⌝ }
+    requires { ⌜ Walked d filler (length (now part)) × (version ≤ 3) × (0 < length (now ring)) × (length (now ring) + length (now ring) ≤ length (now bits)) × AreBits (now bits) ⌝ }
     ensures { λ _. ⌜ now (part .exit) ≡ putAlong (turn (shape d filler) (startOf (rows d) version)) (ringAfter (length (now (ring .entry))) (now (bits .entry))) (now (part .entry)) ⌝ }
 {
     circle::meet_turns(bits, ring);
@@ -28,7 +28,7 @@ fn put_turns(d: usize, filler: usize, version: usize, bits: &[u8], ring: &mut [u
 
 // The same with the short ring, for turns of n bits.
 fn put_short(d: usize, filler: usize, version: usize, n: usize, bits: &[u8], part: &mut [u8])
-    requires { ⌜ Walked d filler (length (now part)) × (version ≤ 3) × (0 < n) × (n ≤ 3168) × (n + n ≤ length (now bits)) ⌝ }
+    requires { ⌜ Walked d filler (length (now part)) × (version ≤ 3) × (0 < n) × (n ≤ 3168) × (n + n ≤ length (now bits)) × AreBits (now bits) ⌝ }
     ensures { λ _. ⌜ now (part .exit) ≡ putAlong (turn (shape d filler) (startOf (rows d) version)) (ringAfter n (now (bits .entry))) (now (part .entry)) ⌝ }
 {
     let mut ring = [0u8; SHORT_RING];
@@ -37,7 +37,7 @@ fn put_short(d: usize, filler: usize, version: usize, n: usize, bits: &[u8], par
 
 // The same with the long ring.
 fn put_long(d: usize, filler: usize, version: usize, n: usize, bits: &[u8], part: &mut [u8])
-    requires { ⌜ Walked d filler (length (now part)) × (version ≤ 3) × (0 < n) × (n ≤ 18528) × (n + n ≤ length (now bits)) ⌝ }
+    requires { ⌜ Walked d filler (length (now part)) × (version ≤ 3) × (0 < n) × (n ≤ 18528) × (n + n ≤ length (now bits)) × AreBits (now bits) ⌝ }
     ensures { λ _. ⌜ now (part .exit) ≡ putAlong (turn (shape d filler) (startOf (rows d) version)) (ringAfter n (now (bits .entry))) (now (part .entry)) ⌝ }
 {
     let mut ring = [0u8; LONG_RING];

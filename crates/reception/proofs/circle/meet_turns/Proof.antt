@@ -1,25 +1,36 @@
 -- `circle::meet_turns` meets its contract: the turns passed have met in the ring (`Rounds`).
 -- Assumes nothing.
-use mathlib.Core.Path.{refl}
-use Prim.Native.Nat.{_+_, _-_}
+use mathlib.Core.Path.{_≡_, refl, _∙_, ap}
+use mathlib.Core.List.{List}
+use Prim.Native.Nat.{ℕ, _+_, _-_, _≤_}
 use native.Mathlib.Omega.{arith}
-use lib.ListN.{length}
+use lib.Dec.{lit<}
+use lib.ListN.{length, take, drop}
+use borrow.Rule.Slice.PartMut.{midOf}
+use Rattle.laws.specs.Bits.{AreBits}
+use Rattle.laws.proofs.AreBits.{take-below, drop-below}
 use Rattle.laws.proofs.Parts.{length-mid}
-use Rattle.laws.proofs.Tab.{length-tab}
-use Rattle.rate_matching.specs.Walk.{itself}
-use Rattle.reception.proofs.Rounds.{Turning, turning-start, turning-next, turning-finish}
+use Rattle.slots.proofs.Meeting.{known-bit}
+use Rattle.reception.specs.Along.{AllKnown, putAlong}
+use Rattle.reception.proofs.Ring.{known-along}
+use Rattle.reception.proofs.Along.{length-along}
+use Rattle.reception.proofs.Rounds.{Turning, ring-second, turning-start, turning-whole, turning-last}
 use Rattle.reception.proofs.circle.meet_turns.Statement.{statement}
 use Rattle.reception.proofs.circle.meet_turns.Tie as tie
 
+-- a stretch of bits
+known-part : (a k : ℕ) (bits : List ℕ) → AreBits bits → AllKnown (midOf a k bits)
+known-part a k bits h i = known-bit _ (take-below 2 (lit< tt) k (drop a bits) (drop-below 2 a bits h) i)
+
+known-after : (js bits ring : List ℕ) {ring′ : List ℕ} → AllKnown bits → AllKnown ring → ring′ ≡ putAlong js bits ring → AllKnown ring′
+unfolding putAlong
+known-after js bits ring h g e = rw e (known-along (take (length bits) js) bits ring h g)
+
 abbrev Inv-loop : tie.InvT-loop
-Inv-loop bits ring₀ n i₀ ring i = Turning n bits ring i
+Inv-loop bits ring₀ n i₀ ring i = Turning n bits ring i × AllKnown ring
 
 abbrev μ-loop : tie.MeasureT-loop
 μ-loop bits ring₀ n i₀ ring i = length bits - i
-
--- in the loop: the function's entry
-abbrev entry : tie.In-loop Inv-loop μ-loop → tie.Start Inv-loop μ-loop
-entry c = c .before .before .before .before .before .before .before .before .before
 
 add-i : tie.Need-add-i Inv-loop μ-loop
 add-i c = omega arith
@@ -42,27 +53,74 @@ copy-requires c κs =
 loop-holds : tie.Need-loop-holds Inv-loop μ-loop
 loop-holds c =
     let e = c .before .before .before .before .before .before .before in
-    turning-start (e .pre .1) (e .args .ring .now) refl (c .before .before .copy .ensures .1)
+    let told = c .before .before .copy .ensures .1 in
+    let n = length (e .args .ring .now) in (
+      turning-start (e .pre .1) (e .args .ring .now) refl told,
+      rw (ring-second n (e .args .bits .now) (e .args .ring .now) (e .pre .1) refl told)
+          (λ i. known-bit _ (take-below 2 (lit< tt) n (drop n (e .args .bits .now)) (drop-below 2 n (e .args .bits .now) (e .pre .2)) i)),
+    )
 
-put-run-requires : tie.Need-put-run-requires Inv-loop μ-loop
-put-run-requires c κs = c .before .before .loop .inv .passed .1
+sub-loop : tie.Need-sub-loop Inv-loop μ-loop
+sub-loop c = c .loop .inv .0 .passed .1
+
+add-end : tie.Need-add-end Inv-loop μ-loop
+add-end c = omega (arith, c .before .loop .inv .0 .passed)
+
+sub-agree-run : tie.Need-sub-agree-run Inv-loop μ-loop
+sub-agree-run c = omega arith
+
+part-agree-run-start : tie.Need-part-agree-run-start Inv-loop μ-loop
+part-agree-run-start c = omega arith
+
+part-agree-run-end : tie.Need-part-agree-run-end Inv-loop μ-loop
+part-agree-run-end c = omega (arith, c .before .loop .inv .0 .passed)
+
+agree-run-requires : tie.Need-agree-run-requires Inv-loop μ-loop
+agree-run-requires c κs =
+    let w = c .before .before .before .loop in
+    let e = c .before .before .before .before .before .before .before .before .before .before .before in
+    let bits = e .args .bits .now in
+    let n = length (e .args .ring .now) in
+    let fits : w .i + n ≤ length bits = omega (arith, w .inv .0 .passed) in
+    (omega (arith, length-mid (w .i) (w .i + n) bits fits, w .inv .0 .long), known-part (w .i) (w .i + n - w .i) bits (e .pre .2), w .inv .1)
 
 loop-less : tie.Need-loop-less Inv-loop μ-loop
-loop-less c =
-    let i = c .before .before .before .before in
-    omega (arith, i .before .loop .inv .long, c .before .before .put-run .ensures .ends, length-tab (length (i .before .loop .ring)) itself)
+loop-less c = let w = c .before .before .before .before .before .before .loop in omega (arith, w .inv .0 .passed, c .before .before .before .before .before .before .before .before .before .before .before .before .before .before .pre .0)
 
 loop-again : tie.Need-loop-again Inv-loop μ-loop
 loop-again c =
-    let i = c .before .before .before .before in
-    let e = entry i in
-    turning-next (e .pre .1) (e .pre .0) (omega arith) (i .before .loop .inv) (c .before .before .put-run .ensures)
+    let w = c .before .before .before .before .before .before .loop in
+    let e = c .before .before .before .before .before .before .before .before .before .before .before .before .before .before in
+    let told = c .before .before .agree-run .ensures in (
+      turning-whole (e .pre .1) (e .pre .0) (omega arith) (w .inv .0) told,
+      known-after _ _ _ (known-part (w .i) (w .i + length (e .args .ring .now) - w .i) (e .args .bits .now) (e .pre .2)) (w .inv .1) told,
+    )
+
+sub-agree-run-2 : tie.Need-sub-agree-run-2 Inv-loop μ-loop
+sub-agree-run-2 c = c .before .loop .inv .0 .passed .1
+
+part-agree-run-start-2 : tie.Need-part-agree-run-start-2 Inv-loop μ-loop
+part-agree-run-start-2 c = c .before .loop .inv .0 .passed .1
+
+part-agree-run-end-2 : tie.Need-part-agree-run-end-2 Inv-loop μ-loop
+part-agree-run-end-2 c = omega arith
+
+agree-run-requires-2 : tie.Need-agree-run-requires-2 Inv-loop μ-loop
+agree-run-requires-2 c κs =
+    let w = c .before .before .before .loop in
+    let e = c .before .before .before .before .before .before .before .before .before .before .before in
+    let bits = e .args .bits .now in
+    (omega (arith, length-mid (w .i) (length bits) bits (omega arith), w .inv .0 .long), known-part (w .i) (length bits - w .i) bits (e .pre .2), w .inv .1)
 
 same-length : tie.Need-same-length Inv-loop μ-loop
-same-length c = c .before .loop .inv .long
+same-length c =
+    let w = c .before .before .before .before .before .before .loop in
+    ap length (c .before .before .agree-run2 .ensures) ∙ length-along _ _ (w .ring) ∙ w .inv .0 .long
 
 returns : tie.Need-returns Inv-loop μ-loop
-returns c = turning-finish (c .before .before .before .before .before .before .before .before .before .pre .1) (omega arith) (c .before .loop .inv)
+returns c =
+    let e = c .before .before .before .before .before .before .before .before .before .before .before .before .before .before in
+    turning-last (e .pre .1) (e .pre .0) (omega arith) (c .before .before .before .before .before .before .loop .inv .0) (c .before .before .agree-run2 .ensures)
 
 pub meet-turns-spec : {M : Type 1} → statement M
 meet-turns-spec =
@@ -76,8 +134,17 @@ meet-turns-spec =
     part-copy-end
     copy-requires
     loop-holds
-    put-run-requires
+    sub-loop
+    add-end
+    sub-agree-run
+    part-agree-run-start
+    part-agree-run-end
+    agree-run-requires
     loop-less
     loop-again
+    sub-agree-run-2
+    part-agree-run-start-2
+    part-agree-run-end-2
+    agree-run-requires-2
     same-length
     returns)

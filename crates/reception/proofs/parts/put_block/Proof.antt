@@ -47,7 +47,7 @@ put-short-requires c κs =
     let first = c .before .before .before .before .before in
     let e = entry first in
     let told = first .put-round .ensures in
-    (walked-still (e .pre .0) (put-long told), e .pre .1, first-some _ _ (round-some (e .pre .0) (e .pre .1)) told (omega arith), omega arith, omega arith)
+    (walked-still (e .pre .0) (put-long told), e .pre .1, first-some _ _ (round-some (e .pre .0) (e .pre .1)) told (omega arith), omega arith, omega arith, e .pre .2)
 
 same-length-2 : tie.Need-same-length-2
 same-length-2 c = search needs
@@ -64,7 +64,7 @@ put-long-requires c κs =
     let first = c .before .before .before .before .before in
     let e = entry first in
     let told = first .put-round .ensures in
-    (walked-still (e .pre .0) (put-long told), e .pre .1, first-some _ _ (round-some (e .pre .0) (e .pre .1)) told (omega arith), omega (arith, told .ends, round-few (e .pre .0) (e .pre .1)), omega arith)
+    (walked-still (e .pre .0) (put-long told), e .pre .1, first-some _ _ (round-some (e .pre .0) (e .pre .1)) told (omega arith), omega (arith, told .ends, round-few (e .pre .0) (e .pre .1)), omega arith, e .pre .2)
 
 same-length-3 : tie.Need-same-length-3
 same-length-3 c = search needs

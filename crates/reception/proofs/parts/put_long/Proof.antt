@@ -21,7 +21,7 @@ slice-aggregate-put-turns c = fresh-count {A = ℕ} 0 18528 _ (c .before .before
 put-turns-requires : tie.Need-put-turns-requires
 put-turns-requires c κs =
     let e = c .before .before .before .before in
-    rw (sym (fresh-count {A = ℕ} 0 18528 _ (e .pre .3))) (e .pre .0, e .pre .1, e .pre .2, e .pre .4)
+    rw (sym (fresh-count {A = ℕ} 0 18528 _ (e .pre .3))) (e .pre .0, e .pre .1, e .pre .2, e .pre .4, e .pre .5)
 
 same-length : tie.Need-same-length
 same-length c = search needs

@@ -1,0 +1,69 @@
+-- `circle::agree_run` meets its contract: as `meet_run`, and what was heard stays heard.
+-- Assumes nothing.
+use mathlib.Core.Path.{sym, _∙_}
+use Prim.Native.Nat.{_-_}
+use native.Mathlib.Omega.{arith}
+use lib.ListN.{length}
+use Rattle.slots.specs.Room.{putBit}
+use Rattle.reception.specs.Along.{AllKnown}
+use Rattle.reception.proofs.Ring.{known-put, meet-known-is}
+use Rattle.reception.proofs.Along.{Meeting, meeting-start, meeting-long, meeting-next, meeting-finish}
+use Rattle.reception.proofs.circle.agree_run.Statement.{statement}
+use Rattle.reception.proofs.circle.agree_run.Tie as tie
+
+abbrev Inv-loop : tie.InvT-loop
+Inv-loop bits run₀ i₀ run i = Meeting bits run₀ run i × AllKnown run
+
+abbrev μ-loop : tie.MeasureT-loop
+μ-loop bits run₀ i₀ run i = length bits - i
+
+loop-holds : tie.Need-loop-holds Inv-loop μ-loop
+loop-holds c = (meeting-start, c .before .before .pre .2)
+
+slice-read-agreed : tie.Need-slice-read-agreed Inv-loop μ-loop
+slice-read-agreed c = omega (arith, meeting-long (c .before .before .loop .inv .0))
+
+shared-slice-read-agreed : tie.Need-shared-slice-read-agreed Inv-loop μ-loop
+shared-slice-read-agreed c = omega arith
+
+agreed-requires : tie.Need-agreed-requires Inv-loop μ-loop
+agreed-requires c κs = tt
+
+slice-write-run : tie.Need-slice-write-run Inv-loop μ-loop
+slice-write-run c = omega (arith, meeting-long (c .before .before .before .before .loop .inv .0))
+
+add-i : tie.Need-add-i Inv-loop μ-loop
+add-i c = omega arith
+
+loop-less : tie.Need-loop-less Inv-loop μ-loop
+loop-less c = omega arith
+
+loop-again : tie.Need-loop-again Inv-loop μ-loop
+unfolding putBit
+loop-again c =
+    let i = c .before .before .before .before in
+    let told = c .agreed .ensures ∙ sym (meet-known-is _ _ (i .loop .inv .1 (i .loop .i))) in
+    (rw told (meeting-next (omega arith) (i .loop .inv .0)), rw told (known-put (i .loop .run) (i .loop .i) _ (i .loop .inv .1) (i .before .before .before .pre .1 (i .loop .i))))
+
+same-length : tie.Need-same-length Inv-loop μ-loop
+same-length c = meeting-long (c .before .loop .inv .0)
+
+returns : tie.Need-returns Inv-loop μ-loop
+returns c = meeting-finish (omega arith) (c .before .loop .inv .0)
+
+pub agree-run-spec : {M : Type 1} → statement M
+agree-run-spec =
+    tie.close
+    (tie.spec
+    Inv-loop
+    μ-loop
+    loop-holds
+    slice-read-agreed
+    shared-slice-read-agreed
+    agreed-requires
+    slice-write-run
+    add-i
+    loop-less
+    loop-again
+    same-length
+    returns)
