@@ -7,7 +7,7 @@
  *   byte 0         1 for zemrukste_build, 2 for zemrukste_sizes, 3 for zemrukste_build_two, 4 for
  *                  zemrukste_report_build, 5 for zemrukste_report_part, 6 for
  *                  zemrukste_control_build, 7 for zemrukste_control_whose, 8 for zemrukste_pack, 9
- *                  for zemrukste_unpack
+ *                  for zemrukste_unpack, 10 for zemrukste_build_down
  *   byte 1         what is lent as a null pointer, added (lengths 0 alone): 1 the block, the
  *                  header, the received run or the room, 2 the output, 4 the payload
  *   byte 2         the fill: what every byte of the output and its guards is before the call
@@ -22,7 +22,9 @@
  * zemrukste_report_part) and control, then the block or the received run, then the report. For
  * the control calls the block is the payload or the run, q is the terminal and g is e;
  * zemrukste_control_whose has an out_len of 2, and its output is the terminal, lowest byte
- * first. A room to change is the block, and m is q. The answer is 8 bytes:
+ * first. A room to change is the block, and m is q. zemrukste_build_down has five more numbers
+ * behind the six, before the block: release, mimo, processes, soft, layers. The answer is 8
+ * bytes:
  *
  *   bytes 0 - 3    the number the call gave back
  *   byte 4         1 if the block (or run) and the report are the same after the call as
@@ -64,12 +66,14 @@ enum {
     CONTROL_WHOSE = 7,
     PACK = 8,
     UNPACK = 9,
+    BUILD_DOWN = 10,
+    DOWN_LEN = 40,
     NULL_BLOCK = 1,
     NULL_OUTPUT = 2,
     NULL_PAYLOAD = 4
 };
 
-static uint8_t request[REQUEST_LEN + MORE_LEN];
+static uint8_t request[REQUEST_LEN + DOWN_LEN];
 static uint8_t block[RUN_MAX];
 static uint8_t block_before[RUN_MAX];
 static uint8_t report[REPORT_MAX];
@@ -103,7 +107,7 @@ static int write_all(const uint8_t *bytes, size_t count)
     return 1;
 }
 
-/* The number at place 0 to 7 of the request. */
+/* The number at place 0 to 10 of the request. */
 static uint64_t number(int place)
 {
     uint64_t value = 0;
@@ -177,7 +181,10 @@ static uint32_t called(uint8_t kind, uint8_t nulls, size_t header_len, size_t le
         return zemrukste_pack(q, lent, length, out, out_len);
     if (kind == UNPACK)
         return zemrukste_unpack(q, lent, length, out, out_len);
-    return whose(lent, length, out);
+    if (kind == CONTROL_WHOSE)
+        return whose(lent, length, out);
+    return zemrukste_build_down(lent, length, (size_t)number(6), (size_t)number(7), (size_t)number(8),
+                                (size_t)number(9), (size_t)number(10), q, n, third, fourth, out, out_len);
 }
 
 /* Answers the request that has been read. Gives 0 if that cannot be done. */
@@ -191,7 +198,7 @@ static int serve(void)
     uint32_t given;
     size_t whole;
 
-    if (kind < BUILD || kind > UNPACK || out_len > OUTPUT_MAX)
+    if (kind < BUILD || kind > BUILD_DOWN || out_len > OUTPUT_MAX)
         return 0;
     if ((kind == CONTROL_BUILD && number(1) > 65535) || (kind == CONTROL_WHOSE && out_len != 2))
         return 0;
@@ -202,6 +209,8 @@ static int serve(void)
             return 0;
         report_len = number(6);
     }
+    if (kind == BUILD_DOWN && read_all(request + REQUEST_LEN, DOWN_LEN) < DOWN_LEN)
+        return 0;
     if (report_len > REPORT_MAX || ((nulls & NULL_BLOCK) && first_len > 0) || ((nulls & NULL_OUTPUT) && out_len > 0)
         || ((nulls & NULL_PAYLOAD) && header_len < length))
         return 0;

@@ -1,5 +1,5 @@
 /* What the cell's scheduler does: asks for the sizes of a block, builds its codeword, also from two
- * buffers, meets a refusal, sends a report with a charge limit, and a car its grant.
+ * buffers and for a downlink, meets a refusal, sends a report with a charge limit, and a car its grant.
  * It prints what it got. Only write(2) of the C library is used, so that the program needs no C headers but the compiler's own. */
 #include "zemrukste.h"
 
@@ -111,6 +111,23 @@ static int change(void)
     return 0;
 }
 
+/* The block 1 to a unit with 512 soft bits for eight processes, so that the circle is cut at 64 of its 192 places, and with one
+ * soft bit less. */
+static int down(void)
+{
+    static const uint8_t block[1] = {1};
+    uint8_t out[24];
+
+    put("the block 1 to a unit with 512 soft bits for 8 processes, version 1, G = 24: ");
+    if (zemrukste_build_down(block, sizeof block, 8, 1, 8, 512, 1, 2, 1, 1, 24, out, sizeof out) != 0)
+        return 1;
+    put_bits(out, sizeof out);
+    put("\nthe same with 511: refused with ");
+    put_number(zemrukste_build_down(block, sizeof block, 8, 1, 8, 511, 1, 2, 1, 1, 24, out, sizeof out));
+    put("\n");
+    return 0;
+}
+
 int main(void)
 {
     static const uint8_t block[1] = {1};
@@ -155,6 +172,9 @@ int main(void)
     for (i = 0; i < 24 && out[i] == again[i]; i++)
         ;
     put(i == 24 ? "which is that of 10111001 in one\n" : "which is not that of 10111001 in one\n");
+
+    if (down() != 0)
+        return 1;
 
     put("the block 1 with version 4: refused with ");
     number = zemrukste_build(block, sizeof block, 2, 1, 4, 24, out, sizeof out);

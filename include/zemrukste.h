@@ -1,6 +1,7 @@
 /*
  * Zemrukste: coding of the uplink shared channel (3GPP TS 36.212 V11.5.1, UL-SCH data and channel
- * reports ahead of it) and of downlink control messages (clause 5.3.3).
+ * reports ahead of it), of DL-SCH data for a receiver with a limited soft buffer, and of downlink
+ * control messages (clause 5.3.3).
  *
  * Calls for the cell's scheduler, and for the change of form of a room in a unit with less
  * memory. All work on numbers and byte slices alone:
@@ -62,9 +63,9 @@ extern "C" {
 #define ZEMRUKSTE_BAD_ALLOCATION 3
 /* The redundancy version is above 3: give 0, 1, 2 or 3. */
 #define ZEMRUKSTE_BAD_VERSION 4
-/* The output is too short: lend at least g bytes (zemrukste_build, zemrukste_build_two),
-   n * control + g (zemrukste_report_build), o (zemrukste_report_part), 24 (zemrukste_sizes),
-   e (zemrukste_control_build).
+/* The output is too short: lend at least g bytes (zemrukste_build, zemrukste_build_two,
+   zemrukste_build_down), n * control + g (zemrukste_report_build), o (zemrukste_report_part),
+   24 (zemrukste_sizes), e (zemrukste_control_build).
    For the change of form either buffer is too short: lend a whole room and the whole of its
    other form. */
 #define ZEMRUKSTE_SHORT_OUTPUT 5
@@ -87,6 +88,11 @@ extern "C" {
 /* The largest payload of a control message and the largest message, in bits. */
 #define ZEMRUKSTE_PAYLOAD_MAX 64
 #define ZEMRUKSTE_MESSAGE_MAX 4096
+
+/* The receiver does not fit: release is 8 or 11; mimo is 1 or 2; there is at least one
+   process; and its soft buffer must leave every code block as many places as stream 0 has
+   on the circle, 32 * R. Correct what is told of the receiver, or send a smaller block. */
+#define ZEMRUKSTE_BAD_BUFFER 21
 
 /*
  * The codeword of one transport block: CRC24A, code blocks with CRC24B, turbo code, rate
@@ -121,6 +127,28 @@ uint32_t zemrukste_build(const uint8_t *block, size_t block_len, size_t q, size_
 uint32_t zemrukste_build_two(const uint8_t *header, size_t header_len, const uint8_t *payload,
                              size_t payload_len, size_t q, size_t n, size_t version, size_t g,
                              uint8_t *out, size_t out_len);
+
+/*
+ * The codeword of one transport block of the downlink shared channel, for a receiver whose
+ * soft buffer is limited: each code block's circle is cut at N_cb places (clause 5.1.4.1.2).
+ *
+ *   block, block_len   the block's A bits; A is block_len
+ *   release            11: N_IR is divided by K_C; 8: it is not
+ *   mimo               K_MIMO: 2 for transmission modes 3, 4, 8, 9 and 10, else 1
+ *   processes          M_DL_HARQ, at least 1; those past 8 do not count
+ *   soft               N_soft, the receiver's soft channel bits
+ *   layers             the most spatial layers that the receiver supports
+ *
+ * N_IR is soft / (K_C * mimo * min(processes, 8)), rounded down; K_C is 5 if soft is
+ * 35,982,720, 2 if soft is 3,654,144 and layers at most 2, else 1. N_cb of a code block is
+ * the smaller of N_IR / C, rounded down, and 96 * R. The other arguments and the output are
+ * those of zemrukste_build; where N_cb is 96 * R for every code block, so is the codeword.
+ * Refusals in their order: 1, 21, 3, 4, 5, 2.
+ */
+uint32_t zemrukste_build_down(const uint8_t *block, size_t block_len, size_t release,
+                              size_t mimo, size_t processes, size_t soft, size_t layers,
+                              size_t q, size_t n, size_t version, size_t g, uint8_t *out,
+                              size_t out_len);
 
 /*
  * How a block of a bits is cut into code blocks.

@@ -1,4 +1,4 @@
-//! Build, of one slice and of two, Receive, Read, the calls with a report and control messages timed: the proved library beside the fast and the literal
+//! Build, of one slice, of two and for a downlink, Receive, Read, the calls with a report and control messages timed: the proved library beside the fast and the literal
 //! program, all three linked into one process and called by turns. Feature `linked` alone,
 //! since the library must be linked too: `scripts/bench` does both.
 //!
@@ -9,6 +9,7 @@
 
 use crate::segmentation::Segmentation;
 use crate::slots::{self, Refusal, State, ROOM_OF_BLOCK};
+use crate::soft_buffer::Receiver;
 use crate::{codeword, control, fast, fast_control, fast_report, fast_slots, report, xorshift};
 use std::hint::black_box;
 use std::time::{Duration, Instant};
@@ -87,6 +88,22 @@ mod library {
             out_len: usize,
         ) -> u32;
 
+        pub fn zemrukste_build_down(
+            block: *const u8,
+            block_len: usize,
+            release: usize,
+            mimo: usize,
+            processes: usize,
+            soft: usize,
+            layers: usize,
+            q: usize,
+            n: usize,
+            version: usize,
+            g: usize,
+            out: *mut u8,
+            out_len: usize,
+        ) -> u32;
+
         /// The exports of crates/heard: one slot, open for terminal 0.
         pub fn heard_receive(
             m: usize,
@@ -117,18 +134,31 @@ mod library {
 pub enum Timed {
     Build,
     BuildTwo,
+    /// For a downlink whose circles are cut at N_cb = 50 * R, and at the least, 32 * R.
+    BuildDown50,
+    BuildDown32,
     Receive,
     Read,
     Control,
 }
 
-pub const ALL: [Timed; 5] = [Timed::Build, Timed::BuildTwo, Timed::Receive, Timed::Read, Timed::Control];
+pub const ALL: [Timed; 7] = [
+    Timed::Build,
+    Timed::BuildTwo,
+    Timed::BuildDown50,
+    Timed::BuildDown32,
+    Timed::Receive,
+    Timed::Read,
+    Timed::Control,
+];
 
 impl Timed {
     pub fn name(self) -> &'static str {
         match self {
             Timed::Build => "build",
             Timed::BuildTwo => "build-two",
+            Timed::BuildDown50 => "build-down-50",
+            Timed::BuildDown32 => "build-down-32",
             Timed::Receive => "receive",
             Timed::Read => "read",
             Timed::Control => "control",
@@ -146,7 +176,7 @@ impl Timed {
         let least = |a| Row { a, g: N * Q * Segmentation::of(a + 24).blocks };
         let most = |a| Row { a, g: codeword::G_MAX };
         let rows = |a| match self {
-            Timed::Build | Timed::BuildTwo => vec![least(a), mother_code(a), most(a)],
+            Timed::Build | Timed::BuildTwo | Timed::BuildDown50 | Timed::BuildDown32 => vec![least(a), mother_code(a), most(a)],
             Timed::Receive => vec![mother_code(a), most(a)],
             Timed::Read | Timed::Control => vec![mother_code(a)],
         };
@@ -165,6 +195,8 @@ impl Timed {
         Ok(match self {
             Timed::Build => build_runners(block, row.g),
             Timed::BuildTwo => build_two_runners(block, row.g),
+            Timed::BuildDown50 => build_down_runners(block, 50, row.g),
+            Timed::BuildDown32 => build_down_runners(block, 32, row.g),
             Timed::Receive => receive_runners(row.a, bits),
             Timed::Read | Timed::Control => read_runners(row.a, bits),
         })
@@ -298,6 +330,46 @@ fn control_runners(payload: Vec<u8>, e: usize) -> [Runner; 3] {
         }),
         Runner::of(control::E_MAX, move |out| number(fast_control::build_into(black_box(&fast), 9, e, out))),
         Runner::of(control::E_MAX, move |out| number(control::build_into(black_box(&literal), 9, e, out))),
+    ]
+}
+
+/// The receiver's soft buffer has so many places a row for each code block.
+fn build_down_runners(block: Vec<u8>, places: usize, g: usize) -> [Runner; 3] {
+    let mut workspace = fast::Workspace::default();
+    let rows = codeword::rows_of(&Segmentation::of(block.len() + 24));
+    let soft = places * rows.iter().max().expect("there is a code block") * rows.len();
+    let receiver = Receiver { release: 11, mimo: 1, processes: 1, soft, layers: 1 };
+    let [rattle, fast, literal] = [block.clone(), block.clone(), block];
+    let number = |answer: Result<(), u8>| (answer.map_or_else(u32::from, |()| 0), 0);
+    [
+        Runner::of(codeword::G_MAX, move |out| {
+            let (block, told) = (black_box(&rattle), black_box(receiver));
+            // Two slices of Rust, as above.
+            let number = unsafe {
+                library::zemrukste_build_down(
+                    block.as_ptr(),
+                    block.len(),
+                    told.release,
+                    told.mimo,
+                    told.processes,
+                    told.soft,
+                    told.layers,
+                    Q,
+                    N,
+                    VERSION,
+                    g,
+                    out.as_mut_ptr(),
+                    out.len(),
+                )
+            };
+            (number, 0)
+        }),
+        Runner::of(codeword::G_MAX, move |out| {
+            number(workspace.build_down_into(black_box(&fast), &black_box(receiver), Q, N, VERSION, g, out))
+        }),
+        Runner::of(codeword::G_MAX, move |out| {
+            number(codeword::build_down_into(black_box(&literal), &black_box(receiver), Q, N, VERSION, g, out))
+        }),
     ]
 }
 

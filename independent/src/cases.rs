@@ -9,6 +9,7 @@ use crate::packing::PACKED_OF_BLOCK;
 use crate::protocol::{BLOCK_MAX, OUTPUT_MAX};
 use crate::report::{self, CONTROL_MAX, O_MAX};
 use crate::slots::{BLOCKS_MAX, ROOM_OF_BLOCK};
+use crate::soft_buffer::Receiver;
 use crate::table::TABLE;
 use crate::xorshift::{self, Generator};
 
@@ -30,6 +31,7 @@ pub enum Asked {
     Build(Build),
     /// The block in two slices, cut behind so many bits.
     BuildTwo(Build, usize),
+    BuildDown(Build, Receiver),
     Sizes(usize),
     ReportBuild(ReportBuild),
     ReportPart(ReportPart),
@@ -162,7 +164,7 @@ const QS: [usize; 3] = [2, 4, 6];
 const NS: [usize; 4] = [1, 2, 3, 4];
 
 /// Numbers that only a full-width argument carries.
-const HUGE: [usize; 6] = [1 << 16, 1 << 31, 1 << 32, (1 << 32) + 2, 1 << 63, usize::MAX];
+pub(crate) const HUGE: [usize; 6] = [1 << 16, 1 << 31, 1 << 32, (1 << 32) + 2, 1 << 63, usize::MAX];
 
 /// All cases of a seed, `random` of them being random builds, and half as many again random
 /// control messages.
@@ -183,6 +185,7 @@ pub fn all(seed: u64, random: usize) -> Vec<Case> {
     maker.run_faults();
     maker.changes();
     maker.cases.append(&mut cases_control::all(seed, random));
+    maker.downlink();
     maker.cases
 }
 
@@ -196,7 +199,8 @@ fn blocks_of(a: usize) -> usize {
     segmentation_of(a).expect("A is in range").blocks
 }
 
-/// Makes the cases one after another; those of two slices are in `cases_two`.
+/// Makes the cases one after another; those of two slices are in `cases_two`,
+/// those of a downlink in `cases_down`.
 pub(crate) struct Maker {
     pub(crate) random: Generator,
     cases: Vec<Case>,
@@ -709,7 +713,7 @@ impl Maker {
 
     /// Puts a byte into the block of the last case.
     pub(crate) fn damage(&mut self, place: usize, byte: u8) {
-        if let Asked::Build(build) | Asked::BuildTwo(build, _) = &mut self.last().asked {
+        if let Asked::Build(build) | Asked::BuildTwo(build, _) | Asked::BuildDown(build, _) = &mut self.last().asked {
             build.block.damage = Some((place, byte));
         }
     }

@@ -4,6 +4,7 @@
 use crate::crc;
 use crate::rate;
 use crate::segmentation::{self, Segmentation};
+use crate::soft_buffer::{n_cb, Receiver};
 use crate::turbo::{self, Streams};
 
 /// The largest block and the largest codeword of 01.
@@ -123,4 +124,31 @@ pub fn build_two_into(
     output: &mut [u8],
 ) -> Result<(), u8> {
     build_into(&[header, payload].concat(), q, n, version, g, output)
+}
+
+/// The rows R of each code block of a block of A bits, A in range.
+pub fn rows_of(segmentation: &Segmentation) -> Vec<usize> {
+    (0..segmentation.blocks).map(|r| rate::rows(segmentation.size(r) + 4)).collect()
+}
+
+/// Build for a downlink (02): 21 stands between 1 and the other refusals of Build.
+pub fn build_down_into(
+    block: &[u8],
+    receiver: &Receiver,
+    q: usize,
+    n: usize,
+    version: usize,
+    g: usize,
+    output: &mut [u8],
+) -> Result<(), u8> {
+    let rows = rows_of(&segmentation_of(block.len())?);
+    let share = receiver.share(&rows)?;
+    check(block, q, n, version, g, output.len())?;
+    let shares = rate::shares(g, n * q, rows.len());
+    let mut matched = Vec::new();
+    for ((d, r), e_length) in streams(block).iter().zip(rows).zip(shares) {
+        matched.push(rate::match_cut(d, n_cb(share, r), version, e_length));
+    }
+    output[..g].copy_from_slice(&concatenate(&matched));
+    Ok(())
 }

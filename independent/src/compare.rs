@@ -105,6 +105,9 @@ fn request(case: &Case) -> Request {
         Asked::BuildTwo(Build { block, q, n, version, g }, cut) => {
             Call::BuildTwo { block: block.bytes(), cut: *cut, q: *q, n: *n, version: *version, g: *g }
         }
+        Asked::BuildDown(Build { block, q, n, version, g }, receiver) => {
+            Call::BuildDown { block: block.bytes(), receiver: *receiver, q: *q, n: *n, version: *version, g: *g }
+        }
         Asked::Sizes(a) => Call::Sizes { a: *a },
         Asked::Change(change @ Change { way: Way::Pack, m, .. }) => Call::Pack { m: *m, from: change.bytes() },
         Asked::Change(change @ Change { way: Way::Unpack, m, .. }) => Call::Unpack { m: *m, from: change.bytes() },
@@ -147,6 +150,9 @@ pub fn expected(case: &Case) -> Answer {
             let bytes = block.bytes();
             let (header, payload) = bytes.split_at(*cut);
             codeword::build_two_into(header, payload, *q, *n, *version, *g, lent)
+        }
+        Asked::BuildDown(Build { block, q, n, version, g }, receiver) => {
+            codeword::build_down_into(&block.bytes(), receiver, *q, *n, *version, *g, lent)
         }
         Asked::Sizes(a) => sizes_into(*a, lent),
         Asked::Change(change @ Change { way: Way::Pack, m, .. }) => packing::pack(*m, &change.bytes(), lent),
@@ -271,9 +277,10 @@ fn description(case: &Case) -> String {
         Asked::Change(Change { way, m, length, seed }) => {
             format!("{way:?}: M = {m}, {length} bytes of seed {seed}, {lent}")
         }
-        Asked::Build(build) | Asked::BuildTwo(build, _) => {
+        Asked::Build(build) | Asked::BuildTwo(build, _) | Asked::BuildDown(build, _) => {
             let name = match case.asked {
                 Asked::BuildTwo(_, cut) => format!("Build of two slices, cut behind {cut} bits"),
+                Asked::BuildDown(_, receiver) => format!("Build for a downlink ({receiver:?})"),
                 _ => "Build".to_string(),
             };
             format!("{name}: {}, {lent}", build_text(case, build))
@@ -351,7 +358,7 @@ fn place_name(case: &Case, number: u32, at: usize) -> String {
         return format!("{} past the output", at - case.output_length + 1);
     }
     match &case.asked {
-        Asked::Build(build) | Asked::BuildTwo(build, _) if number == 0 && at < build.g => {
+        Asked::Build(build) | Asked::BuildTwo(build, _) | Asked::BuildDown(build, _) if number == 0 && at < build.g => {
             let s = codeword::segmentation_of(build.block.length).expect("the build was accepted");
             let mut from = at;
             for (r, share) in rate::shares(build.g, build.n * build.q, s.blocks).into_iter().enumerate() {

@@ -8,11 +8,13 @@
 //! - Sub-blocks: column by column, first kept row known, no place looked at twice.
 //! - The walk: a turn's kept bits once, as far as they are wanted, then copies.
 
-use crate::codeword::{allocation_fits, A_MAX};
+use crate::codeword::{self, allocation_fits, A_MAX};
 use crate::codeword::{BAD_A, BAD_ALLOCATION, BAD_BIT, BAD_VERSION, SHORT_OUTPUT};
 use crate::rate::{rows, COLUMNS, P};
 use crate::segmentation::Z;
+use crate::soft_buffer::{n_cb, Receiver};
 use crate::table::{Row, TABLE};
+use std::ops::Range;
 
 /// L of clause 5.1.1, for both generators used here.
 pub(crate) const PARITY: usize = 24;
@@ -68,12 +70,35 @@ impl Workspace {
         if block.iter().fold(0, |all, bit| all | bit) > 1 {
             return Err(BAD_BIT);
         }
-        self.build(block, &plan, n * q, version, &mut output[..g]);
+        self.build(block, &plan, usize::MAX, n * q, version, &mut output[..g]);
         Ok(())
     }
 
-    /// The codeword of an accepted call, which fills `output`.
-    fn build(&mut self, block: &[u8], plan: &Plan, symbol: usize, version: usize, output: &mut [u8]) {
+    /// Build for a downlink as `codeword::build_down_into`: the same answers, refusals and bytes.
+    #[allow(clippy::too_many_arguments)]
+    pub fn build_down_into(
+        &mut self,
+        block: &[u8],
+        receiver: &Receiver,
+        q: usize,
+        n: usize,
+        version: usize,
+        g: usize,
+        output: &mut [u8],
+    ) -> Result<(), u8> {
+        if !(1..=A_MAX).contains(&block.len()) {
+            return Err(BAD_A);
+        }
+        let plan = Plan::of(block.len() + PARITY);
+        let rows: [usize; 5] = std::array::from_fn(|r| rows(plan.row(r).k + 4));
+        let share = receiver.share(&rows[..plan.blocks])?;
+        codeword::check(block, q, n, version, g, output.len())?;
+        self.build(block, &plan, share, n * q, version, &mut output[..g]);
+        Ok(())
+    }
+
+    /// The codeword of an accepted call, which fills `output`, each circle cut at the share.
+    fn build(&mut self, block: &[u8], plan: &Plan, cut: usize, symbol: usize, version: usize, output: &mut [u8]) {
         let symbols = output.len() / symbol;
         let (share, larger) = (symbols / plan.blocks, symbols % plan.blocks);
         let transport_parity = crc(&CRC24A, block);
@@ -87,7 +112,7 @@ impl Workspace {
             self.encode(&layout);
             let e_length = symbol * (share + usize::from(r + larger >= plan.blocks));
             let (stretch, later) = rest.split_at_mut(e_length);
-            self.walk(&layout, version, stretch);
+            self.walk(&layout, n_cb(cut, layout.rows), version, stretch);
             rest = later;
         }
     }
@@ -119,18 +144,32 @@ impl Workspace {
         }
     }
 
-    /// e_0 .. e_{E-1}, which fill `e`.
-    fn walk(&mut self, layout: &Layout, version: usize, e: &mut [u8]) {
-        let mut kept = 0;
-        for unit in 0..2 * COLUMNS {
-            if kept >= e.len() {
-                break;
-            }
-            kept += self.unit(layout, (START[version] + unit) % (2 * COLUMNS), kept);
+    /// e_0 .. e_{E-1}, which fill `e`: the whole units from the start to the cut, what is left of
+    /// the one that is cut, and the units before the start.
+    fn walk(&mut self, layout: &Layout, n_cb: usize, version: usize, e: &mut [u8]) {
+        let start = start_unit(n_cb, layout.rows, version);
+        let whole = COLUMNS + (n_cb - COLUMNS * layout.rows) / (2 * layout.rows);
+        let rest = (n_cb - COLUMNS * layout.rows) % (2 * layout.rows);
+        let mut kept = self.units(layout, start..whole, 0, e.len());
+        if rest > 0 && kept < e.len() {
+            self.unit(layout, whole, kept);
+            kept += layout.kept_before(P[whole % COLUMNS], rest);
         }
+        kept = self.units(layout, 0..start, kept, e.len());
         for once in e.chunks_mut(kept) {
             once.copy_from_slice(&self.turn[..once.len()]);
         }
+    }
+
+    /// Puts unit after unit, until there are as many bits as wanted; gives how many there are.
+    fn units(&mut self, layout: &Layout, units: Range<usize>, mut kept: usize, wanted: usize) -> usize {
+        for unit in units {
+            if kept >= wanted {
+                break;
+            }
+            kept += self.unit(layout, unit, kept);
+        }
+        kept
     }
 
     /// Puts the kept bits of one unit of the circle into the turn, and says how many.
@@ -157,6 +196,16 @@ impl Workspace {
         // The last place of all is the dummy that the wrap brings to stream 2.
         let wrapped = usize::from(unit == 2 * COLUMNS - 1);
         alone + 2 * (layout.rows - first) - wrapped
+    }
+}
+
+/// The unit that k_0 of a circle cut at N_cb is the head of.
+fn start_unit(n_cb: usize, rows: usize, version: usize) -> usize {
+    let columns = 2 * n_cb.div_ceil(8 * rows) * version + 2;
+    if columns < COLUMNS {
+        columns
+    } else {
+        COLUMNS / 2 + columns / 2
     }
 }
 
@@ -232,6 +281,13 @@ impl Layout {
         let d = row.k + 4;
         let rows = rows(d);
         Layout { row, k: row.k, rows, dummies: COLUMNS * rows - d, filler }
+    }
+
+    /// How many of the first `places` of a column of streams 1 and 2 are kept, not all of them.
+    fn kept_before(&self, column: usize, places: usize) -> usize {
+        let of_1 = places.div_ceil(2).saturating_sub(first_row(self.dummies + self.filler, column));
+        let of_2 = (places / 2).saturating_sub(first_row(self.dummies - 1, column));
+        of_1 + of_2
     }
 }
 

@@ -15,6 +15,7 @@ pub mod segmentation; // 5.1.2
 pub mod table; // 5.1.3, table 5.1.3-3
 pub mod turbo; // 5.1.3.2
 pub mod rate; // 5.1.4.1
+pub mod soft_buffer; // 5.1.4.1.2, N_IR and N_cb
 pub mod codeword; // 5.1.5, and the whole chain
 pub mod report; // 5.2.2.6.4 and 5.2.2.7, E3 of 02
 pub mod control; // 5.3.3, with 5.1.3.1 and 5.1.4.2
@@ -32,6 +33,7 @@ pub mod protocol; // how a bridge to another program is asked and answers
 pub mod cases; // what it is asked
 mod cases_two; // and of a block in two slices
 pub mod cases_control; // of that, the control calls
+pub mod cases_down; // of Build for a downlink
 pub mod compare; // asks it and compares
 pub mod stub; // a bridge to this program, sound or with a planted fault
 pub mod replay; // the calls of 01 as lines with answers

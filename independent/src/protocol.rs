@@ -2,17 +2,18 @@
 //! `face/bridge.c`. Numbers are lowest byte first.
 //!
 //! A request is 56 bytes: its kind (1 Build, 2 Sizes, 3 Build of two slices, 4 Build with a
-//! report, 5 the report of a run, 6 a control message, 7 whose it is, 8 Pack, 9 Unpack), null
-//! pointers (1 block, header, run or room, 2 output, 4 payload), the fill, a zero, the header's length as 4 bytes (0 but
+//! report, 5 the report of a run, 6 a control message, 7 whose it is, 8 Pack, 9 Unpack, 10
+//! Build for a downlink), null pointers (1 block, header, run or room, 2 output, 4 payload), the fill, a zero, the header's length as 4 bytes (0 but
 //! for the third kind), then block length (or A), Q, N, version, G and output length as 8 bytes
 //! each; kind 5 has the run's length, Q, N, A, O and output length there. Kinds 4 and 5 have two
-//! more numbers behind it, the report's length (0 for kind 5) and the control bits a layer. Then
-//! come the block or run, of two slices the header first, and the report. A control message's
+//! more numbers behind it, the report's length (0 for kind 5) and the control bits a layer. Kind 10
+//! has five: release, K_MIMO, processes, soft bits and layers. Then come the block or run, of two slices the header first, and the report. A control message's
 //! block is the payload or the run, its Q the terminal, its G the E; whose a run is lies in an
 //! output of two bytes. A room to change is the block, and M its Q. An answer is 8 bytes: the number given back
 //! as 4, then 1 if the block is unchanged, three zeros; the output comes behind it between
 //! two guards. Before the call every byte of output and guards is the fill.
 
+use crate::soft_buffer::Receiver;
 use std::io::{self, ErrorKind, Read, Write};
 
 /// Bytes on each side of an output.
@@ -35,6 +36,7 @@ const CONTROL: u8 = 6;
 const WHOSE: u8 = 7;
 const PACK: u8 = 8;
 const UNPACK: u8 = 9;
+const BUILD_DOWN: u8 = 10;
 const NULL_BLOCK: u8 = 1;
 const NULL_OUTPUT: u8 = 2;
 const NULL_PAYLOAD: u8 = 4;
@@ -45,6 +47,7 @@ pub enum Call {
     Build { block: Vec<u8>, q: usize, n: usize, version: usize, g: usize },
     /// The header is the first `cut` bytes of the block, the payload the others.
     BuildTwo { block: Vec<u8>, cut: usize, q: usize, n: usize, version: usize, g: usize },
+    BuildDown { block: Vec<u8>, receiver: Receiver, q: usize, n: usize, version: usize, g: usize },
     Sizes { a: usize },
     ReportBuild { report: Vec<u8>, control: usize, block: Vec<u8>, q: usize, n: usize, version: usize, g: usize },
     ReportPart { a: usize, q: usize, n: usize, o: usize, control: usize, received: Vec<u8> },
@@ -83,6 +86,9 @@ impl Request {
             Call::BuildTwo { block, cut, q, n, version, g } => {
                 (BUILD_TWO, block, *cut, [block.len(), *q, *n, *version, *g], None)
             }
+            Call::BuildDown { block, q, n, version, g, .. } => {
+                (BUILD_DOWN, block, 0, [block.len(), *q, *n, *version, *g], None)
+            }
             Call::Sizes { a } => (SIZES, none, 0, [*a, 0, 0, 0, 0], None),
             Call::Pack { m, from } => (PACK, from, 0, [from.len(), *m, 0, 0, 0], None),
             Call::Unpack { m, from } => (UNPACK, from, 0, [from.len(), *m, 0, 0, 0], None),
@@ -106,6 +112,12 @@ impl Request {
         for number in numbers.into_iter().chain([self.output_length]).chain(further) {
             to.write_all(&(number as u64).to_le_bytes())?;
         }
+        if let Call::BuildDown { receiver, .. } = &self.call {
+            let Receiver { release, mimo, processes, soft, layers } = *receiver;
+            for number in [release, mimo, processes, soft, layers] {
+                to.write_all(&(number as u64).to_le_bytes())?;
+            }
+        }
         to.write_all(block)?;
         to.write_all(report)
     }
@@ -120,9 +132,13 @@ impl Request {
         let numbers = head[8..].as_chunks::<8>().0;
         let number = |place: usize| u64::from_le_bytes(numbers[place]) as usize;
         let output_length = limited(number(5), OUTPUT_MAX)?;
+        let mut told = [[0; 8]; 5];
+        if head[0] == BUILD_DOWN {
+            from.read_exact(told.as_flattened_mut())?;
+        }
         let mut block = Vec::new();
-        if [BUILD, BUILD_TWO, CONTROL, WHOSE, PACK, UNPACK].contains(&head[0]) {
-            let most = if head[0] < PACK { BLOCK_MAX } else { RUN_MAX };
+        if [BUILD, BUILD_TWO, BUILD_DOWN, CONTROL, WHOSE, PACK, UNPACK].contains(&head[0]) {
+            let most = if [PACK, UNPACK].contains(&head[0]) { RUN_MAX } else { BLOCK_MAX };
             block.resize(limited(number(0), most)?, 0);
             from.read_exact(&mut block)?;
         }
@@ -133,6 +149,11 @@ impl Request {
                 let [.., c0, c1, c2, c3] = *head.first_chunk::<8>().expect("a head is longer");
                 let cut = limited(u32::from_le_bytes([c0, c1, c2, c3]) as usize, block.len())?;
                 Call::BuildTwo { block, cut, q, n, version, g }
+            }
+            BUILD_DOWN => {
+                let [release, mimo, processes, soft, layers] = told.map(|bytes| u64::from_le_bytes(bytes) as usize);
+                let receiver = Receiver { release, mimo, processes, soft, layers };
+                Call::BuildDown { block, receiver, q, n, version, g }
             }
             SIZES => Call::Sizes { a: number(0) },
             PACK => Call::Pack { m: q, from: block },

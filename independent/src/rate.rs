@@ -59,9 +59,13 @@ pub fn circle<T: Copy>(d: &[Vec<Option<T>>; 3]) -> Vec<Option<T>> {
     w
 }
 
-/// k_0, where the walk round a circle of `n_cb` places starts. N_cb = K_w for UL-SCH.
+/// k_0, where the walk round a whole circle starts. N_cb = K_w for UL-SCH.
 pub fn start(n_cb: usize, version: usize) -> usize {
-    let r = n_cb / (3 * COLUMNS);
+    start_in(n_cb, n_cb / (3 * COLUMNS), version)
+}
+
+/// k_0 on a circle of R rows that is cut at N_cb places.
+pub fn start_in(n_cb: usize, r: usize, version: usize) -> usize {
     r * (2 * n_cb.div_ceil(8 * r) * version + 2)
 }
 
@@ -84,6 +88,12 @@ pub fn walk<T: Copy>(w: &[Option<T>], k_0: usize, e_length: usize) -> Vec<T> {
 pub fn match_block<T: Copy>(d: &[Vec<Option<T>>; 3], version: usize, e_length: usize) -> Vec<T> {
     let w = circle(d);
     walk(&w, start(w.len(), version), e_length)
+}
+
+/// The same where the circle is cut at N_cb places.
+pub fn match_cut<T: Copy>(d: &[Vec<Option<T>>; 3], n_cb: usize, version: usize, e_length: usize) -> Vec<T> {
+    let w = circle(d);
+    walk(&w[..n_cb], start_in(n_cb, rows(d[0].len()), version), e_length)
 }
 
 /// E of each code block: the larger shares, if any, go to the last blocks.

@@ -12,6 +12,7 @@ use crate::protocol::{Answer, Call, Request, GUARD};
 use crate::rate;
 use crate::report;
 use crate::segmentation::{self, Segmentation};
+use crate::soft_buffer::{n_cb, Receiver};
 use crate::turbo;
 use std::io::{self, BufReader, Read, Write};
 
@@ -45,6 +46,11 @@ pub enum Fault {
     LowFirst,
     NoChange,
     LastGroup,
+    NoCeiling,
+    LongCut,
+    NoLimit,
+    FirstRows,
+    LateBuffer,
     EndsEarly,
     Garbles,
     ControlLate,
@@ -54,7 +60,7 @@ pub enum Fault {
 use Fault::*;
 
 /// The faults by their names.
-pub const FAULTS: [(&str, Fault); 32] = [
+pub const FAULTS: [(&str, Fault); 37] = [
     ("long-first", LongFirst),                  // long code blocks come first
     ("early-shares", EarlyShares),              // the early code blocks have the larger share
     ("start-at-zero", StartAtZero),             // the walk starts at place 0
@@ -83,6 +89,11 @@ pub const FAULTS: [(&str, Fault); 32] = [
     ("low-first", LowFirst),                    // the first place in the low bits
     ("no-change", NoChange),                    // 3 becomes 2
     ("last-group", LastGroup),                  // the last four places are left out
+    ("no-ceiling", NoCeiling),                  // the start of a cut circle is rounded down
+    ("long-cut", LongCut),                      // the circle is cut one place too late
+    ("no-limit", NoLimit),                      // more than 8 processes share the soft buffer
+    ("first-rows", FirstRows),                  // 21 by the first code block's rows
+    ("late-buffer", LateBuffer),                // 3 before 21
     ("ends-early", EndsEarly),                  // ends after 1,000 answers
     ("garbles", Garbles),                       // answers out of form
     ("control-late", ControlLate),              // 17 after 18
@@ -137,6 +148,9 @@ impl Stub {
                 }
                 let unseen = if self.has(SecondFromZero) { cut } else { 0 };
                 self.build(&block, unseen, q, n, version, g, lent)
+            }
+            Call::BuildDown { block, receiver, q, n, version, g } => {
+                self.build_down(&block, receiver, (q, n, version, g), lent)
             }
             Call::Sizes { a } => self.sizes(a, lent),
             Call::Pack { m, from } => self.pack(m, from, lent),
@@ -247,6 +261,43 @@ impl Stub {
             output.fill(0);
         }
         owner.map(|owner| output.copy_from_slice(&owner.to_le_bytes()))
+    }
+
+    /// Build for a downlink for speed, unless a fault is planted.
+    fn build_down(
+        &mut self,
+        block: &[u8],
+        receiver: Receiver,
+        (q, n, version, g): (usize, usize, usize, usize),
+        output: &mut [u8],
+    ) -> Result<(), u8> {
+        let s = codeword::segmentation_of(block.len())?;
+        let rows = codeword::rows_of(&s);
+        if self.has(LateBuffer) && !codeword::allocation_fits(q, n, g, s.blocks) {
+            return Err(codeword::BAD_ALLOCATION);
+        }
+        let seen = if self.has(FirstRows) { vec![rows[0]; rows.len()] } else { rows.clone() };
+        let mut share = receiver.share(&seen)?;
+        if self.has(NoLimit) {
+            share = (share as u128 * receiver.processes.min(8) as u128 / receiver.processes as u128) as usize;
+        }
+        if !matches!(self.fault, Some(NoCeiling | LongCut | NoLimit | FirstRows)) {
+            return self.workspace.build_down_into(block, &receiver, q, n, version, g, output);
+        }
+        codeword::check(block, q, n, version, g, output.len())?;
+        let mut matched = Vec::new();
+        for ((d, r), e_length) in codeword::streams(block).iter().zip(rows).zip(rate::shares(g, n * q, s.blocks)) {
+            let w = rate::circle(d);
+            let n_cb = n_cb(share, r).max(32 * r);
+            let end = if self.has(LongCut) { (n_cb + 1).min(w.len()) } else { n_cb };
+            let start = match self.has(NoCeiling) {
+                true => r * (2 * (n_cb / (8 * r)) * version + 2),
+                false => rate::start_in(n_cb, r, version),
+            };
+            matched.push(rate::walk(&w[..end], start, e_length));
+        }
+        output[..g].copy_from_slice(&codeword::concatenate(&matched));
+        Ok(())
     }
 
     /// Build for speed, unless a fault is planted; the transport check does not see so many

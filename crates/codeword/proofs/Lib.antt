@@ -4,8 +4,10 @@ pub mod Shares
 pub mod Segmented
 pub mod Joined
 pub mod Numbers
+pub mod SoftShares
 pub mod Sent
 pub mod Rooms
 pub mod Taken
 pub mod Data
+pub mod Uplink
 pub mod Stretches

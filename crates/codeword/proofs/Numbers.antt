@@ -11,9 +11,11 @@ use Rattle.refusals.specs.Refusals.{firstOf}
 use Rattle.refusals.proofs.Refusals.{cleared}
 use Rattle.segmentation.specs.Segmentation.{blocks}
 use Rattle.segmentation.specs.Sizes.{badSize}
-use Rattle.codeword.specs.Codeword.{codeword}
-use Rattle.codeword.specs.Build.{badAllocation, badVersion, badBits, buildRules, buildNumber, buildOutput}
+use Rattle.rate_matching.specs.SoftBuffer.{wholeShare}
 use Rattle.codeword.specs.Sending.{Accepted}
+use Rattle.codeword.proofs.Segmented.{whole-fits}
+use Rattle.codeword.specs.Codeword.{codewordIn, codeword}
+use Rattle.codeword.specs.Build.{badAllocation, badVersion, badBits, buildRules, buildNumber, buildOutput}
 
 module _ (a : List ℕ) (Q N v G room : ℕ) where
   pub bad-size-is : badSize (length a) ≡ true → 1 ≡ buildNumber a Q N v G room
@@ -44,18 +46,28 @@ module _ (a : List ℕ) (Q N v G room : ℕ) where
           unfolding buildNumber buildRules firstOf badVersion
           accepted-is e = simp (size, allocation, le-ltb 3 v version, le-ltb room G enough, e)
 
--- what number 0 tells
-pub accepted : (a : List ℕ) (Q N v G room : ℕ) → buildNumber a Q N v G room ≡ 0 → Accepted a Q N v G × (G ≤ room)
+-- what number 0 tells, whatever the soft buffer is
+pub record Rest (a : List ℕ) (Q N v G room : ℕ) : Type 0 where
+  pub size : badSize (length a) ≡ false
+  pub allocation : badAllocation (blocks (length a + 24)) Q N G ≡ false
+  pub version : v ≤ 3
+  pub fits : G ≤ room
+  pub bits : badBits a ≡ false
+
+pub rest : (a : List ℕ) (Q N v G room : ℕ) → buildNumber a Q N v G room ≡ 0 → Rest a Q N v G room
 unfolding buildNumber buildRules badVersion
-accepted a Q N v G room h = (
-  record {
-    size = cleared (buildRules a Q N v G room) refl h tt 0;
-    allocation = cleared (buildRules a Q N v G room) refl h tt 1;
-    version = ltb-false 3 v (cleared (buildRules a Q N v G room) refl h tt 2);
-    bits = cleared (buildRules a Q N v G room) refl h tt 4;
-  },
-  ltb-false room G (cleared (buildRules a Q N v G room) refl h tt 3),
-)
+rest a Q N v G room h = record {
+  size = cleared (buildRules a Q N v G room) refl h tt 0;
+  allocation = cleared (buildRules a Q N v G room) refl h tt 1;
+  version = ltb-false 3 v (cleared (buildRules a Q N v G room) refl h tt 2);
+  fits = ltb-false room G (cleared (buildRules a Q N v G room) refl h tt 3);
+  bits = cleared (buildRules a Q N v G room) refl h tt 4;
+}
+
+pub accepted : (a : List ℕ) (Q N v G room : ℕ) → buildNumber a Q N v G room ≡ 0 → Accepted wholeShare a Q N v G × (G ≤ room)
+accepted a Q N v G room h =
+    let k = rest a Q N v G room h in
+    (record { size = k .size; buffer = λ r below. whole-fits (length a) (k .size) r; allocation = k .allocation; version = k .version; bits = k .bits }, k .fits)
 
 -- the output after a refusal, and after the codeword came back in its first G bytes
 pub refused-output : (a : List ℕ) (Q N v G : ℕ) (out : List ℕ) → (buildNumber a Q N v G (length out) ≡ 0 → ⊥) → out ≡ buildOutput a Q N v G out
@@ -63,6 +75,6 @@ unfolding buildOutput
 refused-output a Q N v G out h = simp (ne-eqb _ _ h)
 
 pub built-output : (a : List ℕ) (Q N v G : ℕ) (out : List ℕ) {front : List ℕ} → buildNumber a Q N v G (length out) ≡ 0
-    → front ≡ codeword a Q N v G → front ++ drop G out ≡ buildOutput a Q N v G out
-unfolding buildOutput
+    → front ≡ codewordIn wholeShare a Q N v G → front ++ drop G out ≡ buildOutput a Q N v G out
+unfolding buildOutput codeword
 built-output a Q N v G out h e = simp (eq-eqb _ _ h) (ap (λ (l : List ℕ). l ++ drop G out) e)

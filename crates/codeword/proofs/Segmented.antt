@@ -2,12 +2,15 @@
 -- Assumes nothing.
 use mathlib.Core.Path.{_≡_, refl, sym, _∙_, ap}
 use mathlib.Core.Bool.{Bool, true, false, cond}
-use Prim.Native.Nat.{ℕ, _+_, _≤_, _<_}
+use Prim.Native.Nat.{ℕ, _+_, _*_, _≤_, _<_}
 use native.Mathlib.Omega.{arith}
 use Rattle.segmentation.specs.declared.Segments.{Segments}
 use Rattle.segmentation.specs.Segmentation.{blocks}
 use Rattle.segmentation.specs.Sizes.{badSize, segmentsOf, segmentsFor, noSegments}
-use Rattle.segmentation.proofs.Segmentation.{in-range, blocks-least, long-most}
+use Rattle.segmentation.proofs.Segmentation.{in-range, blocks-least, long-most, size-most}
+use Rattle.rate_matching.specs.SubBlocks.{rows}
+use Rattle.rate_matching.specs.SoftBuffer.{wholeShare}
+use Rattle.codeword.specs.Codeword.{blockRows}
 
 -- the segmentation of a block of A bits, A in range
 pub record Sized (A : ℕ) (s : Segments) : Type 0 where
@@ -49,3 +52,8 @@ unfolding segmentsFor
 sized-in A s good told =
     let e : s ≡ segmentsOf (A + 24) = told ∙ rw good refl in
     record { size = good; told = e; count = count-told (A + 24) e }
+
+-- an uplink's share of the soft buffer is long enough for every code block
+pub whole-fits : (A : ℕ) → badSize A ≡ false → (r : ℕ) → 32 * blockRows (A + 24) r ≤ wholeShare
+unfolding blockRows rows
+whole-fits A good r = omega (arith, size-most (A + 24) (omega (arith, in-range A good .1)) r)

@@ -3,8 +3,7 @@
 use mathlib.Core.Path.{_≡_, refl, sym, _∙_, ap}
 use mathlib.Core.Bool.{true, cond}
 use mathlib.Core.List.{List, _++_}
-use Prim.Native.Nat.{ℕ, _+_, _-_, _≤_, _<_}
-use native.Mathlib.Decide.{decLt}
+use Prim.Native.Nat.{ℕ, _+_, _-_, _*_, _≤_, _<_}
 use native.Mathlib.Omega.{arith}
 use lib.Dec.{eqb, ltb}
 use lib.ListN.{length, take, drop, length-append, length-drop}
@@ -15,26 +14,35 @@ use Rattle.laws.proofs.Bits.{bitsOf-bits}
 use Rattle.interleaver.specs.Table.{sizeAt}
 use Rattle.interleaver.proofs.Rows.{row-keeps}
 use Rattle.segmentation.specs.declared.Segments.{Segments}
-use Rattle.segmentation.specs.Segmentation.{blocks, shorts, sizeOf, rowOf, fillerOf}
+use Rattle.segmentation.specs.Segmentation.{blocks, sizeOf, rowOf, fillerOf}
 use Rattle.segmentation.specs.CodeBlocks.{codeBlock}
 use Rattle.segmentation.specs.Into.{fitsBlock, codeBlockInto}
 use Rattle.segmentation.specs.Sizes.{segmentsOf}
-use Rattle.segmentation.proofs.Segmentation.{in-range, large-of, short-is, shorts-fewer, size-short, size-long, size-row, row-below, size-most}
+use Rattle.segmentation.proofs.Segmentation.{in-range, size-row, row-below, size-most}
 use Rattle.segmentation.proofs.CodeBlocks.{filler-within, length-codeBlock}
 use Rattle.segmentation.proofs.Payload.{with-bits}
 use Rattle.turbo.specs.Streams.{stream0, stream1, stream2}
 use Rattle.turbo.specs.Encode.{blockIn, fit}
 use Rattle.turbo.proofs.Encodable.{true-encodable, block-put}
 use Rattle.laws.proofs.AreBits.{append-bits}
+use Rattle.rate_matching.specs.SubBlocks.{rows}
+use Rattle.rate_matching.specs.Circle.{circleLength, cutAt, Cut}
 use Rattle.rate_matching.specs.Matcher.{matchedInto}
 use Rattle.rate_matching.proofs.Alike.{Filled}
+use Rattle.rate_matching.proofs.Units.{rows-some}
 use Rattle.rate_matching.proofs.MatcherBlock.{Matchable, matched-selected}
-use Rattle.codeword.specs.Codeword.{blockCircle, blockRows, sentBits}
+use Rattle.codeword.specs.Codeword.{blockCircle, blockRows, blockCut, sentBits}
 use Rattle.codeword.specs.Sending.{Sending}
 use Rattle.codeword.proofs.Accepted.{given-bits}
+use Rattle.codeword.proofs.SoftShares.{size-under}
 use Rattle.codeword.proofs.Data.{block-filled}
 
-module _ {a : List ℕ} {s : Segments} {r v : ℕ} (h : Sending a s r v) where
+-- the circle of R rows is cut where it may be
+pub cut-told : {soft : ℕ} (R : ℕ) → 0 < R → 32 * R ≤ soft → Cut (cutAt soft R) R
+unfolding cutAt circleLength
+cut-told R some h = record { some = some; least = omega arith; most = omega arith }
+
+module _ {soft : ℕ} {a : List ℕ} {s : Segments} {r v : ℕ} (h : Sending soft a s r v) where
   high : length a + 24 ≤ 30600
   high = omega (arith, in-range (length a) (h .size) .1)
 
@@ -57,11 +65,7 @@ module _ {a : List ℕ} {s : Segments} {r v : ℕ} (h : Sending a s r v) where
   -- no code block is longer than the long size
   pub size-within : sizeOf (length a + 24) r ≤ s .long
   unfolding segmentsOf
-  size-within = rw (h .segments) (elim (decLt r (shorts (length a + 24))) [
-    | yes l ↦ let several : 1 < blocks (length a + 24) = omega (arith, shorts-fewer (length a + 24) high) in
-        omega (arith, size-short (length a + 24) high r l, short-is (length a + 24) high (large-of (length a + 24) several) .below)
-    | no g ↦ let last : shorts (length a + 24) ≤ r = omega arith in omega (arith, size-long (length a + 24) high r last)
-  ])
+  size-within = rw (h .segments) (size-under (length a + 24) high r)
 
   -- the code block's bits
   coded : (x : ℕ) (c₀ c : List ℕ) → length c₀ ≡ sizeOf (length a + 24) r → c ≡ codeBlockInto a x r c₀ → c ≡ codeBlock (a ++ bitsOf 24 x) r
@@ -118,7 +122,8 @@ module _ {a : List ℕ} {s : Segments} {r v : ℕ} (h : Sending a s r v) where
         places = ap (λ (k : ℕ). k + 4) size
 
     -- its streams are those of a code block
-    matches : Matchable (sizeOf (length a + 24) r + 4) (sizeOf (length a + 24) r + 4) (sizeOf (length a + 24) r + 4) (fillerOf (length a + 24) r) v
+    matches : Matchable (sizeOf (length a + 24) r + 4) (sizeOf (length a + 24) r + 4) (sizeOf (length a + 24) r + 4) (fillerOf (length a + 24) r) (blockCut soft (length a + 24) r) v
+    unfolding blockCut blockRows
     matches =
         let row = row-keeps _ (row-below (length a + 24) high r) in
         let size = size-row (length a + 24) high r in
@@ -131,16 +136,17 @@ module _ {a : List ℕ} {s : Segments} {r v : ℕ} (h : Sending a s r v) where
             filler = omega (arith, c-long, fills);
           };
           least = omega (arith, row .least, size);
+          cut = cut-told (rows (sizeOf (length a + 24) r + 4)) (rows-some _ (omega (arith, row .bytes, size))) (h .buffer);
           version = h .version;
         }
 
     -- the rate matcher sends the bits that the definition names
     pub sent-is : {row F : ℕ} → row ≡ rowOf (length a + 24) r → F ≡ fillerOf (length a + 24) r → {d0 d1 d2 : List ℕ}
         → d0 ≡ stream0 row F c → d1 ≡ stream1 row F c → d2 ≡ stream2 row c → (out₀ : List ℕ) {out : List ℕ}
-        → out ≡ matchedInto d0 d1 d2 F v out₀ → out ≡ sentBits (a ++ bitsOf 24 x) v r (length out₀)
+        → {Ncb : ℕ} → Ncb ≡ blockCut soft (length a + 24) r → out ≡ matchedInto d0 d1 d2 F Ncb v out₀ → out ≡ sentBits soft (a ++ bitsOf 24 x) v r (length out₀)
     unfolding sentBits blockCircle blockRows
-    sent-is {row} {F} row-is F-is {d0} {d1} {d2} e0 e1 e2 out₀ {out} told =
-        told ∙ rw (e0, e1, e2, row-is, F-is, with-bits a x, c-is) (matched-selected filled matches out₀)
+    sent-is {row} {F} row-is F-is {d0} {d1} {d2} e0 e1 e2 out₀ {out} cut-is told =
+        told ∙ rw (e0, e1, e2, row-is, F-is, cut-is, with-bits a x, c-is) (matched-selected filled matches out₀)
       where
         b : List ℕ
         b = a ++ bitsOf 24 x

@@ -18,7 +18,7 @@ use Rattle.segmentation.specs.CodeBlocks.{withCheck}
 use Rattle.segmentation.specs.Sizes.{segmentsOf}
 use Rattle.segmentation.proofs.Segmentation.{in-range, blocks-least, blocks-most}
 use Rattle.codeword.specs.Shares.{share, sharesBefore}
-use Rattle.codeword.specs.Codeword.{sentBits, blockBits, bitsFrom, codeword}
+use Rattle.codeword.specs.Codeword.{sentBits, blockBits, bitsFrom, codewordIn}
 use Rattle.codeword.specs.Build.{shareOf}
 use Rattle.codeword.specs.Sending.{Accepted, Sending}
 use Rattle.codeword.proofs.Accepted.{Allocated, allocated, share-told}
@@ -35,32 +35,32 @@ checked : (a : List ℕ) {remainder : ℕ} → remainder ≡ crc 24 gCRC24A a �
 unfolding withCheck checkBits
 checked a e = ap (λ (x : ℕ). a ++ bitsOf 24 x) e
 
-bits-sent : (b : List ℕ) (Q N v G r : ℕ) → sentBits b v r (share (blocks (length b)) Q N G r) ≡ blockBits b Q N v G r
+bits-sent : (soft : ℕ) (b : List ℕ) (Q N v G r : ℕ) → sentBits soft b v r (share (blocks (length b)) Q N G r) ≡ blockBits soft b Q N v G r
 unfolding blockBits
-bits-sent b Q N v G r = refl
+bits-sent soft b Q N v G r = refl
 
-from-next : (b : List ℕ) (Q N v G r C : ℕ) → r < C
-    → bitsFrom b Q N v G r (C - r) ≡ blockBits b Q N v G r ++ bitsFrom b Q N v G (r + 1) (C - (r + 1))
+from-next : (soft : ℕ) (b : List ℕ) (Q N v G r C : ℕ) → r < C
+    → bitsFrom soft b Q N v G r (C - r) ≡ blockBits soft b Q N v G r ++ bitsFrom soft b Q N v G (r + 1) (C - (r + 1))
 unfolding bitsFrom
-from-next b Q N v G r C h =
+from-next soft b Q N v G r C h =
     let more : C - r ≡ suc (C - (r + 1)) = omega arith in
-    ap (bitsFrom b Q N v G r) more ∙ ap (λ (k : ℕ). blockBits b Q N v G r ++ bitsFrom b Q N v G k (C - (r + 1))) (sym (add-one r))
+    ap (bitsFrom soft b Q N v G r) more ∙ ap (λ (k : ℕ). blockBits soft b Q N v G r ++ bitsFrom soft b Q N v G k (C - (r + 1))) (sym (add-one r))
 
-pub record Stretching (a : List ℕ) (Q N v : ℕ) (out₀ : List ℕ) (s : Segments) (C remainder G : ℕ) (out : List ℕ) (at r : ℕ) : Type 0 where
-  pub accepted : Accepted a Q N v (length out₀)
+pub record Stretching (soft : ℕ) (a : List ℕ) (Q N v : ℕ) (out₀ : List ℕ) (s : Segments) (C remainder G : ℕ) (out : List ℕ) (at r : ℕ) : Type 0 where
+  pub accepted : Accepted soft a Q N v (length out₀)
   pub segments : s ≡ segmentsOf (length a + 24)
   pub count : C ≡ blocks (length a + 24)
   pub check : remainder ≡ crc 24 gCRC24A a
   pub given : G ≡ length out₀
   pub below : r ≤ C
   pub starts : at ≡ sharesBefore C Q N (length out₀) r
-  pub written : Writing out₀ out at (bitsFrom (withCheck a) Q N v (length out₀) r (C - r)) (codeword a Q N v (length out₀))
+  pub written : Writing out₀ out at (bitsFrom soft (withCheck a) Q N v (length out₀) r (C - r)) (codewordIn soft a Q N v (length out₀))
 
-pub start : {a : List ℕ} {Q N v : ℕ} {out : List ℕ} {s : Segments} {C remainder G : ℕ} → Accepted a Q N v (length out)
+pub start : {soft : ℕ} {a : List ℕ} {Q N v : ℕ} {out : List ℕ} {s : Segments} {C remainder G : ℕ} → Accepted soft a Q N v (length out)
     → s ≡ segmentsOf (length a + 24) → C ≡ blocks (length a + 24) → remainder ≡ crc 24 gCRC24A a → G ≡ length out
-    → Stretching a Q N v out s C remainder G out 0 0
-unfolding sharesBefore codeword
-start {a} {Q} {N} {v} {out} {C = C} ok told count check given = record {
+    → Stretching soft a Q N v out s C remainder G out 0 0
+unfolding sharesBefore codewordIn
+start {soft} {a} {Q} {N} {v} {out} {C = C} ok told count check given = record {
   accepted = ok;
   segments = told;
   count = count;
@@ -68,11 +68,11 @@ start {a} {Q} {N} {v} {out} {C = C} ok told count check given = record {
   given = given;
   below = omega arith;
   starts = refl;
-  written = writing.same (ap (bitsFrom (withCheck a) Q N v (length out) 0) (sym count ∙ omega arith)) writing.start;
+  written = writing.same (ap (bitsFrom soft (withCheck a) Q N v (length out) 0) (sym count ∙ omega arith)) writing.start;
 }
 
-module _ {a : List ℕ} {Q N v : ℕ} {out₀ : List ℕ} {s : Segments} {C remainder G : ℕ} {out : List ℕ} {at r : ℕ}
-    (h : Stretching a Q N v out₀ s C remainder G out at r) where
+module _ {soft : ℕ} {a : List ℕ} {Q N v : ℕ} {out₀ : List ℕ} {s : Segments} {C remainder G : ℕ} {out : List ℕ} {at r : ℕ}
+    (h : Stretching soft a Q N v out₀ s C remainder G out at r) where
   high : length a + 24 ≤ 30600
   high = omega (arith, in-range (length a) (h .accepted .size) .1)
 
@@ -89,9 +89,10 @@ module _ {a : List ℕ} {Q N v : ℕ} {out₀ : List ℕ} {s : Segments} {C rema
     own : {e : ℕ} → e ≡ shareOf C Q N G r → e ≡ share C Q N (length out₀) r
     own e-is = e-is ∙ ap (λ (g : ℕ). shareOf C Q N g r) (h .given) ∙ share-told C Q N (length out₀) r more (rw (h .count) (h .accepted .allocation))
 
-    pub sending : Sending a s r v
+    pub sending : Sending soft a s r v
     sending = record {
       size = h .accepted .size;
+      buffer = h .accepted .buffer r (omega (arith, h .count));
       segments = h .segments;
       below = omega (arith, h .count);
       version = h .accepted .version;
@@ -103,9 +104,9 @@ module _ {a : List ℕ} {Q N v : ℕ} {out₀ : List ℕ} {s : Segments} {C rema
     within e-is = omega (arith, h .starts, own e-is, stretch-within C Q N (length out₀) r more (ok .multiple), h .written .long)
 
     pub next : {e : ℕ} {part : List ℕ} → e ≡ shareOf C Q N G r
-        → part ≡ sentBits (a ++ bitsOf 24 remainder) v r (length (midOf at (at + e - at) out))
+        → part ≡ sentBits soft (a ++ bitsOf 24 remainder) v r (length (midOf at (at + e - at) out))
         → length part ≡ at + e - at
-        → Stretching a Q N v out₀ s C remainder G (putMid at (at + e - at) out part) (at + e) (r + 1)
+        → Stretching soft a Q N v out₀ s C remainder G (putMid at (at + e - at) out part) (at + e) (r + 1)
     next {e} {part} e-is part-is long = record {
       accepted = h .accepted;
       segments = h .segments;
@@ -125,18 +126,18 @@ module _ {a : List ℕ} {Q N v : ℕ} {out₀ : List ℕ} {s : Segments} {C rema
             length-mid at (at + e) out (within e-is) ∙ omega arith ∙ own e-is
             ∙ ap (λ (c : ℕ). share c Q N (length out₀) r) (h .count ∙ ap blocks (sym (length-withCheck a)))
 
-        said : part ≡ blockBits (withCheck a) Q N v (length out₀) r
-        said = part-is ∙ ap₂ (λ (b : List ℕ) (E : ℕ). sentBits b v r E) (checked a (h .check)) lent ∙ bits-sent (withCheck a) Q N v (length out₀) r
+        said : part ≡ blockBits soft (withCheck a) Q N v (length out₀) r
+        said = part-is ∙ ap₂ (λ (b : List ℕ) (E : ℕ). sentBits soft b v r E) (checked a (h .check)) lent ∙ bits-sent soft (withCheck a) Q N v (length out₀) r
 
-        one-more : bitsFrom (withCheck a) Q N v (length out₀) r (C - r)
-            ≡ blockBits (withCheck a) Q N v (length out₀) r ++ bitsFrom (withCheck a) Q N v (length out₀) (r + 1) (C - (r + 1))
-        one-more = from-next (withCheck a) Q N v (length out₀) r C more
+        one-more : bitsFrom soft (withCheck a) Q N v (length out₀) r (C - r)
+            ≡ blockBits soft (withCheck a) Q N v (length out₀) r ++ bitsFrom soft (withCheck a) Q N v (length out₀) (r + 1) (C - (r + 1))
+        one-more = from-next soft (withCheck a) Q N v (length out₀) r C more
 
-pub finish : {a : List ℕ} {Q N v : ℕ} {out₀ : List ℕ} {s : Segments} {C remainder G : ℕ} {out : List ℕ} {at r : ℕ}
-    → Stretching a Q N v out₀ s C remainder G out at r → C ≤ r → out ≡ codeword a Q N v (length out₀)
+pub finish : {soft : ℕ} {a : List ℕ} {Q N v : ℕ} {out₀ : List ℕ} {s : Segments} {C remainder G : ℕ} {out : List ℕ} {at r : ℕ}
+    → Stretching soft a Q N v out₀ s C remainder G out at r → C ≤ r → out ≡ codewordIn soft a Q N v (length out₀)
 unfolding bitsFrom
-finish {a} {Q} {N} {v} {out₀} {C = C} {out = out} {at = at} {r = r} h end =
+finish {soft} {a} {Q} {N} {v} {out₀} {C = C} {out = out} {at = at} {r = r} h end =
     let last : r ≡ C = omega (arith, h .below) in
     let whole : at ≡ length out₀ = h .starts ∙ ap (sharesBefore C Q N (length out₀)) last ∙ all h in
     let none : C - r ≡ 0 = omega arith in
-    writing.finish-all (omega (arith, h .written .long)) (ap (bitsFrom (withCheck a) Q N v (length out₀) r) none) (h .written)
+    writing.finish-all (omega (arith, h .written .long)) (ap (bitsFrom soft (withCheck a) Q N v (length out₀) r) none) (h .written)

@@ -2,12 +2,13 @@
 -- Assumes nothing.
 use mathlib.Core.List.{List, [], _++_}
 use Prim.Native.Nat.{ℕ, zero, suc, _+_}
-use lib.ListN.{length}
+use lib.ListN.{length, take}
 use Rattle.segmentation.specs.Segmentation.{blocks, sizeOf, rowOf, fillerOf}
 use Rattle.segmentation.specs.CodeBlocks.{withCheck, codeBlock}
 use Rattle.turbo.specs.Streams.{stream0, stream1, stream2}
 use Rattle.rate_matching.specs.SubBlocks.{rows}
-use Rattle.rate_matching.specs.Circle.{circle, startOf}
+use Rattle.rate_matching.specs.Circle.{circle, cutAt, startIn}
+use Rattle.rate_matching.specs.SoftBuffer.{wholeShare}
 use Rattle.rate_matching.specs.Walk.{selected}
 use Rattle.codeword.specs.Shares.{share}
 
@@ -23,19 +24,28 @@ blockCircle b r =
 unfoldable pub blockRows : ℕ → ℕ → ℕ
 blockRows B r = rows (sizeOf B r + 4)
 
+-- N_cb of code block r, each code block having a share `soft` of the soft buffer
+unfoldable pub blockCut : ℕ → ℕ → ℕ → ℕ
+blockCut soft B r = cutAt soft (blockRows B r)
+
 -- the first E bits that code block r sends in redundancy version v
-unfoldable pub sentBits : List ℕ → ℕ → ℕ → ℕ → List ℕ
-sentBits b v r E = selected (blockCircle b r) (startOf (blockRows (length b) r) v) E
+unfoldable pub sentBits : ℕ → List ℕ → ℕ → ℕ → ℕ → List ℕ
+sentBits soft b v r E =
+    selected (take (blockCut soft (length b) r) (blockCircle b r)) (startIn (blockCut soft (length b) r) (blockRows (length b) r) v) E
 
 -- e_r0 .. e_r(E_r − 1): what code block r sends of the G bits
-unfoldable pub blockBits : List ℕ → ℕ → ℕ → ℕ → ℕ → ℕ → List ℕ
-blockBits b Q N v G r = sentBits b v r (share (blocks (length b)) Q N G r)
+unfoldable pub blockBits : ℕ → List ℕ → ℕ → ℕ → ℕ → ℕ → ℕ → List ℕ
+blockBits soft b Q N v G r = sentBits soft b v r (share (blocks (length b)) Q N G r)
 
 -- the bits of n code blocks from r on, in order (clause 5.1.5)
-unfoldable pub bitsFrom : List ℕ → ℕ → ℕ → ℕ → ℕ → ℕ → ℕ → List ℕ
-bitsFrom b Q N v G r zero = []
-bitsFrom b Q N v G r (suc n) = blockBits b Q N v G r ++ bitsFrom b Q N v G (suc r) n
+unfoldable pub bitsFrom : ℕ → List ℕ → ℕ → ℕ → ℕ → ℕ → ℕ → ℕ → List ℕ
+bitsFrom soft b Q N v G r zero = []
+bitsFrom soft b Q N v G r (suc n) = blockBits soft b Q N v G r ++ bitsFrom soft b Q N v G (suc r) n
 
--- the codeword of the transport block a for the allocation Q, N, G and redundancy version v
+-- the codeword of the transport block a for the allocation Q, N, G and redundancy version v, each code block having a share `soft` of the soft buffer
+unfoldable pub codewordIn : ℕ → List ℕ → ℕ → ℕ → ℕ → ℕ → List ℕ
+codewordIn soft a Q N v G = bitsFrom soft (withCheck a) Q N v G 0 (blocks (length a + 24))
+
+-- the codeword of an uplink's transport block: no circle is cut
 unfoldable pub codeword : List ℕ → ℕ → ℕ → ℕ → ℕ → List ℕ
-codeword a Q N v G = bitsFrom (withCheck a) Q N v G 0 (blocks (length a + 24))
+codeword a Q N v G = codewordIn wholeShare a Q N v G

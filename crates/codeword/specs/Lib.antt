@@ -1,4 +1,5 @@
 pub mod Shares
 pub mod Codeword
 pub mod Build
+pub mod Downlink
 pub mod Sending

@@ -1,25 +1,30 @@
 -- What the parts of Build may take for granted: an accepted call, a code block that is sent.
 -- Assumes nothing.
 use mathlib.Core.Path.{_≡_}
-use mathlib.Core.Bool.{false}
+use mathlib.Core.Bool.{false, cond}
 use mathlib.Core.List.{List}
-use Prim.Native.Nat.{ℕ, _+_, _≤_, _<_}
+use Prim.Native.Nat.{ℕ, _+_, _*_, _≤_, _<_}
+use lib.Dec.{ltb}
 use lib.ListN.{length}
 use Rattle.segmentation.specs.declared.Segments.{Segments}
-use Rattle.segmentation.specs.Segmentation.{blocks}
+use Rattle.segmentation.specs.Segmentation.{blocks, long}
 use Rattle.segmentation.specs.Sizes.{badSize, segmentsOf}
-use Rattle.codeword.specs.Build.{badAllocation, badBits}
+use Rattle.rate_matching.specs.SubBlocks.{rows}
+use Rattle.codeword.specs.Codeword.{blockRows}
+use Rattle.codeword.specs.Build.{badAllocation, badBits, buildNumber}
 
--- an accepted Build of G bits
-pub record Accepted (a : List ℕ) (Q N v G : ℕ) : Type 0 where
+-- an accepted Build of G bits, each code block having a share `soft` of the soft buffer
+pub record Accepted (soft : ℕ) (a : List ℕ) (Q N v G : ℕ) : Type 0 where
   pub size : badSize (length a) ≡ false
+  pub buffer : (r : ℕ) → r < blocks (length a + 24) → 32 * blockRows (length a + 24) r ≤ soft
   pub allocation : badAllocation (blocks (length a + 24)) Q N G ≡ false
   pub version : v ≤ 3
   pub bits : badBits a ≡ false
 
 -- code block r of a block a, whose segmentation is s, in redundancy version v
-pub record Sending (a : List ℕ) (s : Segments) (r v : ℕ) : Type 0 where
+pub record Sending (soft : ℕ) (a : List ℕ) (s : Segments) (r v : ℕ) : Type 0 where
   pub size : badSize (length a) ≡ false
+  pub buffer : 32 * blockRows (length a + 24) r ≤ soft
   pub segments : s ≡ segmentsOf (length a + 24)
   pub below : r < blocks (length a + 24)
   pub version : v ≤ 3
@@ -36,3 +41,8 @@ pub record Roomy (K d0 d1 d2 : ℕ) : Type 0 where
   pub first : d0 ≡ K + 4
   pub second : d1 ≡ K + 4
   pub third : d2 ≡ K + 4
+
+-- the number of a Build for a downlink whose code blocks have the share `soft`, 0 where the receiver is refused: the longest code block has the most rows
+unfoldable pub numberWith : List ℕ → ℕ → ℕ → ℕ → ℕ → ℕ → ℕ → ℕ
+numberWith a soft Q N v G room =
+    cond (badSize (length a)) 1 (cond (ltb soft (32 * rows (long (length a + 24) + 4))) 21 (buildNumber a Q N v G room))

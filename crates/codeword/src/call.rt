@@ -1,4 +1,7 @@
-// The call Build of 01, for a block in one slice or in two.
+// The call Build of 01, for a block in one slice or in two, and for a downlink.
+use crate::buffer::WHOLE_SHARE;
+use crate::buffer::cut_at;
+use crate::buffer::share_for;
 use segmentation::Segments;
 ghost use mathlib.Core.Path.{_≡_};
 ghost use mathlib.Core.List.{_++_};
@@ -6,10 +9,11 @@ ghost use Prim.Native.Nat.{_+_, _≤_, _<_};
 ghost use lib.ListN.{length};
 ghost use Rattle.laws.specs.Bits.{bitsOf};
 ghost use Rattle.segmentation.specs.Segmentation.{sizeOf};
-ghost use Rattle.segmentation.specs.Sizes.{segmentsOf};
-ghost use Rattle.codeword.specs.Codeword.{sentBits, codeword};
+ghost use Rattle.segmentation.specs.Sizes.{segmentsOf, segmentsFor};
+ghost use Rattle.codeword.specs.Codeword.{sentBits, codewordIn};
+ghost use Rattle.codeword.specs.Downlink.{buildDownNumber, buildDownOutput};
 ghost use Rattle.codeword.specs.Build.{buildNumber, buildOutput};
-ghost use Rattle.codeword.specs.Sending.{Sending, Spacious, Roomy, Accepted};
+ghost use Rattle.codeword.specs.Sending.{Sending, Spacious, Roomy, Accepted, numberWith};
 
 // Writes the codeword of `block` over the first `g` bytes of `out`. Answers 0, or the number of the refusal, which writes nothing. It is the
 // build of two slices whose second is empty.
@@ -37,8 +41,59 @@ pub fn build_two(
     if number != 0 {
         return number;
     }
-    write_codeword(header, payload, q, n, version, &mut out[..g]);
+    write_codeword(header, payload, WHOLE_SHARE, q, n, version, &mut out[..g]);
     0
+}
+
+// The same for a receiver whose soft buffer has `soft` bits for `processes` processes: the circles are cut. `release` is 8 or 11, `mimo` is K_MIMO,
+// `layers` is how many the receiver supports.
+pub fn build_down(
+    block: &[u8],
+    release: usize,
+    mimo: usize,
+    processes: usize,
+    soft: usize,
+    layers: usize,
+    q: usize,
+    n: usize,
+    version: usize,
+    g: usize,
+    out: &mut [u8],
+) -> u8
+    ensures number { λ r. ⌜ r ≡ buildDownNumber (now (block .entry)) release mimo processes soft layers q n version g (length (now (out .entry))) ⌝ }
+    ensures output { λ r. ⌜ now (out .exit) ≡ buildDownOutput (now (block .entry)) release mimo processes soft layers q n version g (now (out .entry)) ⌝ }
+{
+    let s = segmentation::segments_for(block.len());
+    let share = share_for(s.blocks, release, mimo, processes, soft, layers);
+    let number = down_number(block, s, share, q, n, version, g, out.len());
+    if number != 0 {
+        return number;
+    }
+    write_codeword(block, &block[..0], share, q, n, version, &mut out[..g]);
+    0
+}
+
+// Its refusals in 02's order: after the size and the share, those of Build. The longest code block has the most rows.
+fn down_number(
+    block: &[u8],
+    s: Segments,
+    share: usize,
+    q: usize,
+    n: usize,
+    version: usize,
+    g: usize,
+    room: usize,
+) -> u8
+    requires { ⌜ s ≡ segmentsFor (length (now block)) ⌝ }
+    ensures { λ r. ⌜ r ≡ numberWith (now (block .entry)) share q n version g room ⌝ }
+{
+    if s.blocks == 0 {
+        return 1;
+    }
+    if share < 32 * ((s.long + 35) / 32) {
+        return 21;
+    }
+    build_number(block, &block[..0], q, n, version, g, room)
 }
 
 // Build's refusals in 01's order.
@@ -76,17 +131,25 @@ fn build_number(
 }
 
 // The codeword over the whole of `out`. All of a room is cleared when it is made, so the rooms are made once, of a length that goes by K+.
-fn write_codeword(header: &[u8], payload: &[u8], q: usize, n: usize, version: usize, out: &mut [u8])
-    requires { ⌜ Accepted (now header ++ now payload) q n version (length (now out)) ⌝ }
-    ensures { λ r. ⌜ now (out .exit) ≡ codeword (now (header .entry) ++ now (payload .entry)) q n version (length (now (out .entry))) ⌝ }
+fn write_codeword(
+    header: &[u8],
+    payload: &[u8],
+    soft: usize,
+    q: usize,
+    n: usize,
+    version: usize,
+    out: &mut [u8],
+)
+    requires { ⌜ Accepted soft (now header ++ now payload) q n version (length (now out)) ⌝ }
+    ensures { λ r. ⌜ now (out .exit) ≡ codewordIn soft (now (header .entry) ++ now (payload .entry)) q n version (length (now (out .entry))) ⌝ }
 {
     let s = segmentation::segments_for_both(header.len(), payload.len());
     if s.long <= 128 {
-        write_short(header, payload, q, n, version, s, out);
+        write_short(header, payload, soft, q, n, version, s, out);
     } else if s.long <= 1024 {
-        write_middle(header, payload, q, n, version, s, out);
+        write_middle(header, payload, soft, q, n, version, s, out);
     } else {
-        write_long(header, payload, q, n, version, s, out);
+        write_long(header, payload, soft, q, n, version, s, out);
     }
 }
 
@@ -94,16 +157,17 @@ fn write_codeword(header: &[u8], payload: &[u8], q: usize, n: usize, version: us
 fn write_short(
     header: &[u8],
     payload: &[u8],
+    soft: usize,
     q: usize,
     n: usize,
     version: usize,
     s: Segments,
     out: &mut [u8],
 )
-    requires { ⌜ Accepted (now header ++ now payload) q n version (length (now out)) ⌝ }
+    requires { ⌜ Accepted soft (now header ++ now payload) q n version (length (now out)) ⌝ }
     requires { ⌜ s ≡ segmentsOf (length (now header ++ now payload) + 24) ⌝ }
     requires { ⌜ s .long ≤ 128 ⌝ }
-    ensures { λ r. ⌜ now (out .exit) ≡ codeword (now (header .entry) ++ now (payload .entry)) q n version (length (now (out .entry))) ⌝ }
+    ensures { λ r. ⌜ now (out .exit) ≡ codewordIn soft (now (header .entry) ++ now (payload .entry)) q n version (length (now (out .entry))) ⌝ }
 {
     let mut d0 = [0u8; 132];
     let mut d1 = [0u8; 132];
@@ -111,6 +175,7 @@ fn write_short(
     write_in(
         header,
         payload,
+        soft,
         q,
         n,
         version,
@@ -126,16 +191,17 @@ fn write_short(
 fn write_middle(
     header: &[u8],
     payload: &[u8],
+    soft: usize,
     q: usize,
     n: usize,
     version: usize,
     s: Segments,
     out: &mut [u8],
 )
-    requires { ⌜ Accepted (now header ++ now payload) q n version (length (now out)) ⌝ }
+    requires { ⌜ Accepted soft (now header ++ now payload) q n version (length (now out)) ⌝ }
     requires { ⌜ s ≡ segmentsOf (length (now header ++ now payload) + 24) ⌝ }
     requires { ⌜ s .long ≤ 1024 ⌝ }
-    ensures { λ r. ⌜ now (out .exit) ≡ codeword (now (header .entry) ++ now (payload .entry)) q n version (length (now (out .entry))) ⌝ }
+    ensures { λ r. ⌜ now (out .exit) ≡ codewordIn soft (now (header .entry) ++ now (payload .entry)) q n version (length (now (out .entry))) ⌝ }
 {
     let mut d0 = [0u8; 1028];
     let mut d1 = [0u8; 1028];
@@ -143,6 +209,7 @@ fn write_middle(
     write_in(
         header,
         payload,
+        soft,
         q,
         n,
         version,
@@ -158,15 +225,16 @@ fn write_middle(
 fn write_long(
     header: &[u8],
     payload: &[u8],
+    soft: usize,
     q: usize,
     n: usize,
     version: usize,
     s: Segments,
     out: &mut [u8],
 )
-    requires { ⌜ Accepted (now header ++ now payload) q n version (length (now out)) ⌝ }
+    requires { ⌜ Accepted soft (now header ++ now payload) q n version (length (now out)) ⌝ }
     requires { ⌜ s ≡ segmentsOf (length (now header ++ now payload) + 24) ⌝ }
-    ensures { λ r. ⌜ now (out .exit) ≡ codeword (now (header .entry) ++ now (payload .entry)) q n version (length (now (out .entry))) ⌝ }
+    ensures { λ r. ⌜ now (out .exit) ≡ codewordIn soft (now (header .entry) ++ now (payload .entry)) q n version (length (now (out .entry))) ⌝ }
 {
     let mut d0 = [0u8; 6148];
     let mut d1 = [0u8; 6148];
@@ -174,6 +242,7 @@ fn write_long(
     write_in(
         header,
         payload,
+        soft,
         q,
         n,
         version,
@@ -189,6 +258,7 @@ fn write_long(
 fn write_in(
     header: &[u8],
     payload: &[u8],
+    soft: usize,
     q: usize,
     n: usize,
     version: usize,
@@ -198,10 +268,10 @@ fn write_in(
     d2: &mut [u8],
     out: &mut [u8],
 )
-    requires { ⌜ Accepted (now header ++ now payload) q n version (length (now out)) ⌝ }
+    requires { ⌜ Accepted soft (now header ++ now payload) q n version (length (now out)) ⌝ }
     requires { ⌜ s ≡ segmentsOf (length (now header ++ now payload) + 24) ⌝ }
     requires { ⌜ Spacious (s .long) (length (now d0)) (length (now d1)) (length (now d2)) ⌝ }
-    ensures { λ r. ⌜ now (out .exit) ≡ codeword (now (header .entry) ++ now (payload .entry)) q n version (length (now (out .entry))) ⌝ }
+    ensures { λ r. ⌜ now (out .exit) ≡ codewordIn soft (now (header .entry) ++ now (payload .entry)) q n version (length (now (out .entry))) ⌝ }
 {
     let first = check_bits::crc24a(0, header);
     let remainder = check_bits::crc24a(first, payload);
@@ -213,6 +283,7 @@ fn write_in(
         send_within(
             header,
             payload,
+            soft,
             remainder,
             s,
             r,
@@ -231,6 +302,7 @@ fn write_in(
 fn send_within(
     header: &[u8],
     payload: &[u8],
+    soft: usize,
     remainder: u32,
     s: Segments,
     r: usize,
@@ -240,14 +312,15 @@ fn send_within(
     d2: &mut [u8],
     stretch: &mut [u8],
 )
-    requires { ⌜ Sending (now header ++ now payload) s r version ⌝ }
+    requires { ⌜ Sending soft (now header ++ now payload) s r version ⌝ }
     requires { ⌜ Spacious (sizeOf (length (now header ++ now payload) + 24) r) (length (now d0)) (length (now d1)) (length (now d2)) ⌝ }
-    ensures { λ _. ⌜ now (stretch .exit) ≡ sentBits ((now (header .entry) ++ now (payload .entry)) ++ bitsOf 24 remainder) version r (length (now (stretch .entry))) ⌝ }
+    ensures { λ _. ⌜ now (stretch .exit) ≡ sentBits soft ((now (header .entry) ++ now (payload .entry)) ++ bitsOf 24 remainder) version r (length (now (stretch .entry))) ⌝ }
 {
     let d = segmentation::block::size_of(s, r) + 4;
     send_in(
         header,
         payload,
+        soft,
         remainder,
         s,
         r,
@@ -263,6 +336,7 @@ fn send_within(
 fn send_in(
     header: &[u8],
     payload: &[u8],
+    soft: usize,
     remainder: u32,
     s: Segments,
     r: usize,
@@ -272,14 +346,15 @@ fn send_in(
     d2: &mut [u8],
     stretch: &mut [u8],
 )
-    requires { ⌜ Sending (now header ++ now payload) s r version ⌝ }
+    requires { ⌜ Sending soft (now header ++ now payload) s r version ⌝ }
     requires { ⌜ Roomy (sizeOf (length (now header ++ now payload) + 24) r) (length (now d0)) (length (now d1)) (length (now d2)) ⌝ }
-    ensures { λ _. ⌜ now (stretch .exit) ≡ sentBits ((now (header .entry) ++ now (payload .entry)) ++ bitsOf 24 remainder) version r (length (now (stretch .entry))) ⌝ }
+    ensures { λ _. ⌜ now (stretch .exit) ≡ sentBits soft ((now (header .entry) ++ now (payload .entry)) ++ bitsOf 24 remainder) version r (length (now (stretch .entry))) ⌝ }
 {
+    let ncb = cut_at(soft, d0.len());
     let k = d0.len() - 4;
     segmentation::block::code_block(header, payload, remainder, r, &mut d0[..k]);
     let row = segmentation::block::row_of(s, r);
     let filler = segmentation::block::filler_of(s, r);
     turbo::encode(row, filler, d0, d1, d2);
-    rate_matching::rate_match(d0, d1, d2, filler, version, stretch);
+    rate_matching::rate_match(d0, d1, d2, filler, ncb, version, stretch);
 }

@@ -1,5 +1,6 @@
-// The codeword of a transport block: clauses 5.1.4.1.2 (shares) and 5.1.5, and the call Build of 01.
+// The codeword of a transport block: clauses 5.1.4.1.2 (shares, the soft buffer) and 5.1.5, and the call Build of 01 and, for a downlink, of 02.
 mod allocation;
+mod buffer;
 mod call;
 
 pub use allocation::bad_allocation;
@@ -7,5 +8,7 @@ pub use allocation::bad_bits;
 pub use allocation::bad_layers;
 pub use allocation::bad_modulation;
 pub use allocation::share_of;
+pub use buffer::share_for;
 pub use call::build;
+pub use call::build_down;
 pub use call::build_two;

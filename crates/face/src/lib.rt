@@ -8,6 +8,7 @@ ghost use lib.ListN.{length};
 ghost use Rattle.codeword.specs.Build.{buildNumber, buildOutput};
 ghost use Rattle.reports.specs.Calls.{reportBuildNumber, reportBuildOutput, partNumber, partOutput};
 ghost use Rattle.packing.specs.Change.{packNumber, packOutput, unpackNumber, unpackOutput};
+ghost use Rattle.codeword.specs.Downlink.{buildDownNumber, buildDownOutput};
 ghost use Rattle.face.specs.Face.{fourBytes, inBytes, sizesNumber, sizesBytes};
 
 // Build: 0, or the number of the refusal, which writes nothing.
@@ -41,6 +42,39 @@ pub extern "C" fn zemrukste_build_two(
     ensures output { λ r. ⌜ now (out .exit) ≡ buildOutput (now (header .entry) ++ now (payload .entry)) q n version g (now (out .entry)) ⌝ }
 {
     codeword::build_two(header, payload, q, n, version, g, out) as u32
+}
+
+// Build for a downlink: the same, for a receiver with a limited soft buffer.
+#[no_mangle]
+pub extern "C" fn zemrukste_build_down(
+    block: &[u8],
+    release: usize,
+    mimo: usize,
+    processes: usize,
+    soft: usize,
+    layers: usize,
+    q: usize,
+    n: usize,
+    version: usize,
+    g: usize,
+    out: &mut [u8],
+) -> u32
+    ensures number { λ r. ⌜ r ≡ buildDownNumber (now (block .entry)) release mimo processes soft layers q n version g (length (now (out .entry))) ⌝ }
+    ensures output { λ r. ⌜ now (out .exit) ≡ buildDownOutput (now (block .entry)) release mimo processes soft layers q n version g (now (out .entry)) ⌝ }
+{
+    codeword::build_down(
+        block,
+        release,
+        mimo,
+        processes,
+        soft,
+        layers,
+        q,
+        n,
+        version,
+        g,
+        out,
+    ) as u32
 }
 
 // Sizes: the six numbers as bytes over the front of `out`, or the number of the refusal, which writes nothing.

@@ -13,10 +13,12 @@ use Rattle.segmentation.specs.CodeBlocks.{withCheck}
 use Rattle.segmentation.proofs.CodeBlocks.{filler-within}
 use Rattle.laws.specs.Bits.{AreBits}
 use Rattle.rate_matching.specs.Circle.{startOf}
+use Rattle.rate_matching.specs.SoftBuffer.{wholeShare}
 use Rattle.rate_matching.specs.Walk.{onCircle, selected}
 use Rattle.rate_matching.proofs.Alike.{shape-filled, same-sent}
 use Rattle.codeword.specs.Shares.{share, sharesBefore}
-use Rattle.codeword.specs.Codeword.{blockCircle, blockRows, sentBits, blockBits, bitsFrom}
+use Rattle.codeword.specs.Codeword.{blockCircle, blockRows, blockBits, bitsFrom, codeword}
+use Rattle.codeword.proofs.Uplink.{uplink-sent}
 use Rattle.codeword.proofs.Data.{withCheck-bits, block-filled}
 use Rattle.codeword.proofs.Taken.{length-withCheck, stretch-is}
 use Rattle.slots.specs.Room.{unheard}
@@ -31,14 +33,19 @@ use Rattle.history.proofs.Arrived.{met, all-append, all-met, all-decide
 -- ---- the places of a transmission, from the sizes alone
 
 module _ (b : List ℕ) (B : ℕ) (low : 24 ≤ B) (high : B ≤ 30600) (long : length b ≡ B) (bits : AreBits b) where
-  -- the bits of code block r are those at the places that a reception of it fills
-  pub block-bits : (Q N v G r : ℕ) → r < blocks B → blockBits b Q N v G r ≡ map (onCircle (blockCircle b r)) (blockPlaces B Q N v G r)
-  unfolding blockBits sentBits selected blockPlaces shape blockCircle
-  block-bits Q N v G r h =
+  -- what the whole circle sends are the bits at the places that a reception of it fills
+  whole-bits : (Q N v G r : ℕ) → r < blocks B
+      → selected (blockCircle b r) (startOf (blockRows B r) v) (share (blocks B) Q N G r) ≡ map (onCircle (blockCircle b r)) (blockPlaces B Q N v G r)
+  unfolding selected blockPlaces shape blockCircle
+  whole-bits Q N v G r h =
       rw long
       (ap (map _)
       (same-sent (block-filled B low high b long r h bits) (shape-filled (sizeOf B r + 4) (fillerOf B r) (omega (arith, filler-within B high low r)))
       (startOf (blockRows B r) v) (share (blocks B) Q N G r)))
+
+  -- and they are the bits of code block r, as an uplink's circle is not cut
+  pub block-bits : (Q N v G r : ℕ) → r < blocks B → blockBits wholeShare b Q N v G r ≡ map (onCircle (blockCircle b r)) (blockPlaces B Q N v G r)
+  block-bits Q N v G r h = uplink-sent b B low high long bits r h Q N v G ∙ whole-bits Q N v G r h
 
 -- ---- the bits of true transmissions
 
@@ -58,13 +65,14 @@ module _ (a : List ℕ) (small : length a ≤ 30576) (bits : AreBits a) where
   brings : (x : Reception) → True a x → (r : ℕ) → r < blocks (length a + 24)
       → drop (sharesBefore (blocks (length a + 24)) (x .Q) (x .N) (length (x .bits)) r) (x .bits)
       ≡ map (onCircle (blockCircle (withCheck a) r)) (blockPlaces (length a + 24) (x .Q) (x .N) (x .version) (length (x .bits)) r)
-      ++ bitsFrom (withCheck a) (x .Q) (x .N) (x .version) (length (x .bits)) (suc r) (blocks (length a + 24) - suc r)
+      ++ bitsFrom wholeShare (withCheck a) (x .Q) (x .N) (x .version) (length (x .bits)) (suc r) (blocks (length a + 24) - suc r)
+  unfolding codeword
   brings x t r h =
       let B : ℕ = length a + 24 in
       let G : ℕ = length (x .bits) in
       ap (drop (sharesBefore (blocks B) (x .Q) (x .N) G r)) t
-      ∙ stretch-is a (x .Q) (x .N) (x .version) G r h
-      ∙ ap (λ (l : List ℕ). l ++ bitsFrom (withCheck a) (x .Q) (x .N) (x .version) G (suc r) (blocks B - suc r))
+      ∙ stretch-is wholeShare a (x .Q) (x .N) (x .version) G r h
+      ∙ ap (λ (l : List ℕ). l ++ bitsFrom wholeShare (withCheck a) (x .Q) (x .N) (x .version) G (suc r) (blocks B - suc r))
       (block-bits (withCheck a) B (omega arith) (omega arith) (length-withCheck a) (withCheck-bits a bits) (x .Q) (x .N) (x .version) G r h)
 
   -- true transmissions never contradict each other: all that they bring for a place is the block's own bit there

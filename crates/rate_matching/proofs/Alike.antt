@@ -3,11 +3,12 @@
 use mathlib.Core.Path.{_≡_, refl, sym, _∙_, ap}
 use mathlib.Core.Bool.{Bool, true, false}
 use mathlib.Core.List.{List}
-use Prim.Native.Nat.{ℕ, zero, suc, _+_, _≤_, _<_}
+use Prim.Native.Nat.{ℕ, zero, suc, _+_, _≤_, _<_, min}
 use native.Mathlib.Decide.{decLt}
 use native.Mathlib.Omega.{arith}
 use lib.Dec.{leb}
-use lib.ListN.{length, getD, length-replicate, List·getD-eq-default}
+use lib.ListN.{length, getD, take, length-take, length-replicate, List·getD-eq-default}
+use lib.Seq.{getD-take}
 use borrow.Author.Tests.{lt-ltb, leb-true, leb-false}
 use Rattle.laws.specs.Lists.{tab, keep}
 use Rattle.laws.specs.Bits.{AreBits}
@@ -115,3 +116,24 @@ module _ {D F : ℕ} {d0 d1 d2 e0 e1 e2 : List ℕ} (w : Filled D F d0 d1 d2) (u
       ap (λ (places : List ℕ). tab E (turnAfterTurn places))
       (ap (λ (n : ℕ). keep (holdsBit (circle d0 d1 d2)) (round n k0)) same-length
       ∙ keep-ext (holdsBit (circle d0 d1 d2)) (holdsBit (circle e0 e1 e2)) (round (length (circle e0 e1 e2)) k0) (λ i l. same-holds _))
+
+  -- and so they do when both are cut at one place
+  cut-holds : (n j : ℕ) → holdsBit (take n (circle d0 d1 d2)) j ≡ holdsBit (take n (circle e0 e1 e2)) j
+  unfolding holdsBit onCircle
+  cut-holds n j = elim (decLt j n) [
+    | yes h ↦ ap isBit (getD-take n (circle d0 d1 d2) j 0 h) ∙ same-holds j ∙ sym (ap isBit (getD-take n (circle e0 e1 e2) j 0 h))
+    | no h ↦
+        ap isBit
+        (List·getD-eq-default (take n (circle d0 d1 d2)) 0 {n = j} (omega (arith, length-take n (circle d0 d1 d2)))
+        ∙ sym (List·getD-eq-default (take n (circle e0 e1 e2)) 0 {n = j} (omega (arith, length-take n (circle e0 e1 e2)))))
+  ]
+
+  cut-length : (n : ℕ) → length (take n (circle d0 d1 d2)) ≡ length (take n (circle e0 e1 e2))
+  cut-length n = length-take n (circle d0 d1 d2) ∙ ap (λ (m : ℕ). min n m) same-length ∙ sym (length-take n (circle e0 e1 e2))
+
+  pub same-cut : (n k0 E : ℕ) → sentPlaces (take n (circle d0 d1 d2)) k0 E ≡ sentPlaces (take n (circle e0 e1 e2)) k0 E
+  unfolding sentPlaces turn
+  same-cut n k0 E =
+      ap (λ (places : List ℕ). tab E (turnAfterTurn places))
+      (ap (λ (m : ℕ). keep (holdsBit (take n (circle d0 d1 d2))) (round m k0)) (cut-length n)
+      ∙ keep-ext (holdsBit (take n (circle d0 d1 d2))) (holdsBit (take n (circle e0 e1 e2))) (round (length (take n (circle e0 e1 e2))) k0) (λ i l. cut-holds n _))

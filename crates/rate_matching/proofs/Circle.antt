@@ -3,8 +3,9 @@
 use mathlib.Core.Path.{_≡_, refl, sym, _∙_, ap, subst}
 use mathlib.Core.Bool.{Bool, true, false}
 use mathlib.Core.List.{List, [], _∷_}
-use Prim.Native.Nat.{ℕ, zero, suc, _+_, _-_, _*_, _≤_, _<_}
-use native.Mathlib.Nat.{suc-add, div-eq-of-lt-le, mul-le-mul-left}
+use Prim.Native.Nat.{ℕ, zero, suc, _+_, _-_, _*_, _/_, _%_, _≤_, _<_}
+use native.Mathlib.Nat.{suc-add, div-eq-of-lt-le, div-add-mod', mod-lt, mul-le-mul-left}
+use native.Mathlib.Decide.{decLt}
 use native.Mathlib.Omega.{arith}
 use lib.Dec.{ltb, eqb}
 use lib.ListN.{length, getD, replicate, length-append, length-replicate, getD-replicate, List·getD-append}
@@ -14,7 +15,7 @@ use Rattle.laws.specs.Lists.{tab}
 use Rattle.laws.proofs.Tab.{length-tab, getD-tab}
 use Rattle.turbo.specs.Streams.{NULL}
 use Rattle.rate_matching.specs.SubBlocks.{rows, dummies, padded, yAt, plain, shifted}
-use Rattle.rate_matching.specs.Circle.{byTurns, circle, circleLength, startIn, startOf}
+use Rattle.rate_matching.specs.Circle.{byTurns, circle, circleLength, Cut, startIn, startOf}
 use Rattle.rate_matching.specs.Walk.{onCircle}
 use Rattle.rate_matching.specs.Places.{heldY, heldAt, streamOf, entryOf}
 use Rattle.rate_matching.proofs.Places.{readBy, at, by-stream, held-at, heldY-dummy, heldY-bit}
@@ -127,7 +128,68 @@ module _ (D : ℕ) (d0 d1 d2 : List ℕ) (l0 : length d0 ≡ D) (l1 : length d1 
       (λ s x u l. circle-at s x u l ∙ y-entry s (readBy (eqb s 2) (rows D) x) ∙ ap (entryOf d0 d1 d2) (sym (held-at D s x u l)))
       j h
 
--- ---- the start
+-- ---- the start, for any accepted N_cb
+
+-- c = ⌈N_cb / 8R⌉
+abbrev pub eighths : ℕ → ℕ → ℕ
+eighths Ncb R = (Ncb + (8 * R - 1)) / (8 * R)
+
+module _ {Ncb R : ℕ} (cut : Cut Ncb R) where
+  times : (a b : ℕ) → a ≤ b → a * R ≤ b * R
+  times a b h = omega (arith, mul-le-mul-left R h)
+
+  -- c is 4 to 12, and N_cb is above 8R·(c − 1) and at most 8R·c
+  pub record Eighths (c : ℕ) : Type 0 where
+    pub above : 8 * (c * R) < Ncb + 8 * R
+    pub within : Ncb ≤ 8 * (c * R)
+    pub low : 4 ≤ c
+    pub high : c ≤ 12
+
+  pub eighths-told : Eighths (eighths Ncb R)
+  unfolding circleLength
+  eighths-told = record { above = above; within = within; low = low; high = high }
+    where
+      c : ℕ
+      c = eighths Ncb R
+
+      sum : c * (8 * R) + (Ncb + (8 * R - 1)) % (8 * R) ≡ Ncb + (8 * R - 1)
+      sum = div-add-mod' (Ncb + (8 * R - 1)) (8 * R)
+
+      rest : (Ncb + (8 * R - 1)) % (8 * R) < 8 * R
+      rest = mod-lt (Ncb + (8 * R - 1)) (omega (arith, cut .some))
+
+      above : 8 * (c * R) < Ncb + 8 * R
+      above = omega (arith, sum, cut .some)
+
+      within : Ncb ≤ 8 * (c * R)
+      within = omega (arith, sum, rest)
+
+      low : 4 ≤ c
+      low = elim (decLt c 4) [
+        | yes l ↦ absurd (omega (arith, within, cut .least, cut .some, times c 3 (omega arith)))
+        | no l ↦ omega arith
+      ]
+
+      high : c ≤ 12
+      high = elim (decLt 12 c) [
+        | yes l ↦ absurd (omega (arith, above, cut .most, cut .some, times 13 c (omega arith)))
+        | no l ↦ omega arith
+      ]
+
+  -- k0 is below N_cb
+  pub start-below : (v : ℕ) → v ≤ 3 → startIn Ncb R v < Ncb
+  unfolding startIn
+  start-below v h = go (eighths Ncb R) eighths-told
+    where
+      go : (c : ℕ) → Eighths c → R * (2 * c * v + 2) < Ncb
+      go c e =
+          let most : R * (2 * c * v + 2) ≤ 6 * (c * R) + 2 * R = omega (arith, mul-le-mul-left (c * R) h) in
+          elim (decLt c 5) [
+            | yes l ↦ omega (arith, most, cut .some, cut .least, times c 4 (omega arith))
+            | no l ↦ omega (arith, most, e .above, times 5 c (omega arith))
+          ]
+
+-- ---- the start of an uplink
 
 -- k0 = R·(24·v + 2)
 pub start-is : (R v : ℕ) → 0 < R → startOf R v ≡ R * (24 * v + 2)
@@ -135,5 +197,5 @@ unfolding startOf startIn circleLength
 start-is R v h = ap (λ (n : ℕ). R * (2 * n * v + 2)) (div-eq-of-lt-le {k = 12} (8 * R) (omega arith) (omega arith))
 
 pub start-lt : (R v : ℕ) → 0 < R → v ≤ 3 → startOf R v < circleLength R
-unfolding circleLength
-start-lt R v h l = rw (start-is R v h) (omega (arith, mul-le-mul-left R l))
+unfolding startOf circleLength
+start-lt R v h l = start-below (record { some = h; least = omega arith; most = omega arith }) v l

@@ -2,6 +2,7 @@ pub mod Columns
 pub mod Places
 pub mod Firsts
 pub mod Circle
+pub mod SoftBuffer
 pub mod Kept
 pub mod Walk
 pub mod MatcherRooms
@@ -12,5 +13,7 @@ pub mod Coverage
 pub mod Alike
 pub mod ShapeCount
 pub mod Units
+pub mod Cut
 pub mod MatcherBlock
 pub mod MatcherRing
+pub mod MatcherRest

@@ -382,14 +382,23 @@ cut-ring m l = ⊎-elim (λ z. long (omega arith)) (λ p. short (omega arith)) (
         let d : k < length l = omega arith in
         ap (λ (j : ℕ). getD (take m l) j 0) (mod-eq-of-lt c) ∙ getD-take m l k 0 b ∙ ap (λ (j : ℕ). getD l j 0) (sym (mod-eq-of-lt d)))
 
+-- one run of units after another
+pub putTo-join : {most size₁ size₂ : ℕ} {xs ys ring₀ ring₁ ring₂ : List ℕ} {n m r : ℕ} → PutTo most xs size₁ ring₀ n ring₁ m → PutTo most ys size₂ ring₁ m ring₂ r
+    → PutTo most (xs ++ ys) (size₁ + size₂) ring₀ n ring₂ r
+putTo-join {most} {xs = xs} {ys = ys} {ring₀} {ring₁} {n = n} {m = m} p q = record {
+  within = omega (arith, p .within, q .within);
+  inside = q .inside;
+  told = q .told
+      ∙ sym (cut-join most (take m ring₁) ys)
+      ∙ ap (λ (l : List ℕ). take most (l ++ ys)) (p .told)
+      ∙ cut-join most (take n ring₀ ++ xs) ys
+      ∙ ap (take most) (append-assoc (take n ring₀) xs ys);
+}
+
 -- the units from the start on are put, then those before it
 module _ {most size₁ size₂ : ℕ} {xs ys ring₀ ring₁ ring₂ : List ℕ} {n r : ℕ} (p : PutTo most xs size₁ ring₀ 0 ring₁ n) (q : PutTo most ys size₂ ring₁ n ring₂ r) where
   both-told : take most (take r ring₂) ≡ take most (xs ++ ys)
-  both-told =
-      q .told
-      ∙ sym (cut-join most (take n ring₁) ys)
-      ∙ ap (λ (l : List ℕ). take most (l ++ ys)) (p .told)
-      ∙ cut-join most xs ys
+  both-told = putTo-join p q .told
 
   pub ring-turn : tab most (turnAfterTurn (take r ring₂)) ≡ tab most (turnAfterTurn (xs ++ ys))
   ring-turn = sym (cut-ring most (take r ring₂)) ∙ ap (λ (l : List ℕ). tab most (turnAfterTurn l)) both-told ∙ cut-ring most (xs ++ ys)

@@ -1,4 +1,4 @@
--- The circle by units, clauses 5.1.4.1.1 and 5.1.4.1.2: the bits of a column begin at the first row behind the dummies and the filler, and the units from a version's start on, round to it, are one turn.
+-- The circle by units, clauses 5.1.4.1.1 and 5.1.4.1.2: the bits of a column begin at the first row behind the dummies and the filler, and a start is the head of a unit.
 -- Assumes nothing.
 use mathlib.Core.Path.{_≡_, refl, sym, _∙_, ap, ap₂, subst}
 use mathlib.Core.Bool.{Bool, true, false, cond}
@@ -15,16 +15,16 @@ use Rattle.laws.specs.Lists.{tab, tabFrom}
 use Rattle.laws.proofs.Tab.{tabFrom-shift, map-tabFrom, tab-ext}
 use Rattle.rate_matching.specs.Columns.{column}
 use Rattle.rate_matching.specs.SubBlocks.{rows, dummies, padded, readPlain, readShifted, rowsBefore}
-use Rattle.rate_matching.specs.Circle.{circle, circleLength, startOf}
-use Rattle.rate_matching.specs.Walk.{onCircle, itself, turn}
+use Rattle.rate_matching.specs.Circle.{circle, circleLength}
+use Rattle.rate_matching.specs.Walk.{onCircle, itself}
 use Rattle.rate_matching.specs.Places.{streamOf}
 use Rattle.rate_matching.specs.Shape.{shape, bitPlaces, second, pairPlaces, lastPlace}
-use Rattle.rate_matching.specs.Units.{everyRow, pairRow, columnBits, pairBits, unitBits, unitsFrom, unitStart, startUnit}
+use Rattle.rate_matching.specs.Units.{everyRow, pairRow, columnBits, pairBits, unitBits, unitsFrom, unitStart, unitOf}
 use Rattle.rate_matching.proofs.Columns.{column-rule}
 use Rattle.rate_matching.proofs.Places.{dummies-add}
-use Rattle.rate_matching.proofs.Circle.{padded-bit, circle-at, start-is}
+use Rattle.rate_matching.proofs.Circle.{padded-bit, circle-at}
 use Rattle.rate_matching.proofs.ShapeColumns.{row-before, row-from, bitPlaces-split, first-few, column-places, pair-places}
-use Rattle.rate_matching.proofs.ShapeTurn.{bitPlaces-none, turn-parts, length-shape}
+use Rattle.rate_matching.proofs.ShapeTurn.{bitPlaces-none}
 
 -- what holds of even and of odd numbers holds of all
 by-parity : (P : ℕ → Type 0) → ((q : ℕ) → P (2 * q)) → ((q : ℕ) → P (2 * q + 1)) → (k : ℕ) → P k
@@ -222,24 +222,17 @@ rows-some D e = omega arith
 
 -- ---- the turn
 
-pub start-unit : (R v : ℕ) → 0 < R → v ≤ 3 → unitStart R (startUnit v) ≡ startOf R v
-unfolding unitStart startUnit
-start-unit R v pos h = go (ltb v 2) refl ∙ sym (start-is R v pos)
+-- place R·(2·m + 2) is the head of a unit
+pub unit-of : (R m : ℕ) → unitStart R (unitOf m) ≡ R * (2 * m + 2)
+unfolding unitStart unitOf
+unit-of R m = go (ltb m 15) refl
   where
-    go : (t : Bool) → ltb v 2 ≡ t → R * (cond t (24 * v + 2) (12 * v + 17) + (cond t (24 * v + 2) (12 * v + 17) - 32)) ≡ R * (24 * v + 2)
-    go true z = ap (λ (n : ℕ). R * n) (omega (arith, ltb-true v 2 z))
-    go false z = ap (λ (n : ℕ). R * n) (omega (arith, ltb-false v 2 z))
-
-pub start-below : (v : ℕ) → v ≤ 3 → startUnit v ≤ 64
-unfolding startUnit
-start-below v h = go (ltb v 2) refl
-  where
-    go : (t : Bool) → ltb v 2 ≡ t → cond t (24 * v + 2) (12 * v + 17) ≤ 64
-    go true z = omega (arith, ltb-true v 2 z)
-    go false z = omega arith
+    go : (t : Bool) → ltb m 15 ≡ t → R * (cond t (2 * m + 2) (m + 17) + (cond t (2 * m + 2) (m + 17) - 32)) ≡ R * (2 * m + 2)
+    go true z = ap (λ (n : ℕ). R * n) (omega (arith, ltb-true m 15 z))
+    go false z = ap (λ (n : ℕ). R * n) (omega (arith, ltb-false m 15 z))
 
 module _ (D F : ℕ) (d0 d1 d2 : List ℕ) (l0 : length d0 ≡ D) (l1 : length d1 ≡ D) (l2 : length d2 ≡ D) (some : D % 8 ≡ 4) (few : F < D) where
-  unit-bits : (u : ℕ) → u < 64
+  pub unit-bits : (u : ℕ) → u < 64
       → map (onCircle (circle d0 d1 d2)) (bitPlaces (shape D F) (unitStart (rows D) u) (unitStart (rows D) (u + 1))) ≡ unitBits D d0 d1 d2 F u
   unfolding unitBits
   unit-bits u h = go (ltb u 32) refl
@@ -256,7 +249,7 @@ module _ (D F : ℕ) (d0 d1 d2 : List ℕ) (l0 : length d0 ≡ D) (l1 : length d
           let c : u % 32 ≡ u - 32 = omega arith in
           rw (high-next (rows D) u l, high-start (rows D) u l, c) (pair-bits D F d0 d1 d2 l0 l1 l2 some few (u - 32) (omega arith))
 
-  units-are : (n u : ℕ) → u + n ≤ 64
+  pub units-are : (n u : ℕ) → u + n ≤ 64
       → unitsFrom D d0 d1 d2 F u n ≡ map (onCircle (circle d0 d1 d2)) (bitPlaces (shape D F) (unitStart (rows D) u) (unitStart (rows D) (u + n)))
   unfolding unitsFrom
   units-are zero u h = rw (add-zero u, bitPlaces-none (shape D F) (unitStart (rows D) u) (unitStart (rows D) u) (omega arith))
@@ -272,36 +265,3 @@ module _ (D F : ℕ) (d0 d1 d2 : List ℕ) (l0 : length d0 ≡ D) (l1 : length d
 
       ends : suc u + n ≡ u + suc n
       ends = omega arith
-
-  -- the units from a version's start on, round to it
-  pub units-turn : (v : ℕ) → v ≤ 3
-      → unitsFrom D d0 d1 d2 F (startUnit v) (64 - startUnit v) ++ unitsFrom D d0 d1 d2 F 0 (startUnit v - 0)
-      ≡ map (onCircle (circle d0 d1 d2)) (turn (shape D F) (startOf (rows D) v))
-  units-turn v h =
-      ap₂ _++_ (units-are (64 - s) s (omega (arith, start-below v h))) (units-are (s - 0) 0 (omega (arith, start-below v h)))
-      ∙ sym (map-append w (bitPlaces (shape D F) (unitStart R s) (unitStart R (s + (64 - s)))) (bitPlaces (shape D F) (unitStart R 0) (unitStart R (0 + (s - 0)))))
-      ∙ ap (map w) (ap₂ _++_ (ap₂ (bitPlaces (shape D F)) start high) (ap₂ (bitPlaces (shape D F)) low (ap (unitStart R) back ∙ start)) ∙ sym (turn-parts (shape D F) (startOf R v)))
-    where
-      R : ℕ
-      R = rows D
-
-      s : ℕ
-      s = startUnit v
-
-      w : ℕ → ℕ
-      w = onCircle (circle d0 d1 d2)
-
-      start : unitStart R s ≡ startOf R v
-      start = start-unit R v (rows-some D some) h
-
-      back : 0 + (s - 0) ≡ s
-      back = omega arith
-
-      low : unitStart R 0 ≡ 0
-      low = low-start R 0 (omega arith) ∙ omega arith
-
-      high : unitStart R (s + (64 - s)) ≡ length (shape D F)
-      high = ap (unitStart R) all ∙ unit-last R ∙ sym (length-shape D F (omega arith))
-        where
-          all : s + (64 - s) ≡ 64
-          all = omega (arith, start-below v h)

@@ -2,6 +2,7 @@ pub mod Columns
 pub mod Printed
 pub mod SubBlocks
 pub mod Circle
+pub mod SoftBuffer
 pub mod Walk
 pub mod Places
 pub mod Shape

@@ -3,7 +3,7 @@
 use mathlib.Core.Path.{_≡_}
 use mathlib.Core.Bool.{cond}
 use mathlib.Core.List.{List, [], _++_}
-use Prim.Native.Nat.{ℕ, zero, suc, _+_, _-_, _*_, _/_, _%_, _≤_, _<_}
+use Prim.Native.Nat.{ℕ, zero, suc, _+_, _-_, _*_, _/_, _%_, _≤_, _<_, min}
 use lib.Dec.{ltb, eqb}
 use lib.ListN.{length, getD, take}
 use Rattle.laws.specs.Lists.{tab}
@@ -46,9 +46,30 @@ unitsFrom D d0 d1 d2 F u (suc n) = unitBits D d0 d1 d2 F u ++ unitsFrom D d0 d1 
 unfoldable pub unitStart : ℕ → ℕ → ℕ
 unitStart R u = R * (u + (u - 32))
 
+-- the unit that begins at place R·(2·m + 2): from unit 32 on a unit has twice as many places
+unfoldable pub unitOf : ℕ → ℕ
+unitOf m = cond (ltb m 15) (2 * m + 2) (m + 17)
+
 -- the unit that begins at k0 of redundancy version v
-unfoldable pub startUnit : ℕ → ℕ
-startUnit v = cond (ltb v 2) (24 * v + 2) (12 * v + 17)
+unfoldable pub startUnit : ℕ → ℕ → ℕ → ℕ
+startUnit Ncb R v = unitOf ((Ncb + (8 * R - 1)) / (8 * R) * v)
+
+-- the units that lie before N_cb as a whole, and how many places of the next one do
+unfoldable pub wholeUnits : ℕ → ℕ → ℕ
+wholeUnits Ncb R = 32 + (Ncb - 32 * R) / (2 * R)
+
+unfoldable pub restPlaces : ℕ → ℕ → ℕ
+restPlaces Ncb R = (Ncb - 32 * R) % (2 * R)
+
+-- how many of the bits of column p of d(1) and d(2) stand at its first q places: those of d(2) alone, then those of both
+unfoldable pub bitsBefore : ℕ → ℕ → ℕ → ℕ → ℕ
+bitsBefore D F p q =
+    min (rowsBefore (dummies D + F) p) (q / 2) - rowsBefore (dummies D) (p + 1)
+    + (min (lastPlace (rows D) p) q - 2 * rowsBefore (dummies D + F) p)
+
+-- the bits at the first q places of unit u, one of d(1) and d(2)
+unfoldable pub restBits : ℕ → List ℕ → List ℕ → ℕ → ℕ → ℕ → List ℕ
+restBits D d1 d2 F u q = take (bitsBefore D F (column (u % 32)) q) (pairBits D d1 d2 F (column (u % 32)))
 
 -- streams of D = K + 4 places, K a multiple of 8, with F filler bits, and a column p of them
 pub record Laid (D F p : ℕ) : Type 0 where

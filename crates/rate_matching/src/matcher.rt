@@ -2,6 +2,7 @@
 // column straight from the streams into a ring, no further than they are sent, and the ring is copied turn after turn.
 use crate::mapping::LONGEST;
 use crate::mapping::rows_before;
+use crate::table::column_at;
 use crate::table::columns;
 ghost use mathlib.Core.Path.{_≡_};
 ghost use mathlib.Core.Bool.{true};
@@ -9,10 +10,10 @@ ghost use Prim.Native.Nat.{_+_, _-_, _*_, _/_, _%_, _^_, _≤_, _<_};
 ghost use lib.ListN.{length};
 ghost use Rattle.laws.specs.Lists.{tab};
 ghost use Rattle.rate_matching.specs.SubBlocks.{rows};
-ghost use Rattle.rate_matching.specs.Circle.{circleLength};
+ghost use Rattle.rate_matching.specs.Circle.{circleLength, Cut};
 ghost use Rattle.rate_matching.specs.Walk.{turnAfterTurn};
 ghost use Rattle.rate_matching.specs.Columns.{column};
-ghost use Rattle.rate_matching.specs.Units.{everyRow, pairRow, columnBits, pairBits, unitBits, unitsFrom, unitStart, startUnit, Laid, Fitting, Holds, ringRoom, Put, PutTo};
+ghost use Rattle.rate_matching.specs.Units.{everyRow, pairRow, columnBits, pairBits, unitBits, unitsFrom, unitStart, startUnit, bitsBefore, restBits, Laid, Fitting, Holds, ringRoom, Put, PutTo};
 ghost use Rattle.rate_matching.specs.Matcher.{matchable, matchedInto, repeatedInto};
 
 // The room for a turn is filled when it is made, so there are three: for the circle of a short block, with R up to 5, or few bits of any block;
@@ -140,15 +141,60 @@ fn put_units(
     end
 }
 
-// The unit that begins at a version's start.
-fn start_unit(version: usize) -> usize
-    requires { ⌜ version ≤ 3 ⌝ }
-    ensures { λ r. ⌜ r ≡ startUnit version ⌝ }
+// The unit that begins at the start of a version, on a circle of `rows` rows that is cut at `ncb`.
+fn start_unit(ncb: usize, rows: usize, version: usize) -> usize
+    requires { ⌜ Cut ncb rows × (rows ≤ 193) × (version ≤ 3) ⌝ }
+    ensures { λ r. ⌜ r ≡ startUnit ncb rows version ⌝ }
 {
-    if version < 2 {
-        return 24 * version + 2;
+    let m = (ncb + (8 * rows - 1)) / (8 * rows) * version;
+    if m < 15 {
+        return 2 * m + 2;
     }
-    12 * version + 17
+    m + 17
+}
+
+// How many bits stand at the first q places of column p of d(1) and d(2), streams of d places.
+fn bits_before(d: usize, filler: usize, p: usize, q: usize) -> usize
+    requires { ⌜ Laid d filler p × (q < 2 * rows d) ⌝ }
+    ensures { λ r. ⌜ r ≡ bitsBefore d filler p q ⌝ }
+{
+    let rows = (d + 31) / 32;
+    let dummies = 32 * rows - d;
+    let early = rows_before(dummies, p + 1);
+    let first = rows_before(dummies + filler, p);
+    if 2 * first < q {
+        return first - early + (q - 2 * first);
+    }
+    let row = q / 2;
+    if early < row { row - early } else { 0 }
+}
+
+// Puts the bits at the first q places of unit u, one of d(1) and d(2), into the ring from its place n on, unless it holds `most`, and tells where
+// they end. All bits of the unit are put, and those behind the q places left out of account.
+fn put_rest(
+    d1: &[u8],
+    d2: &[u8],
+    filler: usize,
+    u: usize,
+    q: usize,
+    ring: &mut [u8],
+    n: usize,
+    most: usize,
+) -> usize
+    requires { ⌜ Fitting (length (now d1)) (length (now d1)) (length (now d2)) filler × (q < 2 * rows (length (now d1))) × (n ≤ length (now ring))
+        × (0 < q → Holds (rows (length (now d1))) most (n + 2 * rows (length (now d1))) (length (now ring))) ⌝ }
+    ensures { λ r. ⌜ PutTo most (restBits (length (now (d1 .entry))) (now (d1 .entry)) (now (d2 .entry)) filler u q) q (now (ring .entry)) n (now (ring .exit)) r ⌝ }
+{
+    if q == 0 {
+        return n;
+    }
+    if most <= n {
+        return n;
+    }
+    let p = column_at(u % 32);
+    let end = n + bits_before(d1.len(), filler, p, q);
+    put_pairs(d1, d2, filler, p, ring, n);
+    end
 }
 
 // Fills `out` with the ring turn after turn; the last turn may be cut short.
@@ -201,37 +247,47 @@ pub fn turn_after_turn(ring: &[u8], out: &mut [u8])
     fill(ring, out);
 }
 
-// Whether these are the lengths and the filler of a code block's streams, and one of the four versions.
-fn matchable(d: usize, d1: usize, d2: usize, filler: usize, version: usize) -> bool
-    ensures { λ r. ⌜ r ≡ matchable d d1 d2 filler version ⌝ }
+// Whether these are the lengths and the filler of a code block's streams, a length of its circle that is accepted, and one of the four versions.
+fn matchable(d: usize, d1: usize, d2: usize, filler: usize, ncb: usize, version: usize) -> bool
+    ensures { λ r. ⌜ r ≡ matchable d d1 d2 filler ncb version ⌝ }
 {
+    if d > LONGEST {
+        return false;
+    }
+    let rows = (d + 31) / 32;
     (d1 == d)
         & (d2 == d)
         & (44 <= d)
-        & (d <= LONGEST)
         & (d % 8 == 4)
         & (filler < d)
+        & (32 * rows <= ncb)
+        & (ncb <= 96 * rows)
         & (version <= 3)
 }
 
-// Rate matching of one code block with a room for the bits of a turn, or for as many as are sent.
+// Rate matching of one code block with a room for the bits of a turn, or for as many as are sent. The cut shortens one unit and nothing else.
 fn match_in(
     d0: &[u8],
     d1: &[u8],
     d2: &[u8],
     filler: usize,
+    ncb: usize,
     version: usize,
     ring: &mut [u8],
     out: &mut [u8],
 )
-    requires { ⌜ (matchable (length (now d0)) (length (now d1)) (length (now d2)) filler version ≡ true)
+    requires { ⌜ (matchable (length (now d0)) (length (now d1)) (length (now d2)) filler ncb version ≡ true)
         × Holds (rows (length (now d0))) (length (now out)) (circleLength (rows (length (now d0)))) (length (now ring)) × (0 < length (now out)) ⌝ }
-    ensures { λ _. ⌜ now (out .exit) ≡ matchedInto (now (d0 .entry)) (now (d1 .entry)) (now (d2 .entry)) filler version (now (out .entry)) ⌝ }
+    ensures { λ _. ⌜ now (out .exit) ≡ matchedInto (now (d0 .entry)) (now (d1 .entry)) (now (d2 .entry)) filler ncb version (now (out .entry)) ⌝ }
 {
-    let start = start_unit(version);
+    let rows = (d0.len() + 31) / 32;
+    let start = start_unit(ncb, rows, version);
+    let pairs = ncb - 32 * rows;
+    let whole = 32 + pairs / (2 * rows);
     let most = out.len();
-    let n = put_units(d0, d1, d2, filler, start, 64, ring, 0, most);
-    let end = put_units(d0, d1, d2, filler, 0, start, ring, n, most);
+    let n = put_units(d0, d1, d2, filler, start, whole, ring, 0, most);
+    let m = put_rest(d1, d2, filler, whole, pairs % (2 * rows), ring, n, most);
+    let end = put_units(d0, d1, d2, filler, 0, start, ring, m, most);
     fill(&ring[..end], out);
 }
 
@@ -247,51 +303,84 @@ fn ring_room(d: usize, e: usize) -> usize
 }
 
 // The same with the short room.
-fn match_short(d0: &[u8], d1: &[u8], d2: &[u8], filler: usize, version: usize, out: &mut [u8])
-    requires { ⌜ (matchable (length (now d0)) (length (now d1)) (length (now d2)) filler version ≡ true) × (ringRoom (rows (length (now d0))) (length (now out)) ≤ 480) × (0 < length (now out)) ⌝ }
-    ensures { λ _. ⌜ now (out .exit) ≡ matchedInto (now (d0 .entry)) (now (d1 .entry)) (now (d2 .entry)) filler version (now (out .entry)) ⌝ }
+fn match_short(
+    d0: &[u8],
+    d1: &[u8],
+    d2: &[u8],
+    filler: usize,
+    ncb: usize,
+    version: usize,
+    out: &mut [u8],
+)
+    requires { ⌜ (matchable (length (now d0)) (length (now d1)) (length (now d2)) filler ncb version ≡ true) × (ringRoom (rows (length (now d0))) (length (now out)) ≤ 480) × (0 < length (now out)) ⌝ }
+    ensures { λ _. ⌜ now (out .exit) ≡ matchedInto (now (d0 .entry)) (now (d1 .entry)) (now (d2 .entry)) filler ncb version (now (out .entry)) ⌝ }
 {
     let mut ring = [0u8; SHORT_RING];
-    match_in(d0, d1, d2, filler, version, &mut ring, out);
+    match_in(d0, d1, d2, filler, ncb, version, &mut ring, out);
 }
 
 // The same with the middle room.
-fn match_middle(d0: &[u8], d1: &[u8], d2: &[u8], filler: usize, version: usize, out: &mut [u8])
-    requires { ⌜ (matchable (length (now d0)) (length (now d1)) (length (now d2)) filler version ≡ true) × (ringRoom (rows (length (now d0))) (length (now out)) ≤ 3168) × (0 < length (now out)) ⌝ }
-    ensures { λ _. ⌜ now (out .exit) ≡ matchedInto (now (d0 .entry)) (now (d1 .entry)) (now (d2 .entry)) filler version (now (out .entry)) ⌝ }
+fn match_middle(
+    d0: &[u8],
+    d1: &[u8],
+    d2: &[u8],
+    filler: usize,
+    ncb: usize,
+    version: usize,
+    out: &mut [u8],
+)
+    requires { ⌜ (matchable (length (now d0)) (length (now d1)) (length (now d2)) filler ncb version ≡ true) × (ringRoom (rows (length (now d0))) (length (now out)) ≤ 3168) × (0 < length (now out)) ⌝ }
+    ensures { λ _. ⌜ now (out .exit) ≡ matchedInto (now (d0 .entry)) (now (d1 .entry)) (now (d2 .entry)) filler ncb version (now (out .entry)) ⌝ }
 {
     let mut ring = [0u8; MIDDLE_RING];
-    match_in(d0, d1, d2, filler, version, &mut ring, out);
+    match_in(d0, d1, d2, filler, ncb, version, &mut ring, out);
 }
 
 // The same with the longest room.
-fn match_long(d0: &[u8], d1: &[u8], d2: &[u8], filler: usize, version: usize, out: &mut [u8])
-    requires { ⌜ (matchable (length (now d0)) (length (now d1)) (length (now d2)) filler version ≡ true) × (0 < length (now out)) ⌝ }
-    ensures { λ _. ⌜ now (out .exit) ≡ matchedInto (now (d0 .entry)) (now (d1 .entry)) (now (d2 .entry)) filler version (now (out .entry)) ⌝ }
+fn match_long(
+    d0: &[u8],
+    d1: &[u8],
+    d2: &[u8],
+    filler: usize,
+    ncb: usize,
+    version: usize,
+    out: &mut [u8],
+)
+    requires { ⌜ (matchable (length (now d0)) (length (now d1)) (length (now d2)) filler ncb version ≡ true) × (0 < length (now out)) ⌝ }
+    ensures { λ _. ⌜ now (out .exit) ≡ matchedInto (now (d0 .entry)) (now (d1 .entry)) (now (d2 .entry)) filler ncb version (now (out .entry)) ⌝ }
 {
     let mut ring = [0u8; LONG_RING];
-    match_in(d0, d1, d2, filler, version, &mut ring, out);
+    match_in(d0, d1, d2, filler, ncb, version, &mut ring, out);
 }
 
 // Rate matching of one code block: fills `out` with the bits that redundancy version `version` sends of the streams d(0), d(1) and d(2),
-// where the first `filler` places of d(0) and d(1) are <NULL>. Of streams that are no code block's, or another version, it leaves `out` as it is.
-pub fn rate_match(d0: &[u8], d1: &[u8], d2: &[u8], filler: usize, version: usize, out: &mut [u8])
-    ensures { λ _. ⌜ now (out .exit) ≡ matchedInto (now (d0 .entry)) (now (d1 .entry)) (now (d2 .entry)) filler version (now (out .entry)) ⌝ }
+// where the first `filler` places of d(0) and d(1) are <NULL> and the circle is cut at `ncb`. Of streams that are no code block's, an `ncb` that is
+// not from 32·R to 96·R, or another version, it leaves `out` as it is.
+pub fn rate_match(
+    d0: &[u8],
+    d1: &[u8],
+    d2: &[u8],
+    filler: usize,
+    ncb: usize,
+    version: usize,
+    out: &mut [u8],
+)
+    ensures { λ _. ⌜ now (out .exit) ≡ matchedInto (now (d0 .entry)) (now (d1 .entry)) (now (d2 .entry)) filler ncb version (now (out .entry)) ⌝ }
 {
     if out.len() == 0 {
         return;
     }
-    if !matchable(d0.len(), d1.len(), d2.len(), filler, version) {
+    if !matchable(d0.len(), d1.len(), d2.len(), filler, ncb, version) {
         return;
     }
     let room = ring_room(d0.len(), out.len());
     if room <= SHORT_RING {
-        match_short(d0, d1, d2, filler, version, out);
+        match_short(d0, d1, d2, filler, ncb, version, out);
         return;
     }
     if room <= MIDDLE_RING {
-        match_middle(d0, d1, d2, filler, version, out);
+        match_middle(d0, d1, d2, filler, ncb, version, out);
         return;
     }
-    match_long(d0, d1, d2, filler, version, out);
+    match_long(d0, d1, d2, filler, ncb, version, out);
 }

@@ -5,7 +5,7 @@ use mathlib.Core.List.{List, [], append-nil}
 use Prim.Native.Nat.{ℕ}
 use Rattle.slots.specs.declared.State.{State}
 use Rattle.statements.specs.Outcome.{Given, Gives, SingleOutcome}
-use Rattle.statements.specs.Calls.{SizesStatement, BuildStatement, BuildTwoStatement, SizesToCStatement, ReportBuildStatement, ReportPartStatement, DataPartStatement, ControlStatement, WhoseStatement, WhoseToCStatement, WorstStatement, PackStatement, UnpackStatement, NewStatement, OpenStatement, ReceiveStatement, ReadStatement, StreamsStatement, CloseStatement}
+use Rattle.statements.specs.Calls.{SizesStatement, BuildStatement, BuildTwoStatement, BuildDownStatement, SizesToCStatement, ReportBuildStatement, ReportPartStatement, DataPartStatement, ControlStatement, WhoseStatement, WhoseToCStatement, WorstStatement, PackStatement, UnpackStatement, NewStatement, OpenStatement, ReceiveStatement, ReadStatement, StreamsStatement, CloseStatement}
 
 -- the law: what an answer and the bytes afterwards are said to be, they are
 pub single : {A B : Type 0} (answer : A) (after : B) → SingleOutcome (Gives answer after)
@@ -20,6 +20,9 @@ build-single a Q N v G out = single _ _
 
 pub build-two-single : (header payload : List ℕ) (Q N v G : ℕ) (out : List ℕ) → SingleOutcome (BuildTwoStatement header payload Q N v G out)
 build-two-single header payload Q N v G out = single _ _
+
+pub build-down-single : (a : List ℕ) (release kMIMO processes Nsoft layers Q N v G : ℕ) (out : List ℕ) → SingleOutcome (BuildDownStatement a release kMIMO processes Nsoft layers Q N v G out)
+build-down-single a release kMIMO processes Nsoft layers Q N v G out = single _ _
 
 -- with an empty second slice it is Build
 pub empty-second : (a : List ℕ) (Q N v G : ℕ) (out : List ℕ) → BuildTwoStatement a [] Q N v G out ≡ BuildStatement a Q N v G out

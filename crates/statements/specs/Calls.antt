@@ -6,6 +6,7 @@ use lib.ListN.{length}
 use Rattle.segmentation.specs.declared.SizesAnswer.{SizesAnswer}
 use Rattle.segmentation.specs.Sizes.{sizesAnswer}
 use Rattle.codeword.specs.Build.{buildNumber, buildOutput}
+use Rattle.codeword.specs.Downlink.{buildDownNumber, buildDownOutput}
 use Rattle.planning.specs.declared.WorstAnswer.{WorstAnswer}
 use Rattle.planning.specs.Worst.{worstAnswer}
 use Rattle.reports.specs.Calls.{reportBuildNumber, reportBuildOutput, partNumber, partOutput, dataPart}
@@ -29,7 +30,12 @@ BuildStatement a Q N v G out = Gives (buildNumber a Q N v G (length out)) (build
 abbrev pub BuildTwoStatement : List ℕ → List ℕ → ℕ → ℕ → ℕ → ℕ → List ℕ → Given ℕ (List ℕ) → Type 0
 BuildTwoStatement header payload Q N v G out = BuildStatement (header ++ payload) Q N v G out
 
--- zemrukste_sizes; zemrukste_build and zemrukste_build_two are Build
+-- Build for a downlink
+abbrev pub BuildDownStatement : List ℕ → ℕ → ℕ → ℕ → ℕ → ℕ → ℕ → ℕ → ℕ → ℕ → List ℕ → Given ℕ (List ℕ) → Type 0
+BuildDownStatement a release kMIMO processes Nsoft layers Q N v G out =
+    Gives (buildDownNumber a release kMIMO processes Nsoft layers Q N v G (length out)) (buildDownOutput a release kMIMO processes Nsoft layers Q N v G out)
+
+-- zemrukste_sizes; zemrukste_build_down is Build for a downlink; zemrukste_build and zemrukste_build_two are Build
 abbrev pub SizesToCStatement : ℕ → List ℕ → Given ℕ (List ℕ) → Type 0
 SizesToCStatement A out = Gives (sizesNumber A (length out)) (sizesBytes A out)
 

@@ -8,7 +8,8 @@ use lib.ListN.{length, take}
 use lib.Seq.{length-take-le}
 use denote.Ref.{now}
 use Rattle.laws.proofs.Parts.{front-count}
-use Rattle.codeword.specs.Codeword.{codeword}
+use Rattle.rate_matching.specs.SoftBuffer.{wholeShare}
+use Rattle.codeword.specs.Codeword.{codewordIn}
 use Rattle.codeword.specs.Build.{buildNumber}
 use Rattle.codeword.specs.Sending.{Accepted}
 use Rattle.codeword.proofs.Numbers.{accepted, refused-output, built-output}
@@ -51,7 +52,7 @@ returns-2 c =
       sym (none test),
       built-output _ _ _ _ _ _ (none test)
           (c .before .before .write-codeword .ensures
-          ∙ ap (codeword (now (start .args .header) ++ now (start .args .payload)) (start .args .q) (start .args .n) (start .args .version)) (length-take-le _ _ (fits test))),
+          ∙ ap (codewordIn wholeShare (now (start .args .header) ++ now (start .args .payload)) (start .args .q) (start .args .n) (start .args .version)) (length-take-le _ _ (fits test))),
     )
 
 pub build-two-spec : {M : Type 1} → statement M

@@ -2,15 +2,29 @@
 -- Assumes nothing.
 use borrow.Author.Needs.{needs}
 use mathlib.Core.List.{_++_}
-use Prim.Native.Nat.{_-_}
+use mathlib.Core.Path.{_≡_, _∙_, ap}
+use Prim.Native.Nat.{ℕ, _+_, _-_}
 use native.Mathlib.Omega.{arith}
 use lib.ListN.{length, drop}
 use denote.Ref.{now}
 use Rattle.laws.proofs.Parts.{front-count}
 use Rattle.turbo.specs.Encode.{blockIn}
-use Rattle.codeword.proofs.Sent.{row-told, filler-told, fronted, encoded, sent-is}
+use Rattle.rate_matching.specs.SubBlocks.{rows}
+use Rattle.rate_matching.specs.Circle.{cutAt}
+use Rattle.codeword.specs.Codeword.{blockRows, blockCut}
+use Rattle.codeword.proofs.Sent.{size-most-told, row-told, filler-told, fronted, encoded, sent-is}
 use Rattle.codeword.proofs.call.send_in.Statement.{statement}
 use Rattle.codeword.proofs.call.send_in.Tie as tie
+
+cut-at-requires : tie.Need-cut-at-requires
+cut-at-requires c κs = let s = c .before .before .before .before .before .before in omega (arith, s .pre .1 .first, size-most-told (s .pre .0))
+
+-- N_cb is the code block's
+cut-is : (c : tie.After-cut-at) → let s = c .before .before .before .before .before .before .before in c .cut-at .result ≡ blockCut (s .args .soft) (length (now (s .args .header) ++ now (s .args .payload)) + 24) (s .args .r)
+unfolding blockCut blockRows
+cut-is c =
+    let s = c .before .before .before .before .before .before .before in
+    c .cut-at .ensures ∙ ap (λ (d : ℕ). cutAt (s .args .soft) (rows d)) (s .pre .1 .first)
 
 sub-k : tie.Need-sub-k
 sub-k c = search needs
@@ -54,7 +68,7 @@ returns c =
     let streams = matched .before .before .before .before .before .before .before .before .before .before .before in
     let filled = streams .before .before .before .before in
     let block = filled .before .before .before .before in
-    let start = block .before .before .before .before .before .before .before .before in
+    let start = block .before .before .before .before .before .before .before .before .before in
     let rooms = start .pre .1 in
     let x = start .args .remainder in
     let empty = now (start .args .d0) in
@@ -68,12 +82,14 @@ returns c =
     (rw fits at (streams .encode .ensures .1 .0))
     (rw fits at (streams .encode .ensures .1 .1))
     _
+    (cut-is (block .before .before))
     (matched .rate-match .ensures)
 
 pub send-in-spec : {M : Type 1} → statement M
 send-in-spec =
     tie.close
     (tie.spec
+    cut-at-requires
     sub-k
     slice-relend-prefix-code-block
     slice-aggregate-code-block

@@ -17,11 +17,11 @@ use Rattle.codeword.proofs.call.write_in.Statement.{statement}
 use Rattle.codeword.proofs.call.write_in.Tie as tie
 
 abbrev Inv-loop : tie.InvT-loop
-Inv-loop header payload q n version s d0₀ d1₀ d2₀ out₀ first remainder g at₀ r₀ d0 d1 d2 out at r =
-    Stretching (header ++ payload) q n version out₀ s (s .blocks) remainder g out at r × Lent (s .long) d0₀ d1₀ d2₀ d0 d1 d2
+Inv-loop header payload soft q n version s d0₀ d1₀ d2₀ out₀ first remainder g at₀ r₀ d0 d1 d2 out at r =
+    Stretching soft (header ++ payload) q n version out₀ s (s .blocks) remainder g out at r × Lent (s .long) d0₀ d1₀ d2₀ d0 d1 d2
 
 abbrev μ-loop : tie.MeasureT-loop
-μ-loop header payload q n version s d0₀ d1₀ d2₀ out₀ first remainder g at₀ r₀ d0 d1 d2 out at r = s .blocks - r
+μ-loop header payload soft q n version s d0₀ d1₀ d2₀ out₀ first remainder g at₀ r₀ d0 d1 d2 out at r = s .blocks - r
 
 crc24a-requires : tie.Need-crc24a-requires Inv-loop μ-loop
 crc24a-requires c κs = search needs

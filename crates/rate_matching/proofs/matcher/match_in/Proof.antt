@@ -1,38 +1,92 @@
--- `matcher::match_in` meets its contract: the units from the start on, then those before it, are one turn, which is repeated.
+-- `matcher::match_in` meets its contract: the whole units from the start on, the one that is cut and those before the start are one turn, which is repeated.
 -- Assumes nothing.
+use mathlib.Core.Path.{_∙_}
 use Prim.Native.Nat.{_≤_}
 use native.Mathlib.Omega.{arith}
 use lib.ListN.{length}
 use Rattle.laws.proofs.Parts.{front-count}
-use Rattle.rate_matching.proofs.MatcherBlock.{matchable-told, unit-below, first-room, second-room, bits-some, matched-is}
+use Rattle.rate_matching.specs.SubBlocks.{rows}
+use Rattle.rate_matching.specs.Units.{wholeUnits, restPlaces}
+use Rattle.rate_matching.proofs.Cut.{whole-most}
+use Rattle.rate_matching.proofs.MatcherBlock.{Matchable, matchable-told, rows-few, start-in, first-room, rest-room, second-room, rest-needs, rest-told, bits-some, matched-is}
 use borrow.Author.Needs.{needs}
 use Rattle.rate_matching.proofs.matcher.match_in.Statement.{statement}
 use Rattle.rate_matching.proofs.matcher.match_in.Tie as tie
 
--- when both parts of the turn are put: the function's entry, and where the bits end
+-- what the test tells
+told : (s : tie.Start) → Matchable (length (s .args .d0 .now)) (length (s .args .d1 .now)) (length (s .args .d2 .now)) (s .args .filler) (s .args .ncb) (s .args .version)
+told s = matchable-told (s .pre .0)
+
+-- when all parts of the turn are put: the function's entry, and where the bits end
 abbrev entry : tie.After-put-units2 → tie.Start
-entry c = c .before .before .before .before .before .before .before .before .before .before .before .before
+entry c = c .before .before .before .before .before .before .before .before .before .before .before .before .before .before .before .before
 
 within : (c : tie.After-put-units2) → c .put-units2 .result ≤ length (c .put-units2 .last .1 .1 .1 .1 .1 .1 .0)
 within c = c .put-units2 .ensures .inside
 
+add-rows : tie.Need-add-rows
+add-rows c = search needs
+
 start-unit-requires : tie.Need-start-unit-requires
-start-unit-requires c κs = matchable-told (c .before .before .before .before .before .pre .0) .version
+unfolding rows
+start-unit-requires c κs = let m = told (c .before .before .before .before .before) in (m .cut, rows-few m, m .version)
+
+mul-pairs : tie.Need-mul-pairs
+mul-pairs c = search needs
+
+sub-pairs : tie.Need-sub-pairs
+unfolding rows
+sub-pairs c = told (c .before .before .before .before .before .before) .cut .least
+
+mul-whole : tie.Need-mul-whole
+mul-whole c = search needs
+
+div-whole : tie.Need-div-whole
+unfolding rows
+div-whole c = let m = told (c .before .before .before .before .before .before) in omega (arith, m .cut .some)
+
+add-whole : tie.Need-add-whole
+unfolding rows wholeUnits
+add-whole c = let m = told (c .before .before .before .before .before .before) in omega (arith, whole-most (m .cut))
 
 put-units-requires : tie.Need-put-units-requires
+unfolding rows wholeUnits
 put-units-requires c κs =
     let s = c .before .before .before .before .before .before .before in
-    let m = matchable-told (s .pre .0) in
+    let m = told s in
     let e = c .before .start-unit .ensures in
-    (m .fits, unit-below _ (m .version) e, omega arith, omega arith, first-room _ _ (m .version) e (s .pre .1))
+    (m .fits, start-in (m .cut) (m .version) e, whole-most (m .cut), omega arith, first-room (m .cut) (m .version) e (s .pre .1))
 
-put-units-requires-2 : tie.Need-put-units-requires-2
-put-units-requires-2 c κs =
+mul-put-rest : tie.Need-mul-put-rest
+mul-put-rest c = search needs
+
+rem-put-rest : tie.Need-rem-put-rest
+unfolding rows
+rem-put-rest c = let m = told (c .before .before .before .before .before .before .before .before .before .before) in omega (arith, m .cut .some)
+
+put-rest-requires : tie.Need-put-rest-requires
+unfolding rows wholeUnits restPlaces
+put-rest-requires c κs =
     let s = c .before .before .before .before .before .before .before .before .before .before .before in
-    let m = matchable-told (s .pre .0) in
+    let m = told s in
     let e = c .before .before .before .before .before .start-unit .ensures in
     let g = c .before .before .before .put-units in
-    (m .fits, omega arith, unit-below _ (m .version) e, g .ensures .inside, second-room _ _ (m .version) e (s .pre .1) (g .ensures) (g .kept .1 .1 .1 .1 .1 .1 .0))
+    rest-needs m (g .ensures .inside) (rest-room (m .cut) (m .version) e (s .pre .1) (g .ensures) (g .kept .1 .1 .1 .1 .1 .1 .0))
+
+put-units-requires-2 : tie.Need-put-units-requires-2
+unfolding rows wholeUnits restPlaces
+put-units-requires-2 c κs =
+    let s = c .before .before .before .before .before .before .before .before .before .before .before .before .before .before .before in
+    let m = told s in
+    let e = c .before .before .before .before .before .before .before .before .before .start-unit .ensures in
+    let g = c .before .before .before .before .before .before .before .put-units in
+    let k = c .before .before .before .put-rest in (
+      m .fits,
+      omega arith,
+      omega (arith, start-in (m .cut) (m .version) e, whole-most (m .cut)),
+      k .ensures .inside,
+      second-room (m .cut) (m .version) e (s .pre .1) (g .ensures) (k .ensures) (k .kept .1 .1 .1 .1 .1 .0 ∙ g .kept .1 .1 .1 .1 .1 .1 .0),
+    )
 
 slice-reshare-prefix-fill : tie.Need-slice-reshare-prefix-fill
 slice-reshare-prefix-fill c = within (c .before .before)
@@ -41,12 +95,13 @@ slice-aggregate-fill : tie.Need-slice-aggregate-fill
 slice-aggregate-fill c = front-count _ (c .before .before .before .put-units2 .last .1 .1 .1 .1 .1 .1 .0) (within (c .before .before .before))
 
 fill-requires : tie.Need-fill-requires
+unfolding rows wholeUnits restPlaces
 fill-requires c κs =
     let both = c .before .before .before .before in
     let s = entry both in
     let some =
-    bits-some (s .args .d0 .now) (s .args .d1 .now) (s .args .d2 .now) (s .args .filler) (s .args .version) (s .args .out .now) (s .pre .0)
-    (both .before .before .before .before .before .before .start-unit .ensures) (both .before .before .before .before .put-units .ensures) (both .put-units2 .ensures) (s .pre .2) in
+    bits-some (s .args .d0 .now) (s .args .d1 .now) (s .args .d2 .now) (s .args .filler) (s .args .ncb) (s .args .version) (s .args .out .now) (s .pre .0)
+    (both .before .before .before .before .before .before .before .before .before .before .start-unit .ensures) (both .before .before .before .before .before .before .before .before .put-units .ensures) (rest-told (told s) _ _ _ _ (both .before .before .before .before .put-rest .ensures)) (both .put-units2 .ensures) (s .pre .2) in
     omega (arith, some, front-count _ (both .put-units2 .last .1 .1 .1 .1 .1 .1 .0) (within both))
 
 same-length : tie.Need-same-length
@@ -56,18 +111,28 @@ same-length-2 : tie.Need-same-length-2
 same-length-2 c = search needs
 
 returns : tie.Need-returns
+unfolding rows wholeUnits restPlaces
 returns c =
     let both = c .before .before .before .before .before .before .before in
     let s = entry both in
-    matched-is _ _ _ _ _ (s .args .out .now) (s .pre .0) (both .before .before .before .before .before .before .start-unit .ensures)
-    (both .before .before .before .before .put-units .ensures) (both .put-units2 .ensures) (c .before .before .fill .ensures)
+    matched-is _ _ _ _ _ _ (s .args .out .now) (s .pre .0) (both .before .before .before .before .before .before .before .before .before .before .start-unit .ensures)
+    (both .before .before .before .before .before .before .before .before .put-units .ensures) (rest-told (told s) _ _ _ _ (both .before .before .before .before .put-rest .ensures)) (both .put-units2 .ensures) (c .before .before .fill .ensures)
 
 pub match-in-spec : {M : Type 1} → statement M
 match-in-spec =
     tie.close
     (tie.spec
+    add-rows
     start-unit-requires
+    mul-pairs
+    sub-pairs
+    mul-whole
+    div-whole
+    add-whole
     put-units-requires
+    mul-put-rest
+    rem-put-rest
+    put-rest-requires
     put-units-requires-2
     slice-reshare-prefix-fill
     slice-aggregate-fill

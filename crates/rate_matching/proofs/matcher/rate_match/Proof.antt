@@ -16,17 +16,17 @@ abbrev entry : tie.Else2 → tie.Start
 entry c = c .before .before .before .before .before .before .before
 
 told : (c : tie.Else2)
-    → matchable (length (entry c .args .d0 .now)) (length (entry c .args .d1 .now)) (length (entry c .args .d2 .now)) (entry c .args .filler) (entry c .args .version) ≡ true
+    → matchable (length (entry c .args .d0 .now)) (length (entry c .args .d1 .now)) (length (entry c .args .d2 .now)) (entry c .args .filler) (entry c .args .ncb) (entry c .args .version) ≡ true
 told c = sym (c .before .matchable .ensures) ∙ not-false _ (c .if2 .left)
 
 returns : tie.Need-returns
-returns c = nothing-is _ _ _ _ _ _ (c .if1 .taken)
+returns c = nothing-is _ _ _ _ _ _ _ (c .if1 .taken)
 
 matchable-requires : tie.Need-matchable-requires
 matchable-requires c κs = search needs
 
 returns-2 : tie.Need-returns-2
-returns-2 c = refused-is _ _ _ _ _ _ (sym (c .before .matchable .ensures) ∙ not-true _ (c .if2 .taken))
+returns-2 c = refused-is _ _ _ _ _ _ _ (sym (c .before .matchable .ensures) ∙ not-true _ (c .if2 .taken))
 
 ring-room-requires : tie.Need-ring-room-requires
 ring-room-requires c κs = (matchable-told (told c) .fits .most, search needs)

@@ -1,0 +1,92 @@
+-- `share_for` meets its contract: no code block and a refused receiver have no share, else N_IR is divided by C.
+-- Assumes nothing.
+use borrow.Author.Needs.{needs}
+use mathlib.Core.Path.{_≡_, sym, _∙_, ap}
+use mathlib.Core.Bool.{false}
+use Prim.Native.Nat.{ℕ, _*_, _≤_}
+use native.Mathlib.Nat.{mul-le-mul}
+use native.Mathlib.Omega.{arith}
+use borrow.Author.Tests.{eq-eqb, ne-eqb}
+use Rattle.rate_matching.specs.SoftBuffer.{mLimit, nIR, softShare}
+use Rattle.codeword.specs.Downlink.{badReceiver, shareFor}
+use Rattle.codeword.proofs.SoftShares.{Receiver, receiver, divisor-few}
+use Rattle.codeword.proofs.buffer.share_for.Statement.{statement}
+use Rattle.codeword.proofs.buffer.share_for.Tie as tie
+
+returns : tie.Need-returns
+unfolding shareFor
+returns c = simp (eq-eqb _ _ (c .if1 .taken))
+
+bad-receiver-requires : tie.Need-bad-receiver-requires
+bad-receiver-requires c κs = search needs
+
+returns-2 : tie.Need-returns-2
+unfolding shareFor
+returns-2 c = simp (ne-eqb _ _ (c .before .before .if1 .left), sym (c .before .bad-receiver .ensures) ∙ c .if2 .taken)
+
+-- past both tests
+good : (c : tie.Else2) → badReceiver (c .before .before .before .args .release) (c .before .before .before .args .mimo) (c .before .before .before .args .processes) ≡ false
+good c = sym (c .before .bad-receiver .ensures) ∙ c .if2 .left
+
+divisor-in-requires : tie.Need-divisor-in-requires
+divisor-in-requires c κs = search needs
+
+-- K_C · K_MIMO
+product : (c : tie.After-divisor-in) → (1 ≤ c .divisor-in .result * c .before .before .before .before .args .mimo) × (c .divisor-in .result * c .before .before .before .before .args .mimo ≤ 10)
+product c =
+    let few = divisor-few (c .before .before .before .before .args .release) (c .before .before .before .before .args .soft) (c .before .before .before .before .args .layers) in
+    let r = receiver _ _ _ (good (c .before)) in
+    let least : 1 ≤ c .divisor-in .result = rw (c .divisor-in .ensures) (few .0) in
+    let most : c .divisor-in .result ≤ 5 = rw (c .divisor-in .ensures) (few .1) in
+    let low : 1 * 1 ≤ c .divisor-in .result * c .before .before .before .before .args .mimo = mul-le-mul least (r .some) in
+    let top : c .divisor-in .result * c .before .before .before .before .args .mimo ≤ 5 * 2 = mul-le-mul most (r .few) in
+    (omega arith, omega arith)
+
+-- times min(M_DL_HARQ, M_limit)
+all : (c : tie.After-limited) → (1 ≤ c .before .divisor-in .result * c .before .before .before .before .before .args .mimo * c .limited .result)
+    × (c .before .divisor-in .result * c .before .before .before .before .before .args .mimo * c .limited .result ≤ 80)
+unfolding mLimit
+all c =
+    let p = product (c .before) in
+    let r = receiver _ _ _ (good (c .before .before)) in
+    let some : 1 ≤ c .limited .result = omega (arith, c .limited .ensures, r .running) in
+    let few : c .limited .result ≤ 8 = omega (arith, c .limited .ensures) in
+    let low : 1 * 1 ≤ c .before .divisor-in .result * c .before .before .before .before .before .args .mimo * c .limited .result = mul-le-mul (p .0) some in
+    let top : c .before .divisor-in .result * c .before .before .before .before .before .args .mimo * c .limited .result ≤ 10 * 8 = mul-le-mul (p .1) few in
+    (omega arith, omega arith)
+
+mul-shared : tie.Need-mul-shared
+mul-shared c = omega (arith, product c .1)
+
+limited-requires : tie.Need-limited-requires
+limited-requires c κs = search needs
+
+mul-shared-2 : tie.Need-mul-shared-2
+mul-shared-2 c = omega (arith, all c .1)
+
+div-result : tie.Need-div-result
+div-result c = all c .0
+
+div-result-2 : tie.Need-div-result-2
+div-result-2 c = search needs
+
+returns-3 : tie.Need-returns-3
+unfolding shareFor softShare nIR
+returns-3 c =
+    simp (ne-eqb _ _ (c .before .before .before .before .if1 .left), good (c .before .before))
+    (rw (c .before .divisor-in .ensures, c .limited .ensures))
+
+pub share-for-spec : {M : Type 1} → statement M
+share-for-spec =
+    tie.close
+    (tie.spec
+    returns
+    bad-receiver-requires
+    returns-2
+    divisor-in-requires
+    mul-shared
+    limited-requires
+    mul-shared-2
+    div-result
+    div-result-2
+    returns-3)

@@ -1,0 +1,54 @@
+-- `down_number` meets its contract: each return by the tests on the way.
+-- Assumes nothing.
+use borrow.Author.Needs.{needs}
+use mathlib.Core.Path.{_∙_, ap}
+use mathlib.Core.List.{List, append-nil}
+use Prim.Native.Nat.{ℕ}
+use native.Mathlib.Omega.{arith}
+use lib.ListN.{length}
+use borrow.Author.Tests.{lt-ltb, le-ltb}
+use denote.Ref.{now}
+use Rattle.codeword.specs.Build.{buildNumber}
+use Rattle.codeword.specs.Sending.{numberWith}
+use Rattle.codeword.proofs.Segmented.{Sized, sized, unsized, long-told}
+use Rattle.codeword.proofs.SoftShares.{rows-told}
+use Rattle.codeword.proofs.call.down_number.Statement.{statement}
+use Rattle.codeword.proofs.call.down_number.Tie as tie
+
+returns : tie.Need-returns
+unfolding numberWith
+returns c = simp (unsized _ _ (c .before .before .before .pre) (c .if1 .taken))
+
+-- past the first test the size is in range
+in-range : (c : tie.Else1) → Sized (length (now (c .before .before .before .args .block))) (c .before .before .before .args .s)
+in-range c = sized _ _ (c .before .before .before .pre) (c .if1 .left)
+
+add-if2 : tie.Need-add-if2
+add-if2 c = let k = in-range (c .before) in omega (arith, long-told _ (k .size) (k .told))
+
+mul-if2 : tie.Need-mul-if2
+mul-if2 c = let k = in-range (c .before) in omega (arith, long-told _ (k .size) (k .told))
+
+returns-2 : tie.Need-returns-2
+unfolding numberWith
+returns-2 c =
+    let k = in-range (c .before .before) in
+    simp (k .size, lt-ltb _ _ (rw (rows-told _ (k .told)) at (c .if2 .taken)))
+
+slice-aggregate-build-number : tie.Need-slice-aggregate-build-number
+slice-aggregate-build-number c = search needs
+
+build-number-requires : tie.Need-build-number-requires
+build-number-requires c κs = search needs
+
+returns-3 : tie.Need-returns-3
+unfolding numberWith
+returns-3 c =
+    let k = in-range (c .before .before .before .before) in
+    let a = c .before .before .before .before .before .before .before .args in
+    simp (k .size, le-ltb _ _ (rw (rows-told _ (k .told)) at (c .before .before .if2 .left)))
+    (c .build-number .ensures ∙ ap (λ (l : List ℕ). buildNumber l (a .q) (a .n) (a .version) (a .g) (a .room)) (append-nil (now (a .block))))
+
+pub down-number-spec : {M : Type 1} → statement M
+down-number-spec =
+    tie.close (tie.spec returns add-if2 mul-if2 returns-2 slice-aggregate-build-number build-number-requires returns-3)

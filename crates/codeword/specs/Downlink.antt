@@ -1,0 +1,56 @@
+-- The call Build for a downlink (02): its number and what the output holds afterwards, under Release 11 and under Release 8.
+-- Assumes nothing.
+use mathlib.Core.Bool.{Bool, false, cond, not, _||_}
+use mathlib.Core.List.{List, [], _∷_, _++_}
+use Prim.Native.Nat.{ℕ, zero, suc, _+_, _*_}
+use lib.Dec.{eqb, ltb}
+use lib.ListN.{length, drop}
+use Rattle.refusals.specs.Refusals.{Rule, rule, firstOf}
+use Rattle.segmentation.specs.Segmentation.{blocks}
+use Rattle.segmentation.specs.Sizes.{badSize}
+use Rattle.rate_matching.specs.SoftBuffer.{softShare}
+use Rattle.codeword.specs.Codeword.{blockRows, blockCut, codewordIn}
+use Rattle.codeword.specs.Build.{badAllocation, badVersion, badBits}
+
+-- a release that is neither 8 nor 11, a K_MIMO other than 1 or 2, or no processes
+unfoldable pub badReceiver : ℕ → ℕ → ℕ → Bool
+badReceiver release kMIMO processes =
+    not (eqb release 8 || eqb release 11) || (not (eqb kMIMO 1 || eqb kMIMO 2) || eqb processes 0)
+
+-- an N_cb below 32·R for one of the first n code blocks
+unfoldable pub tooShort : ℕ → ℕ → ℕ → Bool
+tooShort soft B zero = false
+tooShort soft B (suc n) = tooShort soft B n || ltb (blockCut soft B n) (32 * blockRows B n)
+
+-- number 21, for a sequence of B bits: another release, K_MIMO or number of processes, or an N_cb below 32·R for any block
+unfoldable pub badBuffer : ℕ → ℕ → ℕ → ℕ → ℕ → ℕ → Bool
+badBuffer B release kMIMO processes Nsoft layers =
+    badReceiver release kMIMO processes || tooShort (softShare (blocks B) release kMIMO processes Nsoft layers) B (blocks B)
+
+-- ⌊N_IR / C⌋ of an accepted receiver, else 0
+unfoldable pub shareFor : ℕ → ℕ → ℕ → ℕ → ℕ → ℕ → ℕ
+shareFor C release kMIMO processes Nsoft layers =
+    cond (eqb C 0 || badReceiver release kMIMO processes) 0 (softShare C release kMIMO processes Nsoft layers)
+
+-- its refusals in 02's order: 1, 21, 3, 4, 5, 2; room is the length of the output
+unfoldable pub buildDownRules : List ℕ → ℕ → ℕ → ℕ → ℕ → ℕ → ℕ → ℕ → ℕ → ℕ → ℕ → List Rule
+buildDownRules a release kMIMO processes Nsoft layers Q N v G room =
+    rule (badSize (length a)) 1
+    ∷ rule (badBuffer (length a + 24) release kMIMO processes Nsoft layers) 21
+    ∷ rule (badAllocation (blocks (length a + 24)) Q N G) 3
+    ∷ rule (badVersion v) 4
+    ∷ rule (ltb room G) 5
+    ∷ rule (badBits a) 2
+    ∷ []
+
+-- the number that it answers: 0 where it is accepted
+unfoldable pub buildDownNumber : List ℕ → ℕ → ℕ → ℕ → ℕ → ℕ → ℕ → ℕ → ℕ → ℕ → ℕ → ℕ
+buildDownNumber a release kMIMO processes Nsoft layers Q N v G room =
+    firstOf (buildDownRules a release kMIMO processes Nsoft layers Q N v G room)
+
+-- the output afterwards: the codeword over its first G bytes, or as it was
+unfoldable pub buildDownOutput : List ℕ → ℕ → ℕ → ℕ → ℕ → ℕ → ℕ → ℕ → ℕ → ℕ → List ℕ → List ℕ
+buildDownOutput a release kMIMO processes Nsoft layers Q N v G out =
+    cond (eqb (buildDownNumber a release kMIMO processes Nsoft layers Q N v G (length out)) 0)
+    (codewordIn (softShare (blocks (length a + 24)) release kMIMO processes Nsoft layers) a Q N v G ++ drop G out)
+    out
