@@ -71,6 +71,11 @@ extern "C" {
 #define ZEMRUKSTE_SHORT_OUTPUT 5
 /* m is not 1 to 5: give the M of the state that the room belongs to. */
 #define ZEMRUKSTE_BAD_SHAPE 13
+/* The numbers from 6 to 12 and 14 to 16 are those of the calls on slots, which are not declared
+   here; README says what to do about each. 16 is Read's: all data bits were heard, and CRC24B
+   of a code block is wrong; the first such block, counted from 0, comes with it, and no block
+   is released. */
+#define ZEMRUKSTE_WRONG_CODE_BLOCK 16
 /* A report has 1 to 11 bits: correct its length. */
 #define ZEMRUKSTE_BAD_REPORT 17
 /* The control bits a layer are not a positive multiple of q, or above 4,096: correct the
