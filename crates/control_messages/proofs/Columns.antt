@@ -10,7 +10,7 @@ use lib.ListN.{getD}
 use Rattle.laws.specs.Bits.{bitsOf}
 use Rattle.laws.specs.Computed.{all-below}
 use Rattle.laws.proofs.Computed.{all-below-at}
-use Rattle.rate_matching.specs.Columns.{numberOf, column}
+use Rattle.rate_matching.specs.Columns.{numberOf, turnedRound, column}
 use Rattle.rate_matching.proofs.Columns.{column-rule}
 use Rattle.rate_matching.proofs.Places.{Permuted}
 use Rattle.control_messages.specs.RateMatching.{controlColumn}
@@ -21,7 +21,7 @@ test c = eqb (controlColumn c) (getD printedControlColumns c 0)
 
 -- P(c) is the number that table 5.1.4-2 prints for column c
 pub control-column-printed : (c : ℕ) → c < 32 → controlColumn c ≡ getD printedControlColumns c 0
-unfolding all-below numberOf bitsOf column controlColumn printedControlColumns test
+unfolding all-below numberOf bitsOf turnedRound column controlColumn printedControlColumns test
 control-column-printed c h = eqb→eq (controlColumn c) (getD printedControlColumns c 0) (all-below-at test 32 tt c h)
 
 -- where table 5.1.4-2 has the column p

@@ -19,7 +19,7 @@ use Rattle.laws.proofs.Keep.{keep-yes, keep-no}
 use Rattle.laws.proofs.Tab.{tab-rest, rest-more, rest-none}
 use Rattle.laws.proofs.Writing as writing
 use Rattle.laws.proofs.Writing.{Writing}
-use Rattle.rate_matching.specs.Columns.{numberOf, columnTable, column}
+use Rattle.rate_matching.specs.Columns.{numberOf, turnedRound, columnTable, column}
 use Rattle.rate_matching.specs.SubBlocks.{rows, dummies}
 use Rattle.rate_matching.proofs.Columns.{table-at, table-below}
 use Rattle.rate_matching.proofs.Places.{dummies-add}
@@ -36,7 +36,7 @@ all-read : ℕ → Bool
 all-read i = eqb (length (placesRead (17 + i))) (17 + i)
 
 pub length-placesRead : {D : ℕ} → Sized D → length (placesRead D) ≡ D
-unfolding all-below all-read pastDummies tab tabFrom keep rows dummies readControl controlColumn column numberOf bitsOf
+unfolding all-below all-read pastDummies tab tabFrom keep rows dummies readControl controlColumn column turnedRound numberOf bitsOf
 length-placesRead {D} z =
     let e : 17 + (D - 17) ≡ D = omega (arith, z .least) in
     ap (λ (n : ℕ). length (placesRead n)) (sym e)
@@ -131,7 +131,7 @@ module _ {D : ℕ} {x taken₀ : List ℕ} (z : Sized D) {t taken : List ℕ} {n
 
   is : readControl (rows D) (c * rows D + q) ≡ placed
   unfolding readControl controlColumn
-  is = rw (digits-div c hq, digits-mod c hq, ← table-at ((c + 16) % 32) e (mod-lt (c + 16) (lit< tt)))
+  is = rw (digits-div c hq, digits-mod c hq, ← table-at ((c + 16) % 32) e)
 
   pub placed-lt : placed < 32 * rows D
   placed-lt = omega (arith, table-below ((c + 16) % 32) e (mod-lt (c + 16) (lit< tt)))

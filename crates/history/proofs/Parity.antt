@@ -14,7 +14,7 @@ use Rattle.laws.specs.Lists.{tab, tabFrom, keep}
 use Rattle.interleaver.specs.Table.{sizeTable, sizeAt}
 use Rattle.segmentation.specs.Segmentation.{checkLength, blocks, withChecks, firstRow, longRow, long, short, shorts, longs, filler, sizeOf, fillerOf}
 use Rattle.turbo.specs.Streams.{withoutFiller}
-use Rattle.rate_matching.specs.Columns.{numberOf, column}
+use Rattle.rate_matching.specs.Columns.{numberOf, turnedRound, column}
 use Rattle.rate_matching.specs.SubBlocks.{rows, dummies, padded, readPlain, readShifted, yAt, plain, shifted}
 use Rattle.rate_matching.specs.Circle.{byTurns, circle, circleLength, startIn, startOf}
 use Rattle.rate_matching.specs.Places.{plainPlace, placeNumber}
@@ -30,7 +30,7 @@ abbrev unsentAt : ℕ → Bool
 unsentAt i = not (among (placeNumber 44 0 i) (blockPlaces 40 2 1 2 64 0))
 
 tested : T (all-below unsentAt 40)
-unfolding all-below among tab tabFrom keep sizeTable sizeAt checkLength blocks withChecks firstRow longRow long short shorts longs filler sizeOf fillerOf withoutFiller bitsOf numberOf column rows dummies padded readPlain readShifted yAt plain shifted byTurns circle circleLength startIn startOf plainPlace placeNumber onCircle isBit holdsBit itself round turn turnAfterTurn sentPlaces symbols share blockRows blank shape blockPlaces
+unfolding all-below among tab tabFrom keep sizeTable sizeAt checkLength blocks withChecks firstRow longRow long short shorts longs filler sizeOf fillerOf withoutFiller bitsOf numberOf turnedRound column rows dummies padded readPlain readShifted yAt plain shifted byTurns circle circleLength startIn startOf plainPlace placeNumber onCircle isBit holdsBit itself round turn turnAfterTurn sentPlaces symbols share blockRows blank shape blockPlaces
 tested = tt
 
 -- there is one code block, of 40 bits

@@ -1,19 +1,19 @@
 -- The rule of the columns, clause 5.1.4.1.1: it gives the numbers of Table 5.1.4-1 as printed, permutes the 32 columns and is its own inverse.
 -- Assumes nothing.
-use mathlib.Core.Path.{_≡_, sym, _∙_}
-use mathlib.Core.Bool.{Bool, true, _&&_, and-eq-true-iff}
+use mathlib.Core.Path.{_≡_, refl, sym, _∙_}
+use mathlib.Core.Bool.{Bool, true, false, _&&_, and-eq-true-iff}
 use mathlib.Core.List.{List}
-use Prim.Native.Nat.{ℕ, _+_, _*_, _/_, _%_, _<_}
+use Prim.Native.Nat.{ℕ, _+_, _*_, _/_, _%_, _≤_, _<_}
 use native.Mathlib.Omega.{arith}
 use lib.Dec.{ltb, eqb}
-use lib.ListN.{getD}
-use borrow.Author.Tests.{ltb-true, eqb-true}
+use lib.ListN.{length, getD, List·getD-eq-default}
+use borrow.Author.Tests.{ltb-true, ltb-false, eqb-true, lt-ltb, le-ltb}
 use Rattle.laws.specs.Lists.{tab, tabFrom}
 use Rattle.laws.specs.Bits.{bitsOf}
 use Rattle.laws.specs.Computed.{all-below}
 use Rattle.laws.proofs.Computed.{all-below-at, T-true}
-use Rattle.laws.proofs.Tab.{getD-tab}
-use Rattle.rate_matching.specs.Columns.{numberOf, columnTable, column}
+use Rattle.laws.proofs.Tab.{length-tab, getD-tab}
+use Rattle.rate_matching.specs.Columns.{numberOf, turnedRound, columnTable, column}
 use Rattle.rate_matching.specs.Printed.{printedColumns}
 
 -- the rule gives what is printed at c, which is one of the 32, and what is printed there is c
@@ -27,7 +27,7 @@ record Tested (c : ℕ) : Type 0 where
   back : column (column c) ≡ c
 
 tested : (c : ℕ) → c < 32 → Tested c
-unfolding all-below numberOf bitsOf column printedColumns test
+unfolding all-below numberOf bitsOf turnedRound column printedColumns test
 tested c h = go (T-true (test c) (all-below-at test 32 tt c h))
   where
     go : test c ≡ true → Tested c
@@ -44,33 +44,30 @@ pub column-rule : (c : ℕ) → c < 32 → (column c < 32) × (column (column c)
 column-rule c h = (tested c h .below, tested c h .back)
 
 -- the rule written out: the lowest bit counts 16, the next 8, and so on
-pub column-is : (c : ℕ) → column c ≡ c % 2 * 16 + c / 2 % 2 * 8 + c / 4 % 2 * 4 + c / 8 % 2 * 2 + c / 16 % 2
-unfolding column numberOf bitsOf
-column-is c = omega arith
+pub rule-is : (c : ℕ) → turnedRound c ≡ c % 2 * 16 + c / 2 % 2 * 8 + c / 4 % 2 * 4 + c / 8 % 2 * 2 + c / 16 % 2
+unfolding turnedRound numberOf bitsOf
+rule-is c = omega arith
 
--- only the five lowest bits of a number are turned round
-pub column-five : (c : ℕ) → column (c % 32) ≡ column c
-column-five c = column-is (c % 32) ∙ rw (bit0, bit1, bit2, bit3, bit4) (sym (column-is c))
-  where
-    bit0 : c % 32 % 2 ≡ c % 2
-    bit0 = omega arith
+-- the 32 columns go by the rule
+pub column-turned : (c : ℕ) → c < 32 → column c ≡ turnedRound c
+unfolding column
+column-turned c h = simp (lt-ltb c 32 h)
 
-    bit1 : c % 32 / 2 % 2 ≡ c / 2 % 2
-    bit1 = omega arith
-
-    bit2 : c % 32 / 4 % 2 ≡ c / 4 % 2
-    bit2 = omega arith
-
-    bit3 : c % 32 / 8 % 2 ≡ c / 8 % 2
-    bit3 = omega arith
-
-    bit4 : c % 32 / 16 % 2 ≡ c / 16 % 2
-    bit4 = omega arith
+pub column-past : (c : ℕ) → 32 ≤ c → column c ≡ 0
+unfolding column
+column-past c h = simp (le-ltb c 32 h)
 
 -- P(c) read from a list of them
-pub table-at : {p : List ℕ} (c : ℕ) → p ≡ columnTable → c < 32 → getD p c 0 ≡ column c
+pub table-at : {p : List ℕ} (c : ℕ) → p ≡ columnTable → getD p c 0 ≡ column c
 unfolding columnTable
-table-at c e h = rw e (getD-tab 32 column c 0 h)
+table-at c e = rw e (go (ltb c 32) refl)
+  where
+    go : (t : Bool) → ltb c 32 ≡ t → getD (tab 32 column) c 0 ≡ column c
+    go true h = getD-tab 32 column c 0 (ltb-true c 32 h)
+    go false h =
+        let past : 32 ≤ c = ltb-false c 32 h in
+        let long : length (tab 32 column) ≤ c = omega (arith, length-tab 32 column) in
+        List·getD-eq-default (tab 32 column) 0 long ∙ sym (column-past c past)
 
 pub table-below : {p : List ℕ} (c : ℕ) → p ≡ columnTable → c < 32 → getD p c 0 < 32
-table-below c e h = rw (table-at c e h) (column-rule c h .0)
+table-below c e h = rw (table-at c e) (column-rule c h .0)

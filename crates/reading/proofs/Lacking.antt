@@ -17,7 +17,7 @@ use Rattle.laws.proofs.Tab.{length-tabFrom, getD-tabFrom}
 use Rattle.segmentation.specs.declared.Segments.{Segments}
 use Rattle.segmentation.specs.Segmentation.{blocks, sizeOf, fillerOf}
 use Rattle.segmentation.specs.Sizes.{badSize, segmentsFor}
-use Rattle.rate_matching.specs.Columns.{numberOf, columnTable, column}
+use Rattle.rate_matching.specs.Columns.{numberOf, turnedRound, columnTable, column}
 use Rattle.rate_matching.specs.SubBlocks.{rows, dummies, rowsBefore}
 use Rattle.rate_matching.specs.Places.{plainPlace, placeNumber}
 use Rattle.rate_matching.proofs.Columns.{column-rule, table-at}
@@ -97,7 +97,7 @@ inPart circle k f c = inColumn (missingY circle (rows (k + 4))) (dummies (k + 4)
 
 -- each column of the matrix is one of the circle's
 all-columns : (g : ℕ → ℕ) → sumFrom (λ (c : ℕ). g (column c)) 0 32 ≡ sumFrom g 0 32
-unfolding sumFrom numberOf bitsOf column
+unfolding sumFrom numberOf bitsOf turnedRound column
 all-columns g = omega arith
 
 pub parts-sum : (circle : List ℕ) (k f : ℕ) → f ≤ k → sumFrom (inPart circle k f) 0 32 ≡ sumFrom (missingOn circle (k + 4)) f (k - f)
@@ -167,8 +167,8 @@ module _ {circle : List ℕ} {k f : ℕ} {p : List ℕ} where
             ∙ sumFrom-ext (λ (t : ℕ). missingAt circle (j + t)) (λ (t : ℕ). missingY circle (rows (k + 4)) (column c + 32 * t)) a (b - a)
             (λ t low high. ap (λ (i : ℕ). missing (getD circle i 0)) (ap (λ (i : ℕ). i + t) (l .place) ∙ sym (row-is (rows (k + 4)) c t h)))
             ∙ ap₂ (λ (i e : ℕ). sumFrom (λ (t : ℕ). missingY circle (rows (k + 4)) (column c + 32 * t)) i (e - i))
-            (from ∙ ap (rowsBefore (dummies (k + 4) + f)) (table-at c (l .table) h))
-            (to ∙ ap (rowsBefore (dummies (k + 4) + k)) (table-at c (l .table) h))
+            (from ∙ ap (rowsBefore (dummies (k + 4) + f)) (table-at c (l .table)))
+            (to ∙ ap (rowsBefore (dummies (k + 4) + k)) (table-at c (l .table)))
           where
             count : j + b - (j + a) ≡ b - a
             count = omega arith

@@ -10,7 +10,7 @@ use Rattle.segmentation.specs.Segmentation.{checkLength, blocks, withChecks, fi
 use Rattle.segmentation.specs.CodeBlocks.{withCheck, takenBefore, payload, codeBlock}
 use Rattle.turbo.specs.Encoder.{start, feedback, entering, parity, next, parities, after, tailed, xTail, zTail}
 use Rattle.turbo.specs.Streams.{withoutFiller, firstEnd, secondEnd, stream0, stream1, stream2}
-use Rattle.rate_matching.specs.Columns.{numberOf, column}
+use Rattle.rate_matching.specs.Columns.{numberOf, turnedRound, column}
 use Rattle.rate_matching.specs.SubBlocks.{rows, dummies, padded, readPlain, readShifted, yAt, plain, shifted}
 use Rattle.rate_matching.specs.Circle.{byTurns, circle, circleLength, startIn, startOf}
 use Rattle.rate_matching.specs.Walk.{onCircle, isBit, holdsBit, itself, round, turn, turnAfterTurn, sentPlaces}
@@ -20,5 +20,5 @@ use Rattle.sums.specs.Questions.{asNumbers, streamPlaces, zeros, answer}
 use Rattle.sums.specs.Table.{smallSums, same, allHold}
 
 pub small-sums-hold : T (allHold smallSums)
-unfolding tab tabFrom keep bitsOf crc crcFrom crcStep checkBits sizeTable f1Table f2Table sizeAt f1At f2At quadratic secondPlace secondBit interleaved checkLength blocks withChecks firstRow longRow long short shorts longs filler sizeOf rowOf fillerOf withCheck takenBefore payload codeBlock start feedback entering parity next parities after tailed xTail zTail withoutFiller firstEnd secondEnd stream0 stream1 stream2 numberOf column rows dummies padded readPlain readShifted yAt plain shifted byTurns circle circleLength startIn startOf onCircle isBit holdsBit itself round turn turnAfterTurn sentPlaces heldY heldByTurns heldAt blockCircle blockRows asNumbers streamPlaces zeros answer smallSums same allHold
+unfolding tab tabFrom keep bitsOf crc crcFrom crcStep checkBits sizeTable f1Table f2Table sizeAt f1At f2At quadratic secondPlace secondBit interleaved checkLength blocks withChecks firstRow longRow long short shorts longs filler sizeOf rowOf fillerOf withCheck takenBefore payload codeBlock start feedback entering parity next parities after tailed xTail zTail withoutFiller firstEnd secondEnd stream0 stream1 stream2 numberOf turnedRound column rows dummies padded readPlain readShifted yAt plain shifted byTurns circle circleLength startIn startOf onCircle isBit holdsBit itself round turn turnAfterTurn sentPlaces heldY heldByTurns heldAt blockCircle blockRows asNumbers streamPlaces zeros answer smallSums same allHold
 small-sums-hold = tt

@@ -15,7 +15,7 @@ use Rattle.rate_matching.proofs.mapping.plain_place.Tie as tie
 
 -- the table's entry is the column's
 entry : (c : tie.Start) → getD (now (c .args .table)) (c .args .p % 32) 0 ≡ column (c .args .p % 32)
-entry c = table-at (c .args .p % 32) (c .pre .0) (omega arith)
+entry c = table-at (c .args .p % 32) (c .pre .0)
 
 element-copy-out-result : tie.Need-element-copy-out-result
 element-copy-out-result c = search needs

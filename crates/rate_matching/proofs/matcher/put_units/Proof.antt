@@ -34,7 +34,7 @@ put-unit-requires c κs =
     let l = c .before .before .loop in
     let s = c .before .before .before .before .before .before .before .before in
     let h = filling-goes (l .inv .1) _ (c .before .loop-test .taken) in
-    (s .pre .0, omega (arith, h .0, s .pre .2), table-at _ (l .inv .0) (omega arith), filling-room (l .inv .1) (h .0) (h .1) (s .pre .4))
+    (s .pre .0, omega (arith, h .0, s .pre .2), table-at _ (l .inv .0), filling-room (l .inv .1) (h .0) (h .1) (s .pre .4))
 
 add-u : tie.Need-add-u Inv-loop μ-loop
 add-u c = let h = filling-goes (c .before .before .before .before .before .loop .inv .1) _ (c .before .before .before .before .loop-test .taken) in omega (arith, h .0)

@@ -9,6 +9,7 @@ use Rattle.laws.specs.Lists.{tabFrom}
 use Rattle.laws.proofs.Tab.{tab-rest, rest-more, rest-none}
 use Rattle.laws.proofs.Writing.{Writing, start, same, push, finish-all}
 use Rattle.rate_matching.specs.Columns.{columnTable, column}
+use Rattle.rate_matching.proofs.Columns.{column-turned}
 use Rattle.rate_matching.proofs.table.columns.Statement.{statement}
 use Rattle.rate_matching.proofs.table.columns.Tie as tie
 
@@ -40,7 +41,7 @@ loop-less c = omega arith
 loop-again : tie.Need-loop-again Inv-loop μ-loop
 loop-again c =
     let l = c .before .before .loop in
-    let w = push (omega arith) (same (rest-more (l .c) 32 column (omega arith) ∙ ap (λ (x : ℕ). x ∷ tabFrom (l .c + 1) (32 - (l .c + 1)) column) (sym (c .turned .ensures))) (l .inv .2)) in
+    let w = push (omega arith) (same (rest-more (l .c) 32 column (omega arith) ∙ ap (λ (x : ℕ). x ∷ tabFrom (l .c + 1) (32 - (l .c + 1)) column) (column-turned (l .c) (omega arith) ∙ sym (c .turned .ensures))) (l .inv .2)) in
     (omega arith, w .long ∙ sym (l .inv .2 .long) ∙ l .inv .1, w)
 
 returns : tie.Need-returns Inv-loop μ-loop

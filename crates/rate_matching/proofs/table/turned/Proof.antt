@@ -2,7 +2,7 @@
 -- Assumes nothing.
 use borrow.Author.Needs.{needs}
 use mathlib.Core.Path.{sym}
-use Rattle.rate_matching.proofs.Columns.{column-is}
+use Rattle.rate_matching.proofs.Columns.{rule-is}
 use Rattle.rate_matching.proofs.table.turned.Statement.{statement}
 use Rattle.rate_matching.proofs.table.turned.Tie as tie
 
@@ -31,7 +31,7 @@ add-result-4 : tie.Need-add-result-4
 add-result-4 c = search needs
 
 returns : tie.Need-returns
-returns c = sym (column-is _)
+returns c = sym (rule-is _)
 
 pub turned-spec : {M : Type 1} → statement M
 turned-spec =
