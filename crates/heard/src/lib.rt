@@ -8,7 +8,7 @@ ghost use Rattle.slots.specs.Calls.{receiveOutcome, receiveStore, readOutcome, 
 ghost use Rattle.slots.specs.Answers.{numberOf};
 ghost use Rattle.heard.specs.Slot.{openSlot, valueOf};
 
-// The state after New for one slot of m code blocks and Open of it for terminal 0 with a block of `a` bits.
+// The state after New for one slot of m code blocks and Open of it for terminal 0 with a block of `a` bits, the uplink's share with it.
 fn open_slot(m: usize, a: usize) -> State
     ensures { λ r. ⌜ r ≡ openSlot m a ⌝ }
 {
@@ -16,12 +16,14 @@ fn open_slot(m: usize, a: usize) -> State
         opened: false,
         terminal: 0,
         size: 0,
+        share: 0,
     };
     let mut heads = [closed; 8];
     heads[0] = Head {
         opened: true,
         terminal: 0,
         size: a,
+        share: 18528,
     };
     State {
         slots: 1,

@@ -16,9 +16,10 @@ use Rattle.codeword.proofs.Accepted.{given-bits}
 use Rattle.slots.specs.declared.State.{State}
 use Rattle.slots.specs.Room.{unheard, disputed, heard, meet}
 use Rattle.slots.specs.Reception.{blockPlaces}
-use Rattle.slots.specs.Calls.{openNumber, receiveNumber, closeNumber}
+use Rattle.slots.specs.Calls.{receiveNumber, closeNumber}
 use Rattle.slots.proofs.Acceptance.{receives}
 use Rattle.slots.proofs.Meeting.{heard-bit, disputed-not, unheard-not, unheard-two, Known, known-bit, meet-unheard, meet-same, meet-other, meet-disputed}
+use Rattle.history.specs.Links.{openingNumber}
 use Rattle.history.specs.Calls.{Reception, Call, opening, receiving, reading, streaming, closing, History}
 use Rattle.history.specs.Accepted.{lentLength, headsAfter, sinceCall, since, arriving, arrivals}
 use Rattle.history.specs.Agreed.{allAre, holding, decided}
@@ -128,12 +129,12 @@ came-among (p ∷ ps) bits j = go (eqb p j) (came-among ps (drop 1 bits) j)
     go true e = refl
     go false e = e
 
-pub came-sent : (A : ℕ) (xs : List Reception) (r j : ℕ) → someCame (arrivals A xs r j) ≡ sent A xs r j
+pub came-sent : (soft A : ℕ) (xs : List Reception) (r j : ℕ) → someCame (arrivals soft A xs r j) ≡ sent soft A xs r j
 unfolding arrivals sent someCame
-came-sent A [] r j = refl
-came-sent A (x ∷ xs) r j =
-    came-append (arrivals A xs r j) _
-    ∙ ap₂ _||_ (came-among (blockPlaces (A + 24) (x .Q) (x .N) (x .version) (length (x .bits)) r) _ j) (came-sent A xs r j)
+came-sent soft A [] r j = refl
+came-sent soft A (x ∷ xs) r j =
+    came-append (arrivals soft A xs r j) _
+    ∙ ap₂ _||_ (came-among (blockPlaces soft (A + 24) (x .Q) (x .N) (x .version) (length (x .bits)) r) _ j) (came-sent soft A xs r j)
 
 -- ---- accepted receptions bring bits
 
@@ -150,16 +151,16 @@ arriving-bits (p ∷ ps) bits j h = go (eqb p j) (arriving-bits ps (drop 1 bits)
     go true rest = with-bit (getD bits 0 0) (arriving ps (drop 1 bits) j) (h 0) rest
     go false rest = rest
 
-pub arrived-bits : (A : ℕ) (xs : List Reception) (r j : ℕ) → AllBits xs → AreBits (arrivals A xs r j)
+pub arrived-bits : (soft A : ℕ) (xs : List Reception) (r j : ℕ) → AllBits xs → AreBits (arrivals soft A xs r j)
 unfolding arrivals
-arrived-bits A [] r j h = no-bits
-arrived-bits A (x ∷ xs) r j h =
-    append-bits (arrivals A xs r j) _ (arrived-bits A xs r j (h .1))
+arrived-bits soft A [] r j h = no-bits
+arrived-bits soft A (x ∷ xs) r j h =
+    append-bits (arrivals soft A xs r j) _ (arrived-bits soft A xs r j (h .1))
     (arriving-bits _ _ j (drop-below 2 (sharesBefore (blocks (A + 24)) (x .Q) (x .N) (length (x .bits)) r) (x .bits) (h .0)))
 
 taken-bits : (state : State) (room slot : ℕ) (call : Call) (earlier : List Reception) → AllBits earlier → AllBits (sinceCall state room slot call earlier)
 unfolding sinceCall
-taken-bits state room slot (opening s terminal A) earlier h = go (eqb s slot && eqb (openNumber state room s A) 0)
+taken-bits state room slot (opening link s terminal A) earlier h = go (eqb s slot && eqb (openingNumber link state room s A) 0)
   where
     go : (t : Bool) → AllBits (cond t [] earlier)
     go true = tt

@@ -59,30 +59,30 @@ module _ (A : ℕ) (has : ℕ → ℕ → Bool) where
 
 -- ---- data places unsent, and undecided
 
-module _ (A : ℕ) (xs : List Reception) where
-  pub unsent-all : NoneSent A xs → unsent A xs ≡ dataPlaces A
+module _ (soft A : ℕ) (xs : List Reception) where
+  pub unsent-all : NoneSent soft A xs → unsent soft A xs ≡ dataPlaces A
   unfolding unsent
-  unsent-all = without-all A (sentData A xs)
+  unsent-all = without-all A (sentData soft A xs)
 
-  pub unsent-none : AllSent A xs → unsent A xs ≡ 0
+  pub unsent-none : AllSent soft A xs → unsent soft A xs ≡ 0
   unfolding unsent
-  unsent-none = without-none A (sentData A xs)
+  unsent-none = without-none A (sentData soft A xs)
 
-  pub none-unsent : unsent A xs ≡ 0 → AllSent A xs
+  pub none-unsent : unsent soft A xs ≡ 0 → AllSent soft A xs
   unfolding unsent
-  none-unsent = none-without A (sentData A xs)
+  none-unsent = none-without A (sentData soft A xs)
 
-  pub unsent-some : (r i : ℕ) → DataPlace A r i → sentData A xs r i ≡ false → unsent A xs ≡ 0 → ⊥
+  pub unsent-some : (r i : ℕ) → DataPlace A r i → sentData soft A xs r i ≡ false → unsent soft A xs ≡ 0 → ⊥
   unfolding unsent
-  unsent-some = without-some A (sentData A xs)
+  unsent-some = without-some A (sentData soft A xs)
 
-  pub undecided-none : AllDecided A xs → undecided A xs ≡ 0
+  pub undecided-none : AllDecided soft A xs → undecided soft A xs ≡ 0
   unfolding undecided
-  undecided-none = without-none A (decidedData A xs)
+  undecided-none = without-none A (decidedData soft A xs)
 
-  pub undecided-some : (r i : ℕ) → DataPlace A r i → decidedData A xs r i ≡ false → undecided A xs ≡ 0 → ⊥
+  pub undecided-some : (r i : ℕ) → DataPlace A r i → decidedData soft A xs r i ≡ false → undecided soft A xs ≡ 0 → ⊥
   unfolding undecided
-  undecided-some = without-some A (decidedData A xs)
+  undecided-some = without-some A (decidedData soft A xs)
 
 -- ---- how many data places there are
 

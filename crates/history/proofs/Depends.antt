@@ -16,19 +16,21 @@ use Rattle.slots.specs.declared.Answer.the-variants.{Heard, Refused}
 use Rattle.slots.specs.declared.Head.{Head}
 use Rattle.slots.specs.declared.Outcome.{Outcome}
 use Rattle.slots.specs.declared.State.{State}
-use Rattle.slots.specs.State.{storeLength, closedHead, roomLength, roomStart, headAt, badState}
+use Rattle.slots.specs.State.{storeLength, closedHead, openHead, roomLength, roomStart, headAt, badState}
 use Rattle.slots.specs.Answers.{isDone, unlessRefused}
 use Rattle.slots.specs.Room.{cleared}
 use Rattle.slots.specs.Reception.{received}
 use Rattle.slots.specs.Reading.{lacking, heardAnswer, heardBlock, threeStreams}
-use Rattle.slots.specs.Calls.{withHead, storeRules, ownerRules, sizeAtHead, openNumber, openOutcome, receiveNumber, receiveOutcome, readNumber, readOutcome, released, readOutput, streamsNumber, streamsOutcome, streamsOutput, closeNumber, closeOutcome}
+use Rattle.slots.specs.Calls.{withHead, storeRules, ownerRules, sizeAtHead, shareAtHead, openRules, openNumber, openDownNumber, receiveNumber, receiveOutcome, readNumber, readOutcome, released, readOutput, streamsNumber, streamsOutcome, streamsOutput, closeNumber, closeOutcome}
 use Rattle.slots.proofs.RoomLaws.{room-within, cleared-in}
 use Rattle.slots.proofs.HeadLaws.{open-size, its-head, no-head, closed-head}
 use Rattle.slots.proofs.Acceptance.{receives, reads, streams}
+use Rattle.history.specs.Links.{Link, uplink, downlink, shareIn, openingNumber}
 use Rattle.history.specs.Calls.{Reception, Call, opening, receiving, reading, streaming, closing}
 use Rattle.history.specs.Run.{outcomeOf, storeAfterCall}
 use Rattle.history.specs.Accepted.{headsAfterCall}
 use Rattle.history.specs.Answered.{answerTo, slotOf, SameRoom, SameSlot}
+use Rattle.history.proofs.Links.{opening-outcome}
 use Rattle.history.proofs.State.{room-lent, open-writes, receive-writes}
 use Rattle.history.proofs.SameRoom.{same-lacking, same-answer, same-block, same-streams, same-received}
 use Rattle.history.proofs.Others.{reception-fits}
@@ -58,13 +60,18 @@ module _ (slot : ℕ) (state other : State) (store otherStore : List ℕ) (same 
   unfolding sizeAtHead
   same-size = ap (λ h. h .size) (same .head)
 
+  same-share : shareAtHead state slot ≡ shareAtHead other slot
+  unfolding shareAtHead
+  same-share = ap (λ h. h .share) (same .head)
+
   same-need : storeLength state ≡ storeLength other
   unfolding storeLength
   same-need = cc
 
-  same-open : (A : ℕ) → openNumber state (length store) slot A ≡ openNumber other (length otherStore) slot A
-  unfolding openNumber storeRules
-  same-open A = cc (same-need)
+  same-open : (link : Link) (A : ℕ) → openingNumber link state (length store) slot A ≡ openingNumber link other (length otherStore) slot A
+  unfolding openingNumber openNumber openDownNumber openRules storeRules
+  same-open uplink A = cc (same-need)
+  same-open (downlink release kMIMO processes Nsoft layers) A = cc (same-need)
 
   same-receive : (terminal Q N v : ℕ) (bits : List ℕ) → receiveNumber state (length store) slot terminal Q N v bits ≡ receiveNumber other (length otherStore) slot terminal Q N v bits
   unfolding receiveNumber storeRules ownerRules
@@ -121,20 +128,20 @@ module _ (slot : ℕ) (state other : State) (store otherStore : List ℕ) (same 
   same-written call true new new′ p q f = subst₂ (SameRoom (state .blocks) slot) (sym p) (sym q) (f refl)
   same-written call false new new′ p q f = subst₂ (SameRoom (state .blocks) slot) (sym p) (sym q) (same .room)
 
-  same-opened : (terminal A : ℕ)
-      → SameRoom (state .blocks) slot (storeAfterCall state store (opening slot terminal A)) (storeAfterCall other otherStore (opening slot terminal A))
-  same-opened terminal A =
-      same-written (opening slot terminal A) (eqb number 0) _ _
-      (open-writes state store slot terminal A (eqb number 0) refl)
-      (open-writes other otherStore slot terminal A (eqb number 0) (ap (λ (n : ℕ). eqb n 0) (sym (same-open A))))
+  same-opened : (link : Link) (terminal A : ℕ)
+      → SameRoom (state .blocks) slot (storeAfterCall state store (opening link slot terminal A)) (storeAfterCall other otherStore (opening link slot terminal A))
+  same-opened link terminal A =
+      same-written (opening link slot terminal A) (eqb number 0) _ _
+      (open-writes link state store slot terminal A (eqb number 0) refl)
+      (open-writes link other otherStore slot terminal A (eqb number 0) (ap (λ (n : ℕ). eqb n 0) (sym (same-open link A))))
       unheard-both
     where
       number : ℕ
-      number = openNumber state (length store) slot A
+      number = openingNumber link state (length store) slot A
 
       unheard-both : eqb number 0 ≡ true → SameRoom (state .blocks) slot (cleared (state .blocks) slot store) (cleared (other .blocks) slot otherStore)
       unheard-both e k l =
-          let long = room-lent state (length store) slot A (eqb-true number 0 e) in
+          let long = room-lent link state (length store) slot A (eqb-true number 0 e) in
           cleared-in (state .blocks) slot store long (roomStart (state .blocks) slot + k) (omega arith, omega arith)
           ∙ sym (cleared-in (state .blocks) slot otherStore (omega (arith, same .long)) (roomStart (state .blocks) slot + k) (omega arith, omega arith))
           ∙ ap (λ (M : ℕ). getD (cleared M slot otherStore) (roomStart (state .blocks) slot + k) 0) (same .blocks)
@@ -150,19 +157,19 @@ module _ (slot : ℕ) (state other : State) (store otherStore : List ℕ) (same 
       number : ℕ
       number = receiveNumber state (length store) slot terminal (x .Q) (x .N) (x .version) (x .bits)
 
-      put : ℕ → ℕ → List ℕ → List ℕ
-      put M A l = received M slot A (x .Q) (x .N) (x .version) (x .bits) l
+      put : ℕ → ℕ → ℕ → List ℕ → List ℕ
+      put soft M A l = received soft M slot A (x .Q) (x .N) (x .version) (x .bits) l
 
       put-both : eqb number 0 ≡ true
-          → SameRoom (state .blocks) slot (put (state .blocks) (sizeAtHead state slot) store) (put (other .blocks) (sizeAtHead other slot) otherStore)
+          → SameRoom (state .blocks) slot (put (shareAtHead state slot) (state .blocks) (sizeAtHead state slot) store) (put (shareAtHead other slot) (other .blocks) (sizeAtHead other slot) otherStore)
       put-both e =
           let z : number ≡ 0 = eqb-true number 0 e in
           let a = receives state (length store) slot terminal (x .Q) (x .N) (x .version) (x .bits) z in
           let size = open-size state (a .sound) slot (a .below) (a .opened) in
           let long = room-in (a .below) (a .long) in
-          subst (SameRoom (state .blocks) slot (put (state .blocks) (sizeAtHead state slot) store))
-          (ap₂ (λ (M A : ℕ). put M A otherStore) (same .blocks) same-size)
-          (same-received (state .blocks) slot (sizeAtHead state slot) (size .0) (size .1) store otherStore (same .room) (x .Q) (x .N) (x .version) (x .bits)
+          subst (SameRoom (state .blocks) slot (put (shareAtHead state slot) (state .blocks) (sizeAtHead state slot) store))
+          (ap₂ (λ (M A : ℕ). put (shareAtHead state slot) M A otherStore) (same .blocks) same-size ∙ ap (λ (soft : ℕ). put soft (other .blocks) (sizeAtHead other slot) otherStore) same-share)
+          (same-received (state .blocks) slot (sizeAtHead state slot) (size .0) (size .1) store otherStore (same .room) (shareAtHead state slot) (x .Q) (x .N) (x .version) (x .bits)
           (reception-fits state (length store) slot terminal x z .1) long (omega (arith, same .long)))
 
   same-heard : (terminal : ℕ) (x : Reception) → receiveNumber state (length store) slot terminal (x .Q) (x .N) (x .version) (x .bits) ≡ 0
@@ -177,8 +184,12 @@ module _ (slot : ℕ) (state other : State) (store otherStore : List ℕ) (same 
   -- ---- the promise: the answer, and what the outputs hold
 
   pub answer-depends : (call : Call) → slotOf call ≡ slot → answerTo state store call ≡ answerTo other otherStore call
-  unfolding answerTo outcomeOf slotOf storeAfterCall openOutcome receiveOutcome readOutcome streamsOutcome closeOutcome
-  answer-depends (opening s terminal A) e = rw e (same-given _ _ state other _ _ (same-open A) (λ z. refl))
+  unfolding answerTo outcomeOf slotOf storeAfterCall receiveOutcome readOutcome streamsOutcome closeOutcome
+  answer-depends (opening link s terminal A) e =
+      rw e
+      (ap (λ (o : Outcome). o .answer) (opening-outcome link state (length store) slot terminal A)
+      ∙ same-given _ _ state other _ _ (same-open link A) (λ z. refl)
+      ∙ sym (ap (λ (o : Outcome). o .answer) (opening-outcome link other (length otherStore) slot terminal A)))
   answer-depends (receiving s terminal x) e =
       rw e (same-given _ _ state other _ _ (same-receive terminal (x .Q) (x .N) (x .version) (x .bits)) (λ z. ap Heard (same-heard terminal x z)))
   answer-depends (reading s terminal size) e = rw e (same-given _ _ state other _ _ (same-read terminal size) (λ z. let a = reads state (length store) slot terminal size z in same-answerAt (a .sound) (a .below) (a .opened)))
@@ -226,7 +237,7 @@ module _ (slot : ℕ) (state other : State) (store otherStore : List ℕ) (same 
 
   pub room-depends : (call : Call) → slotOf call ≡ slot → SameRoom (state .blocks) slot (storeAfterCall state store call) (storeAfterCall other otherStore call)
   unfolding slotOf storeAfterCall
-  room-depends (opening s terminal A) e = rw e (same-opened terminal A)
+  room-depends (opening link s terminal A) e = rw e (same-opened link terminal A)
   room-depends (receiving s terminal x) e = rw e (same-put terminal x)
   room-depends (reading s terminal size) e = same .room
   room-depends (streaming s terminal block size) e = same .room
@@ -235,7 +246,7 @@ module _ (slot : ℕ) (state other : State) (store otherStore : List ℕ) (same 
   pub head-depends : length (state .heads) ≡ length (other .heads) → (call : Call) → slotOf call ≡ slot
       → headAt (headsAfterCall state (length store) call) slot ≡ headAt (headsAfterCall other (length otherStore) call) slot
   unfolding headsAfterCall slotOf
-  head-depends long (opening s terminal A) e = rw (e, ← same-open A) (go (eqb (openNumber state (length store) slot A) 0) (record { opened = true; terminal = terminal; size = A }))
+  head-depends long (opening link s terminal A) e = rw (e, ← same-open link A) (go (eqb (openingNumber link state (length store) slot A) 0) (openHead terminal A (shareIn link A)))
     where
       go : (b : Bool) (h : Head) → headAt (cond b (withHead state slot h) state) slot ≡ headAt (cond b (withHead other slot h) other) slot
       go true h = elim (decLt slot (length (state .heads))) [

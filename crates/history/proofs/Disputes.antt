@@ -1,7 +1,7 @@
 -- What a dispute does and what it does not, 02 E2: a released block has no contradicted data place, one contradicting bit withholds it until the slot
 -- is closed, and nothing else does but a place unheard or a wrong check. Any history, any receptions.
 -- Assumes nothing.
-use mathlib.Core.Path.{_≡_, refl, sym, _∙_, ap, ap₂, subst}
+use mathlib.Core.Path.{_≡_, refl, sym, _∙_, ap, ap₂, subst, subst₂}
 use mathlib.Core.Bool.{Bool, true, false, cond, _&&_, _||_, and-eq-true-iff, false≢true}
 use mathlib.Core.List.{List, [], _∷_, _++_}
 use Prim.Native.Nat.{ℕ, _+_}
@@ -16,7 +16,7 @@ use Rattle.slots.specs.State.{headAt}
 use Rattle.slots.specs.Room.{unheard, disputed}
 use Rattle.slots.specs.Answers.{Lacking, isDone}
 use Rattle.slots.specs.Reading.{keptAt, checkedAnswer, heardBlock}
-use Rattle.slots.specs.Calls.{sizeAtHead, receiveNumber, receiveOutcome, readNumber, readOutcome, released, readOutput}
+use Rattle.slots.specs.Calls.{sizeAtHead, shareAtHead, receiveNumber, receiveOutcome, readNumber, readOutcome, released, readOutput}
 use Rattle.slots.proofs.HeadLaws.{open-size}
 use Rattle.slots.proofs.Acceptance.{receives, reads}
 use Rattle.history.specs.Calls.{Reception, Call, opening, receiving, reading, streaming, closing, History}
@@ -105,27 +105,27 @@ among-first c (f ∷ fs) bs m = go (eqb f c) m (among-first c fs bs)
     go false n g = g n
 
 -- a call that neither opens nor closes the slot leaves what came for it
-came-on : (state : State) (room slot : ℕ) (call : Call) (earlier : List Reception) (A r j c : ℕ) → restarts state room slot call ≡ false
-    → among c (arrivals A earlier r j) ≡ true → among c (arrivals A (sinceCall state room slot call earlier) r j) ≡ true
+came-on : (state : State) (room slot : ℕ) (call : Call) (earlier : List Reception) (soft A r j c : ℕ) → restarts state room slot call ≡ false
+    → among c (arrivals soft A earlier r j) ≡ true → among c (arrivals soft A (sinceCall state room slot call earlier) r j) ≡ true
 unfolding sinceCall restarts arrivals
-came-on state room slot (opening s terminal B) earlier A r j c e m = rw e m
-came-on state room slot (receiving s terminal x) earlier A r j c e m =
+came-on state room slot (opening link s terminal B) earlier soft A r j c e m = rw e m
+came-on state room slot (receiving s terminal x) earlier soft A r j c e m =
     go (eqb s slot && eqb (receiveNumber state room s terminal (x .Q) (x .N) (x .version) (x .bits)) 0)
   where
-    go : (t : Bool) → among c (arrivals A (cond t (x ∷ earlier) earlier) r j) ≡ true
-    go true = among-first c (arrivals A earlier r j) _ m
+    go : (t : Bool) → among c (arrivals soft A (cond t (x ∷ earlier) earlier) r j) ≡ true
+    go true = among-first c (arrivals soft A earlier r j) _ m
     go false = m
-came-on state room slot (reading s terminal size) earlier A r j c e m = m
-came-on state room slot (streaming s terminal block size) earlier A r j c e m = m
-came-on state room slot (closing s terminal) earlier A r j c e m = rw e m
+came-on state room slot (reading s terminal size) earlier soft A r j c e m = m
+came-on state room slot (streaming s terminal block size) earlier soft A r j c e m = m
+came-on state room slot (closing s terminal) earlier soft A r j c e m = rw e m
 
-came-stays : (S M n slot : ℕ) (later h : History) (A r j c : ℕ) → Undisturbed S M n slot later h
-    → among c (arrivals A (since S M n slot h) r j) ≡ true → among c (arrivals A (since S M n slot (later ++ h)) r j) ≡ true
+came-stays : (S M n slot : ℕ) (later h : History) (soft A r j c : ℕ) → Undisturbed S M n slot later h
+    → among c (arrivals soft A (since S M n slot h) r j) ≡ true → among c (arrivals soft A (since S M n slot (later ++ h)) r j) ≡ true
 unfolding since
-came-stays S M n slot [] h A r j c u m = m
-came-stays S M n slot (k ∷ later) h A r j c u m =
-    came-on (headsAfter S M n (later ++ h)) (lentLength (headsAfter S M n (later ++ h)) n (k .past)) slot (k .call) (since S M n slot (later ++ h)) A r j c (u .0)
-    (came-stays S M n slot later h A r j c (u .1) m)
+came-stays S M n slot [] h soft A r j c u m = m
+came-stays S M n slot (k ∷ later) h soft A r j c u m =
+    came-on (headsAfter S M n (later ++ h)) (lentLength (headsAfter S M n (later ++ h)) n (k .past)) slot (k .call) (since S M n slot (later ++ h)) soft A r j c (u .0)
+    (came-stays S M n slot later h soft A r j c (u .1) m)
 
 -- ---- after any history
 
@@ -142,9 +142,12 @@ module _ (S M : ℕ) (store₀ : List ℕ) (h : History) (past : List ℕ) (slot
   abbrev A : ℕ
   A = sizeAtHead state slot
 
+  abbrev soft : ℕ
+  soft = shareAtHead state slot
+
   -- Receive answers how many data places are undecided, this reception among what was accepted
   pub reception-any : (x : Reception) → receiveNumber state (length store) slot terminal (x .Q) (x .N) (x .version) (x .bits) ≡ 0
-      → receiveOutcome state slot terminal (x .Q) (x .N) (x .version) (x .bits) store ≡ record { answer = Heard (undecided A (x ∷ accepted)); state = state }
+      → receiveOutcome state slot terminal (x .Q) (x .N) (x .version) (x .bits) store ≡ record { answer = Heard (undecided soft A (x ∷ accepted)); state = state }
   reception-any x came =
       let w = receives state (length store) slot terminal (x .Q) (x .N) (x .version) (x .bits) came in
       receive-any state store slot terminal accepted (given S M store₀ h past slot terminal)
@@ -154,57 +157,57 @@ module _ (S M : ℕ) (store₀ : List ℕ) (h : History) (past : List ℕ) (slot
     -- Read, where it comes to the room
     pub read-is : readNumber state (length store) slot terminal (length out) ≡ 0
         → readOutcome state store slot terminal (length out)
-        ≡ record { answer = cond (eqb (undecided A accepted) 0) (checkedAnswer (state .blocks) slot A store) (Lacking (undecided A accepted)); state = state }
+        ≡ record { answer = cond (eqb (undecided soft A accepted) 0) (checkedAnswer (state .blocks) slot A store) (Lacking (undecided soft A accepted)); state = state }
     read-is came =
         let w = reads state (length store) slot terminal (length out) came in
         read-any state store slot terminal accepted (given S M store₀ h past slot terminal)
         (kept S M store₀ h past slot terminal (w .sound) (w .long) (w .below) (w .opened)) (length out) came
 
     -- some data place is undecided: 11 with their number, and the output stays
-    pub undecided-withheld : readNumber state (length store) slot terminal (length out) ≡ 0 → (undecided A accepted ≡ 0 → ⊥)
-        → Withheld state store slot terminal out (undecided A accepted)
+    pub undecided-withheld : readNumber state (length store) slot terminal (length out) ≡ 0 → (undecided soft A accepted ≡ 0 → ⊥)
+        → Withheld state store slot terminal out (undecided soft A accepted)
     unfolding readOutput released isDone
     undecided-withheld came some =
-        let is : readOutcome state store slot terminal (length out) ≡ record { answer = Lacking (undecided A accepted); state = state } =
-        rw (ne-eqb (undecided A accepted) 0 some) at (read-is came) in (
+        let is : readOutcome state store slot terminal (length out) ≡ record { answer = Lacking (undecided soft A accepted); state = state } =
+        rw (ne-eqb (undecided soft A accepted) 0 some) at (read-is came) in (
           is,
           ap (λ (o : Outcome). cond (isDone (o .answer)) (heardBlock (state .blocks) slot A store ++ drop A out) out) is,
         )
 
     -- none is: what the checks say, and where they are right the block
-    pub decided-checked : readNumber state (length store) slot terminal (length out) ≡ 0 → AllDecided A accepted
+    pub decided-checked : readNumber state (length store) slot terminal (length out) ≡ 0 → AllDecided soft A accepted
         → (readOutcome state store slot terminal (length out) ≡ record { answer = checkedAnswer (state .blocks) slot A store; state = state })
         × (readOutput state store slot terminal out
         ≡ cond (isDone (checkedAnswer (state .blocks) slot A store)) (heardBlock (state .blocks) slot A store ++ drop A out) out)
     unfolding readOutput released
     decided-checked came all =
         let is : readOutcome state store slot terminal (length out) ≡ record { answer = checkedAnswer (state .blocks) slot A store; state = state } =
-        rw (undecided-none A accepted all) at (read-is came) in (
+        rw (undecided-none soft A accepted all) at (read-is came) in (
           is,
           ap (λ (o : Outcome). cond (isDone (o .answer)) (heardBlock (state .blocks) slot A store ++ drop A out) out) is,
         )
 
     -- a data place undecided: no read whatever gives the block or writes a byte
-    pub one-withholds : (r i : ℕ) → DataPlace A r i → decidedData A accepted r i ≡ false
+    pub one-withholds : (r i : ℕ) → DataPlace A r i → decidedData soft A accepted r i ≡ false
         → (readOutcome state store slot terminal (length out) .answer ≡ Done → ⊥) × (readOutput state store slot terminal out ≡ out)
     one-withholds r i place e = go (eqb (readNumber state (length store) slot terminal (length out)) 0) refl
       where
         go : (b : Bool) → eqb (readNumber state (length store) slot terminal (length out)) 0 ≡ b
             → (readOutcome state store slot terminal (length out) .answer ≡ Done → ⊥) × (readOutput state store slot terminal out ≡ out)
         go true t =
-            let got = undecided-withheld (eqb-true _ 0 t) (undecided-some A accepted r i place e) in
-            (λ d. not-done (undecided A accepted) (sym (ap (λ (o : Outcome). o .answer) (got .0)) ∙ d), got .1)
+            let got = undecided-withheld (eqb-true _ 0 t) (undecided-some soft A accepted r i place e) in
+            (λ d. not-done (undecided soft A accepted) (sym (ap (λ (o : Outcome). o .answer) (got .0)) ∙ d), got .1)
         go false t = (refused-answer state store slot terminal out t, refused-output state store slot terminal out t)
 
     -- a block is given: at each data place the room has a bit that came since the opening, and none came that differs
     pub given-agreed : readOutcome state store slot terminal (length out) .answer ≡ Done → (r i : ℕ) → DataPlace A r i
-        → let bits : List ℕ = arrivalsAt A accepted r i in
+        → let bits : List ℕ = arrivalsAt soft A accepted r i in
         let bit : ℕ = keptAt (state .blocks) slot (A + 24) store r 0 i in
         (among bit bits ≡ true) × ((c : ℕ) → among c bits ≡ true → c ≡ bit)
     given-agreed done r i place = go (eqb (readNumber state (length store) slot terminal (length out)) 0) refl
       where
         bits : List ℕ
-        bits = arrivalsAt A accepted r i
+        bits = arrivalsAt soft A accepted r i
 
         bit : ℕ
         bit = keptAt (state .blocks) slot (A + 24) store r 0 i
@@ -217,7 +220,7 @@ module _ (S M : ℕ) (store₀ : List ℕ) (h : History) (past : List ℕ) (slot
         go true t =
             let w = reads state (length store) slot terminal (length out) (eqb-true _ 0 t) in
             let is : bit ≡ holding bits =
-            kept-holding A (open-size state (w .sound) slot (w .below) (w .opened) .0) accepted (given S M store₀ h past slot terminal) (state .blocks) slot store
+            kept-holding soft A (open-size state (w .sound) slot (w .below) (w .opened) .0) accepted (given S M store₀ h past slot terminal) (state .blocks) slot store
             (kept S M store₀ h past slot terminal (w .sound) (w .long) (w .below) (w .opened)) r i (place .block) (place .below-size) in
             rw is (decided-holds bits (is-decided (decided bits) refl))
         go false t = absurd (refused-answer state store slot terminal out t done)
@@ -227,23 +230,30 @@ module _ (S M : ℕ) (store₀ : List ℕ) (h : History) (past : List ℕ) (slot
 -- two different bits were accepted for a data place; any later calls that neither close the slot nor open it anew
 pub disputed-stays : (S M : ℕ) (store₀ : List ℕ) (h : History) (slot r i b c : ℕ)
     → (let A : ℕ = sizeAtHead (stateAfter S M store₀ h) slot in
-    let bits : List ℕ = arrivalsAt A (acceptedAfter S M store₀ h slot) r i in
+    let soft : ℕ = shareAtHead (stateAfter S M store₀ h) slot in
+    let bits : List ℕ = arrivalsAt soft A (acceptedAfter S M store₀ h slot) r i in
     DataPlace A r i × (among b bits ≡ true) × (among c bits ≡ true) × (b ≡ c → ⊥))
     → (later : History) → Undisturbed S M (roomsLong S M store₀) slot later h
     → (past : List ℕ) (terminal : ℕ) (out : List ℕ)
     → (readOutcome (stateAfter S M store₀ (later ++ h)) (storeAfter S M store₀ (later ++ h) past) slot terminal (length out) .answer ≡ Done → ⊥)
     × (readOutput (stateAfter S M store₀ (later ++ h)) (storeAfter S M store₀ (later ++ h) past) slot terminal out ≡ out)
-unfolding sizeAtHead
+unfolding sizeAtHead shareAtHead
 disputed-stays S M store₀ h slot r i b c (place, one, other, differ) later u past terminal out =
     one-withholds S M store₀ (later ++ h) past slot terminal out r i (subst (λ (A : ℕ). DataPlace A r i) (sym same) place)
-    (subst (λ (A : ℕ). decidedData A (acceptedAfter S M store₀ (later ++ h) slot) r i ≡ false) (sym same)
+    (subst₂ (λ (soft A : ℕ). decidedData soft A (acceptedAfter S M store₀ (later ++ h) slot) r i ≡ false) (sym same-share) (sym same)
     (contradicted _ b c
-    (came-stays S M (roomsLong S M store₀) slot later h _ r _ b u one)
-    (came-stays S M (roomsLong S M store₀) slot later h _ r _ c u other)
+    (came-stays S M (roomsLong S M store₀) slot later h _ _ r _ b u one)
+    (came-stays S M (roomsLong S M store₀) slot later h _ _ r _ c u other)
     differ))
   where
+    same-head : headAt (stateAfter S M store₀ (later ++ h)) slot ≡ headAt (stateAfter S M store₀ h) slot
+    same-head =
+        ap (λ (t : State). headAt t slot) (heads S M store₀ (later ++ h))
+        ∙ keeps-heads S M (roomsLong S M store₀) slot later h u
+        ∙ ap (λ (t : State). headAt t slot) (sym (heads S M store₀ h))
+
     same : headAt (stateAfter S M store₀ (later ++ h)) slot .size ≡ headAt (stateAfter S M store₀ h) slot .size
-    same =
-        ap (λ (t : State). headAt t slot .size) (heads S M store₀ (later ++ h))
-        ∙ ap (λ (k : Head). k .size) (keeps-heads S M (roomsLong S M store₀) slot later h u)
-        ∙ ap (λ (t : State). headAt t slot .size) (sym (heads S M store₀ h))
+    same = ap (λ (k : Head). k .size) same-head
+
+    same-share : headAt (stateAfter S M store₀ (later ++ h)) slot .share ≡ headAt (stateAfter S M store₀ h) slot .share
+    same-share = ap (λ (k : Head). k .share) same-head

@@ -12,17 +12,18 @@ use Rattle.slots.specs.declared.Answer.the-variants.{Done, Refused}
 use Rattle.slots.specs.declared.Head.{Head}
 use Rattle.slots.specs.declared.Outcome.{Outcome}
 use Rattle.slots.specs.declared.State.{State}
-use Rattle.slots.specs.State.{closedHead, newState, broken, badShape, badState}
+use Rattle.slots.specs.State.{closedHead, openHead, newState, broken, badShape, badState}
 use Rattle.slots.specs.Answers.{numberOf, Lacking, WrongBlock, unlessRefused}
 use Rattle.slots.specs.Reading.{lacking, firstWrong, someWrong, wrongCheck, heardAnswer}
-use Rattle.slots.specs.Calls.{withHead, storeRules, ownerRules, sizeAtHead, newOutcome, openNumber, openOutcome, receiveNumber, receiveOutcome, readNumber, readOutcome, streamsNumber, streamsOutcome, closeNumber, closeOutcome}
-use Rattle.slots.proofs.Accepted.{openable}
+use Rattle.slots.specs.Calls.{withHead, storeRules, ownerRules, sizeAtHead, newOutcome, openRules, openNumber, openOutcome, openDownNumber, openDownOutcome, receiveNumber, receiveOutcome, readNumber, readOutcome, streamsNumber, streamsOutcome, closeNumber, closeOutcome}
 use Rattle.slots.proofs.Heads.{closed-unbroken}
 use Rattle.slots.proofs.HeadLaws.{fitting-unbroken, good-with, good-new}
+use Rattle.history.specs.Links.{uplink, downlink, shareIn, openingNumber, openingOutcome}
 use Rattle.history.specs.Calls.{Call, opening, receiving, reading, streaming, closing, History}
 use Rattle.history.specs.Run.{lent, outcomeOf, begin, run}
 use Rattle.history.specs.Accepted.{lentLength, headsAfterCall, headsAfter}
 use Rattle.history.specs.Answered.{answerTo}
+use Rattle.history.proofs.Links.{opening-fits, opening-enough}
 use Rattle.history.proofs.State.{heads}
 
 -- ---- from an accepted New
@@ -46,14 +47,14 @@ module _ {S M : ℕ} {state : State} (g : Good S M state) where
 
   pub good-call : (room : ℕ) (call : Call) → Good S M (headsAfterCall state room call)
   unfolding headsAfterCall
-  good-call room (opening slot terminal A) = go (eqb (openNumber state room slot A) 0) refl
+  good-call room (opening link slot terminal A) = go (eqb (openingNumber link state room slot A) 0) refl
     where
       new : Head
-      new = record { opened = true; terminal = terminal; size = A }
+      new = openHead terminal A (shareIn link A)
 
-      go : (b : Bool) → eqb (openNumber state room slot A) 0 ≡ b → Good S M (cond b (withHead state slot new) state)
+      go : (b : Bool) → eqb (openingNumber link state room slot A) 0 ≡ b → Good S M (cond b (withHead state slot new) state)
       go true e =
-          good-head-set slot new (fitting-unbroken terminal (openable state room slot A refl (eqb-true _ _ e) .size-fits))
+          good-head-set slot new (fitting-unbroken terminal (shareIn link A) (opening-fits state room slot A link (eqb-true _ _ e) .size-fits) (opening-enough state room slot A link (eqb-true _ _ e)))
       go false e = g
   good-call room (receiving slot terminal r) = g
   good-call room (reading slot terminal size) = g
@@ -119,8 +120,9 @@ module _ (state : State) (sound : badState state ≡ false) where
       go false = f
 
   answer-not-13 : (store : List ℕ) (call : Call) → numberOf (answerTo state store call) ≡ 13 → ⊥
-  unfolding answerTo outcomeOf openOutcome openNumber receiveOutcome receiveNumber readOutcome readNumber streamsOutcome streamsNumber closeOutcome closeNumber storeRules ownerRules numberOf heardAnswer
-  answer-not-13 store (opening slot terminal A) = not-13 _ _ (behind _ tt) (eqb-false 0 13 refl)
+  unfolding answerTo outcomeOf openingOutcome openOutcome openNumber openDownOutcome openDownNumber openRules receiveOutcome receiveNumber readOutcome readNumber streamsOutcome streamsNumber closeOutcome closeNumber storeRules ownerRules numberOf heardAnswer
+  answer-not-13 store (opening uplink slot terminal A) = not-13 _ _ (behind _ tt) (eqb-false 0 13 refl)
+  answer-not-13 store (opening (downlink release kMIMO processes Nsoft layers) slot terminal A) = not-13 _ _ (behind _ tt) (eqb-false 0 13 refl)
   answer-not-13 store (receiving slot terminal r) = not-13 _ _ (behind _ tt) (eqb-false 0 13 refl)
   answer-not-13 store (reading slot terminal size) = not-13 _ _ (behind _ tt) (read (eqb (lacking M slot A store) 0) (someWrong M slot A store) (wrongCheck M slot A store))
     where
@@ -147,16 +149,18 @@ never-13 S M store h accepted past call =
 -- ---- from a refused New
 
 empty-stays : (room : ℕ) (call : Call) → headsAfterCall (newState 0 0) room call ≡ newState 0 0
-unfolding headsAfterCall openNumber closeNumber storeRules firstOf badState badShape newState
-empty-stays room (opening slot terminal A) = refl
+unfolding headsAfterCall openingNumber openNumber openDownNumber openRules closeNumber storeRules firstOf badState badShape newState
+empty-stays room (opening uplink slot terminal A) = refl
+empty-stays room (opening (downlink release kMIMO processes Nsoft layers) slot terminal A) = refl
 empty-stays room (receiving slot terminal r) = refl
 empty-stays room (reading slot terminal size) = refl
 empty-stays room (streaming slot terminal block size) = refl
 empty-stays room (closing slot terminal) = refl
 
 empty-answers : (store : List ℕ) (call : Call) → numberOf (answerTo (newState 0 0) store call) ≡ 13
-unfolding answerTo outcomeOf openOutcome openNumber receiveOutcome receiveNumber readOutcome readNumber streamsOutcome streamsNumber closeOutcome closeNumber storeRules unlessRefused firstOf badState badShape newState numberOf
-empty-answers store (opening slot terminal A) = refl
+unfolding answerTo outcomeOf openingOutcome openOutcome openNumber openDownOutcome openDownNumber openRules receiveOutcome receiveNumber readOutcome readNumber streamsOutcome streamsNumber closeOutcome closeNumber storeRules unlessRefused firstOf badState badShape newState numberOf
+empty-answers store (opening uplink slot terminal A) = refl
+empty-answers store (opening (downlink release kMIMO processes Nsoft layers) slot terminal A) = refl
 empty-answers store (receiving slot terminal r) = refl
 empty-answers store (reading slot terminal size) = refl
 empty-answers store (streaming slot terminal block size) = refl

@@ -13,19 +13,20 @@ use borrow.Author.Tests.{eqb-true, eq-eqb, ne-eqb}
 use Rattle.segmentation.specs.Segmentation.{blocks}
 use Rattle.slots.specs.declared.Head.{Head}
 use Rattle.slots.specs.declared.State.{State}
-use Rattle.slots.specs.State.{perBlock, storeLength, closedHead, headAt, badShape}
+use Rattle.slots.specs.State.{perBlock, storeLength, closedHead, openHead, headAt, badShape}
 use Rattle.slots.specs.Room.{unheard, byteOf}
 use Rattle.slots.specs.Reception.{received}
-use Rattle.slots.specs.Calls.{withHead, sizeAtHead, openNumber, receiveNumber, closeNumber}
+use Rattle.slots.specs.Calls.{withHead, sizeAtHead, shareAtHead, receiveNumber, closeNumber}
 use Rattle.slots.proofs.RoomLaws.{AllPlaces, room-within, rooms-apart, byte-in-room, cleared-in, received-past}
 use Rattle.slots.proofs.HeadLaws.{open-size, closed-head, new-head}
-use Rattle.slots.proofs.Accepted.{openable}
 use Rattle.slots.proofs.Acceptance.{receives}
+use Rattle.history.specs.Links.{Link, shareIn, openingNumber}
 use Rattle.history.specs.Calls.{Reception, Call, opening, receiving, reading, streaming, closing, Made, History}
 use Rattle.history.specs.Run.{World, lent, storeAfterCall, step, begin, run}
 use Rattle.history.specs.Accepted.{lentLength, headsAfterCall, headsAfter, sinceCall, since, arrivals}
 use Rattle.history.specs.Answered.{slotOf}
 use Rattle.history.specs.Holds.{Holds}
+use Rattle.history.proofs.Links.{opening-fits}
 use Rattle.history.proofs.State.{open-writes, receive-writes, room-lent, rooms-lent, length-lent, rooms-long, heads}
 use Rattle.history.proofs.Heads.{Good, good-call, new-is, run-good, refused-state}
 use Rattle.history.proofs.Arrived.{met, met-append, met-is, arrived-bits, since-bits}
@@ -33,14 +34,14 @@ use Rattle.history.proofs.Received.{brought, received-here}
 use Rattle.history.proofs.Others.{head-stays, reception-fits, lent-at, rooms-whole, same-rooms, step-at, rooms-stay}
 
 -- the bits accepted for each place have met there, one after the other
-pub record Keeps (M slot A : ℕ) (xs : List Reception) (rooms : List ℕ) : Type 0 where
-  pub place : (r j : ℕ) → r < blocks (A + 24) → j < perBlock → getD rooms (byteOf M slot r j) 0 ≡ met unheard (arrivals A xs r j)
+pub record Keeps (soft M slot A : ℕ) (xs : List Reception) (rooms : List ℕ) : Type 0 where
+  pub place : (r j : ℕ) → r < blocks (A + 24) → j < perBlock → getD rooms (byteOf M slot r j) 0 ≡ met unheard (arrivals soft A xs r j)
   pub rest : (r j : ℕ) → blocks (A + 24) ≤ r → r < M → j < perBlock → getD rooms (byteOf M slot r j) 0 ≡ unheard
 
 -- the same bytes in the room
-holds-on : {M slot A : ℕ} {xs : List Reception} {rooms after : List ℕ} → blocks (A + 24) ≤ M
+holds-on : {soft M slot A : ℕ} {xs : List Reception} {rooms after : List ℕ} → blocks (A + 24) ≤ M
     → ((r j : ℕ) → r < M → j < perBlock → getD after (byteOf M slot r j) 0 ≡ getD rooms (byteOf M slot r j) 0)
-    → Keeps M slot A xs rooms → Keeps M slot A xs after
+    → Keeps soft M slot A xs rooms → Keeps soft M slot A xs after
 holds-on fits same h = record {
   place = λ r j l k. same r j (omega arith) k ∙ h .place r j l k;
   rest = λ r j l g k. same r j g k ∙ h .rest r j l g k;
@@ -50,7 +51,7 @@ holds-on fits same h = record {
 since-other : (state : State) (room slot : ℕ) (call : Call) (earlier : List Reception) → (slot ≡ slotOf call → ⊥)
     → sinceCall state room slot call earlier ≡ earlier
 unfolding sinceCall slotOf
-since-other state room slot (opening s terminal A) earlier n = rw (ne-eqb s slot (λ e. n (sym e)))
+since-other state room slot (opening link s terminal A) earlier n = rw (ne-eqb s slot (λ e. n (sym e)))
 since-other state room slot (receiving s terminal r) earlier n = rw (ne-eqb s slot (λ e. n (sym e)))
 since-other state room slot (reading s terminal size) earlier n = refl
 since-other state room slot (streaming s terminal block size) earlier n = refl
@@ -58,7 +59,7 @@ since-other state room slot (closing s terminal) earlier n = rw (ne-eqb s slot (
 
 -- what is to be shown of a slot with a head, after receptions, of the rooms
 abbrev Kept : ℕ → ℕ → Head → List Reception → List ℕ → Type 0
-Kept M slot h xs rooms = h .opened ≡ true → Keeps M slot (h .size) xs rooms
+Kept M slot h xs rooms = h .opened ≡ true → Keeps (h .share) M slot (h .size) xs rooms
 
 -- ---- one call
 
@@ -116,19 +117,19 @@ module _ (w : World) (past : List ℕ) where
       same-store call e =
           subst (Kept M slot (headAt state slot) xs) (sym (same-rooms w (record { call = call; past = past }) e)) kept
 
-      opening-here : (terminal A : ℕ) → KeptAfter slot xs (opening slot terminal A)
+      opening-here : (link : Link) (terminal A : ℕ) → KeptAfter slot xs (opening link slot terminal A)
       unfolding headsAfterCall sinceCall arrivals met
-      opening-here terminal A =
+      opening-here link terminal A =
           rw (eq-eqb slot slot refl) (go (eqb number 0) refl (good-call g (length store) call))
         where
           call : Call
-          call = opening slot terminal A
+          call = opening link slot terminal A
 
           number : ℕ
-          number = openNumber state (length store) slot A
+          number = openingNumber link state (length store) slot A
 
           after : Bool → State
-          after b = cond b (withHead state slot (record { opened = true; terminal = terminal; size = A })) state
+          after b = cond b (withHead state slot (openHead terminal A (shareIn link A))) state
 
           go : (b : Bool) → eqb number 0 ≡ b → Good (state .slots) M (after b)
               → Kept M slot (headAt (after b) slot) (cond (true && b) [] xs) (rooms call)
@@ -140,13 +141,13 @@ module _ (w : World) (past : List ℕ) where
               bytes : (r j : ℕ) → r < M → j < perBlock → getD (rooms call) (byteOf M slot r j) 0 ≡ unheard
               bytes r j h k =
                   let accepted : number ≡ 0 = eqb-true number 0 e in
-                  step-at w (record { call = call; past = past }) (byteOf M slot r j) (within slot r j below h k (openable state (length store) slot A refl accepted .slot-stored .enough))
-                  ∙ ap (λ (l : List ℕ). getD l (byteOf M slot r j) 0) (open-writes state store slot terminal A true e)
-                  ∙ cleared-in M slot store (room-lent state (length store) slot A accepted) (byteOf M slot r j) (byte-in-room M slot r j h k)
-          go false e good = same-store call (open-writes state store slot terminal A false e)
+                  step-at w (record { call = call; past = past }) (byteOf M slot r j) (within slot r j below h k (opening-fits state (length store) slot A link accepted .slot-stored .enough))
+                  ∙ ap (λ (l : List ℕ). getD l (byteOf M slot r j) 0) (open-writes link state store slot terminal A true e)
+                  ∙ cleared-in M slot store (room-lent link state (length store) slot A accepted) (byteOf M slot r j) (byte-in-room M slot r j h k)
+          go false e good = same-store call (open-writes link state store slot terminal A false e)
 
       receiving-here : (terminal : ℕ) (x : Reception) → KeptAfter slot xs (receiving slot terminal x)
-      unfolding headsAfterCall sinceCall arrivals sizeAtHead
+      unfolding headsAfterCall sinceCall arrivals sizeAtHead shareAtHead
       receiving-here terminal x = rw (eq-eqb slot slot refl) (go (eqb number 0) refl)
         where
           call : Call
@@ -160,12 +161,12 @@ module _ (w : World) (past : List ℕ) where
             place = λ r j l k.
                 let h : r < M = omega (arith, fits .0) in
                 bytes r j h k
-                ∙ received-here M slot A (x .Q) (x .N) (x .version) (x .bits) store (fits .1) r j l k (there r j h k)
-                ∙ ap (brought (A + 24) (x .Q) (x .N) (x .version) (x .bits) r j) (before r j h k ∙ kept o .place r j l k)
-                ∙ sym (met-append unheard (arrivals A xs r j) _);
+                ∙ received-here soft M slot A (x .Q) (x .N) (x .version) (x .bits) store (fits .1) r j l k (there r j h k)
+                ∙ ap (brought soft (A + 24) (x .Q) (x .N) (x .version) (x .bits) r j) (before r j h k ∙ kept o .place r j l k)
+                ∙ sym (met-append unheard (arrivals soft A xs r j) _);
             rest = λ r j l h k.
                 bytes r j h k
-                ∙ received-past M slot A (x .Q) (x .N) (x .version) (x .bits) store (fits .0) (fits .1) r j l k
+                ∙ received-past soft M slot A (x .Q) (x .N) (x .version) (x .bits) store (fits .0) (fits .1) r j l k
                 ∙ before r j h k
                 ∙ kept o .rest r j l h k;
           }
@@ -173,13 +174,16 @@ module _ (w : World) (past : List ℕ) where
               A : ℕ
               A = headAt state slot .size
 
+              soft : ℕ
+              soft = headAt state slot .share
+
               m : Made
               m = record { call = call; past = past }
 
               accepted : number ≡ 0
               accepted = eqb-true number 0 e
 
-              fits : (blocks (A + 24) ≤ M) × AllPlaces (A + 24) (x .Q) (x .N) (x .version) (length (x .bits))
+              fits : (blocks (A + 24) ≤ M) × AllPlaces soft (A + 24) (x .Q) (x .N) (x .version) (length (x .bits))
               fits = reception-fits state (length store) slot terminal x accepted
 
               here : (r j : ℕ) → r < M → j < perBlock → byteOf M slot r j < length (w .rooms)
@@ -189,7 +193,7 @@ module _ (w : World) (past : List ℕ) where
               there r j h k = omega (arith, here r j h k, rooms-lent w past)
 
               bytes : (r j : ℕ) → r < M → j < perBlock
-                  → getD (rooms call) (byteOf M slot r j) 0 ≡ getD (received M slot A (x .Q) (x .N) (x .version) (x .bits) store) (byteOf M slot r j) 0
+                  → getD (rooms call) (byteOf M slot r j) 0 ≡ getD (received soft M slot A (x .Q) (x .N) (x .version) (x .bits) store) (byteOf M slot r j) 0
               bytes r j h k =
                   step-at w m (byteOf M slot r j) (here r j h k)
                   ∙ ap (λ (l : List ℕ). getD l (byteOf M slot r j) 0) (receive-writes state store slot terminal x true e)
@@ -208,7 +212,7 @@ module _ (w : World) (past : List ℕ) where
 
       on-this : (call : Call) → slot ≡ slotOf call → KeptAfter slot xs call
       unfolding headsAfterCall sinceCall storeAfterCall slotOf
-      on-this (opening s terminal A) e = rw (← e) (opening-here terminal A)
+      on-this (opening link s terminal A) e = rw (← e) (opening-here link terminal A)
       on-this (receiving s terminal x) e = rw (← e) (receiving-here terminal x)
       on-this (reading s terminal size) e = same-store (reading s terminal size) refl
       on-this (streaming s terminal block size) e = same-store (streaming s terminal block size) refl
@@ -249,7 +253,7 @@ module _ (S M : ℕ) (store₀ : List ℕ) (slot : ℕ) where
       absurd (false≢true (sym (ap (λ (t : State). headAt t slot .opened) (refused-state S M refused long h) ∙ ap (λ (k : Head). k .opened) (new-head 0 0 slot)) ∙ o))
 
   pub keeps : slot < S → (h : History) → headAt (headsAfter S M long h) slot .opened ≡ true
-      → Keeps M slot (headAt (headsAfter S M long h) slot .size) (since S M long slot h) (run S M store₀ h .rooms)
+      → Keeps (headAt (headsAfter S M long h) slot .share) M slot (headAt (headsAfter S M long h) slot .size) (since S M long slot h) (run S M store₀ h .rooms)
   keeps below h = go (badShape S M) refl
     where
       go : (b : Bool) → badShape S M ≡ b → Kept M slot (headAt (headsAfter S M long h) slot) (since S M long slot h) (run S M store₀ h .rooms)
@@ -258,12 +262,13 @@ module _ (S M : ℕ) (store₀ : List ℕ) (slot : ℕ) where
 
   -- THE promise on receptions: any S, M, store, history and slot
   pub holds : slot < S → (h : History) → headAt (headsAfter S M long h) slot .opened ≡ true
-      → Holds M slot (headAt (headsAfter S M long h) slot .size) (since S M long slot h) (run S M store₀ h .rooms)
+      → Holds (headAt (headsAfter S M long h) slot .share) M slot (headAt (headsAfter S M long h) slot .size) (since S M long slot h) (run S M store₀ h .rooms)
   holds below h is-open =
       let kept = keeps below h is-open in
+      let soft = headAt (headsAfter S M long h) slot .share in
       let size = headAt (headsAfter S M long h) slot .size in
       let xs = since S M long slot h in
       record {
-        place = λ r j l k. kept .place r j l k ∙ met-is (arrivals size xs r j) (arrived-bits size xs r j (since-bits S M long slot h));
+        place = λ r j l k. kept .place r j l k ∙ met-is (arrivals soft size xs r j) (arrived-bits soft size xs r j (since-bits S M long slot h));
         rest = kept .rest;
       }

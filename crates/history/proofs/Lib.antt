@@ -1,3 +1,4 @@
+pub mod Links
 pub mod State
 pub mod Heads
 pub mod Arrived
@@ -19,6 +20,8 @@ pub mod Opening
 pub mod June
 pub mod Disputes
 pub mod Parity
+pub mod Uplink
 pub mod Repeats
+pub mod Alone
 pub mod RepeatsCounted
 pub mod Promises

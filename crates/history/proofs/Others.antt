@@ -13,18 +13,21 @@ use borrow.Author.Tests.{eqb-true, ltb-false}
 use Rattle.segmentation.specs.Segmentation.{blocks}
 use Rattle.slots.specs.declared.Head.{Head}
 use Rattle.slots.specs.declared.State.{State}
-use Rattle.slots.specs.State.{storeLength, roomStart, closedHead, headAt}
+use Rattle.slots.specs.State.{storeLength, roomStart, closedHead, openHead, headAt}
 use Rattle.slots.specs.Room.{cleared}
 use Rattle.slots.specs.Reception.{received}
-use Rattle.slots.specs.Calls.{withHead, sizeAtHead, openNumber, openStore, receiveNumber, receiveStore, closeNumber}
+use Rattle.slots.specs.Calls.{withHead, sizeAtHead, shareAtHead, receiveNumber, receiveStore, closeNumber}
 use Rattle.slots.proofs.RoomLaws.{InRoom, AllPlaces, rooms-apart, cleared-out, received-out}
+use Rattle.slots.proofs.Accepted.{good}
 use Rattle.slots.proofs.HeadLaws.{open-size, other-head}
 use Rattle.slots.proofs.PlaceBounds.{sent-below}
 use Rattle.slots.proofs.Acceptance.{receives}
+use Rattle.history.specs.Links.{shareIn, openingNumber}
 use Rattle.history.specs.Calls.{Reception, Call, opening, receiving, reading, streaming, closing, Made}
 use Rattle.history.specs.Run.{World, lent, storeAfterCall, step}
 use Rattle.history.specs.Accepted.{headsAfterCall}
 use Rattle.history.specs.Answered.{slotOf, SameRoom}
+use Rattle.history.proofs.Links.{opening-store}
 use Rattle.history.proofs.State.{room-lent, state-after, length-step}
 
 -- ---- the head
@@ -33,7 +36,7 @@ module _ (state : State) (room slot : ℕ) where
   -- of the state that the calls alone say
   pub head-stays : (call : Call) → (slot ≡ slotOf call → ⊥) → headAt (headsAfterCall state room call) slot ≡ headAt state slot
   unfolding headsAfterCall slotOf
-  head-stays (opening s terminal A) n = go (eqb (openNumber state room s A) 0) (record { opened = true; terminal = terminal; size = A })
+  head-stays (opening link s terminal A) n = go (eqb (openingNumber link state room s A) 0) (openHead terminal A (shareIn link A))
     where
       go : (b : Bool) (h : Head) → headAt (cond b (withHead state s h) state) slot ≡ headAt state slot
       go true h = other-head state s h slot n
@@ -51,20 +54,21 @@ module _ (state : State) (room slot : ℕ) where
 
 -- an accepted reception sends places of code blocks, all of which find room
 pub reception-fits : (state : State) (room slot terminal : ℕ) (r : Reception) → receiveNumber state room slot terminal (r .Q) (r .N) (r .version) (r .bits) ≡ 0
-    → (blocks (sizeAtHead state slot + 24) ≤ state .blocks) × AllPlaces (sizeAtHead state slot + 24) (r .Q) (r .N) (r .version) (length (r .bits))
+    → (blocks (sizeAtHead state slot + 24) ≤ state .blocks) × AllPlaces (shareAtHead state slot) (sizeAtHead state slot + 24) (r .Q) (r .N) (r .version) (length (r .bits))
 reception-fits state room slot terminal r e =
     let a = receives state room slot terminal (r .Q) (r .N) (r .version) (r .bits) e in
     let o = open-size state (a .sound) slot (a .below) (a .opened) in
-    (o .1, λ q. sent-below (sizeAtHead state slot) (o .0) (r .Q) (r .N) (r .version) (length (r .bits)) q (a .version))
+    (o .1, λ q. sent-below (sizeAtHead state slot) (o .0) (good state (a .sound) .wide slot (a .below) (a .opened)) (r .Q) (r .N) (r .version) (length (r .bits)) q (a .version))
 
 -- a call changes no byte outside the room of the slot that it names
 pub bytes-stay : (state : State) (store : List ℕ) (call : Call) (at : ℕ) → (InRoom (state .blocks) (slotOf call) at → ⊥)
     → getD (storeAfterCall state store call) at 0 ≡ getD store at 0
-unfolding storeAfterCall slotOf openStore receiveStore
-bytes-stay state store (opening slot terminal A) at n = go (eqb (openNumber state (length store) slot A) 0) refl
+unfolding storeAfterCall slotOf receiveStore
+bytes-stay state store (opening link slot terminal A) at n =
+    ap (λ (l : List ℕ). getD l at 0) (opening-store link state slot A store) ∙ go (eqb (openingNumber link state (length store) slot A) 0) refl
   where
-    go : (b : Bool) → eqb (openNumber state (length store) slot A) 0 ≡ b → getD (cond b (cleared (state .blocks) slot store) store) at 0 ≡ getD store at 0
-    go true e = cleared-out (state .blocks) slot store (room-lent state (length store) slot A (eqb-true _ _ e)) at n
+    go : (b : Bool) → eqb (openingNumber link state (length store) slot A) 0 ≡ b → getD (cond b (cleared (state .blocks) slot store) store) at 0 ≡ getD store at 0
+    go true e = cleared-out (state .blocks) slot store (room-lent link state (length store) slot A (eqb-true _ _ e)) at n
     go false e = refl
 bytes-stay state store (receiving slot terminal r) at n = go (eqb number 0) refl
   where
@@ -72,10 +76,10 @@ bytes-stay state store (receiving slot terminal r) at n = go (eqb number 0) refl
     number = receiveNumber state (length store) slot terminal (r .Q) (r .N) (r .version) (r .bits)
 
     go : (b : Bool) → eqb number 0 ≡ b
-        → getD (cond b (received (state .blocks) slot (sizeAtHead state slot) (r .Q) (r .N) (r .version) (r .bits) store) store) at 0 ≡ getD store at 0
+        → getD (cond b (received (shareAtHead state slot) (state .blocks) slot (sizeAtHead state slot) (r .Q) (r .N) (r .version) (r .bits) store) store) at 0 ≡ getD store at 0
     go true e =
         let f = reception-fits state (length store) slot terminal r (eqb-true _ _ e) in
-        received-out (state .blocks) slot (sizeAtHead state slot) (r .Q) (r .N) (r .version) (r .bits) store (f .0) (f .1) at n
+        received-out (shareAtHead state slot) (state .blocks) slot (sizeAtHead state slot) (r .Q) (r .N) (r .version) (r .bits) store (f .0) (f .1) at n
     go false e = refl
 bytes-stay state store (reading slot terminal size) at n = refl
 bytes-stay state store (streaming slot terminal block size) at n = refl

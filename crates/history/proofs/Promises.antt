@@ -1,5 +1,6 @@
 -- Demand 3 in one place, in its own order: each promise with all its premises, and as its proof the theorem that shows it.
--- S, M, store₀ and h are any numbers, any bytes and any history; what a history, a state after it and an accepted reception are, specs/ says.
+-- S, M, store₀ and h are any numbers, any bytes and any history; what a history, a state after it and an accepted reception are, specs/ says. A slot's share of the
+-- soft buffer is what its head holds (02, E6): 18,528 in an uplink, so that no circle is cut.
 -- Assumes nothing.
 use mathlib.Core.Path.{_≡_, refl}
 use mathlib.Core.Bool.{true, false, cond}
@@ -9,6 +10,9 @@ use lib.Dec.{eqb}
 use lib.ListN.{length, drop}
 use Rattle.laws.specs.Bits.{AreBits}
 use Rattle.segmentation.specs.Segmentation.{blocks}
+use Rattle.segmentation.specs.Sizes.{badSize}
+use Rattle.rate_matching.specs.SoftBuffer.{wholeShare}
+use Rattle.codeword.specs.Build.{badModulation, badLayers, badAllocation}
 use Rattle.slots.specs.declared.Answer.the-variants.{Done, Heard}
 use Rattle.slots.specs.declared.State.{State}
 use Rattle.slots.specs.State.{headAt, badShape}
@@ -16,7 +20,8 @@ use Rattle.slots.specs.Answers.{numberOf, valuesOf, Lacking, isDone}
 use Rattle.slots.specs.Reading.{keptAt, checkedAnswer, heardBlock}
 use Rattle.slots.specs.Checks.{blocksAt, RightBlock, RightTransport}
 use Rattle.slots.proofs.Checks as checking
-use Rattle.slots.specs.Calls.{sizeAtHead, receiveNumber, receiveOutcome, readNumber, readOutcome, readOutput, streamsOutput}
+use Rattle.slots.specs.Calls.{sizeAtHead, shareAtHead, receiveNumber, receiveOutcome, readNumber, readOutcome, readOutput, streamsOutput}
+use Rattle.history.specs.Links.{Link, uplink, shareIn}
 use Rattle.history.specs.Calls.{Reception, Call, opening, receiving, Made, History}
 use Rattle.history.specs.Run.{run}
 use Rattle.history.specs.Answered.{answerTo, slotOf, SameRoom, SameSlot, ownCalls}
@@ -25,7 +30,7 @@ use Rattle.history.specs.Sent.{True, AllTrue, among, DataPlace, sentData
 use Rattle.history.specs.After.{made, stateAfter, roomsAfter, storeAfter, roomsLong, acceptedAfter}
 use Rattle.history.specs.Holds.{Holds}
 use Rattle.history.specs.Later.{Undisturbed, acceptedIn, Withheld}
-use Rattle.history.specs.Repeats.{Some, Enough}
+use Rattle.history.specs.Repeats.{Some, WholeTurn, turnBits, Enough}
 use Rattle.history.proofs.State.{heads}
 use Rattle.history.proofs.Holds as holding
 use Rattle.history.proofs.Heads as heading
@@ -38,6 +43,8 @@ use Rattle.history.proofs.June as incident
 use Rattle.history.proofs.ReleaseTrue as truth
 use Rattle.history.proofs.Disputes as disputing
 use Rattle.history.proofs.Parity as parity
+use Rattle.history.proofs.Opening as opens
+use Rattle.history.proofs.Alone as alone
 use Rattle.history.proofs.Repeats as repeating
 use Rattle.history.proofs.RepeatsCounted as counted
 
@@ -46,8 +53,9 @@ use Rattle.history.proofs.RepeatsCounted as counted
 -- The room of an open slot has, for each circle place of each of its code blocks, what the bits accepted for it since that opening say
 -- together (`holding` of `arrivals`); the rest of the room is unheard. `Holds` has these two equations.
 pub place-holds : (S M : ℕ) (store₀ : List ℕ) (h : History) (slot : ℕ) → slot < S → headAt (stateAfter S M store₀ h) slot .opened ≡ true
-    → Holds M slot (sizeAtHead (stateAfter S M store₀ h) slot) (acceptedAfter S M store₀ h slot) (roomsAfter S M store₀ h)
-unfolding sizeAtHead
+    → let state : State = stateAfter S M store₀ h in
+    Holds (shareAtHead state slot) M slot (sizeAtHead state slot) (acceptedAfter S M store₀ h slot) (roomsAfter S M store₀ h)
+unfolding sizeAtHead shareAtHead
 place-holds S M store₀ h slot below is-open =
     rw (heads S M store₀ h) (holding.holds S M store₀ slot below h (rw (heads S M store₀ h) at is-open))
 
@@ -70,14 +78,15 @@ pub block-released : (S M : ℕ) (store₀ : List ℕ) (h : History) (past : Lis
     → let state : State = stateAfter S M store₀ h in
     let store : List ℕ = storeAfter S M store₀ h past in
     let accepted : List Reception = acceptedAfter S M store₀ h slot in
+    let soft : ℕ = shareAtHead state slot in
     AreBits a
     → sizeAtHead state slot ≡ length a
-    → AllTrue a accepted
+    → AllTrue soft a accepted
     → (out : List ℕ)
     → readNumber state (length store) slot terminal (length out) ≡ 0
     → (readOutcome state store slot terminal (length out)
-    ≡ record { answer = cond (eqb (unsent (length a) accepted) 0) Done (Lacking (unsent (length a) accepted)); state = state })
-    × (readOutput state store slot terminal out ≡ cond (eqb (unsent (length a) accepted) 0) (a ++ drop (length a) out) out)
+    ≡ record { answer = cond (eqb (unsent soft (length a) accepted) 0) Done (Lacking (unsent soft (length a) accepted)); state = state })
+    × (readOutput state store slot terminal out ≡ cond (eqb (unsent soft (length a) accepted) 0) (a ++ drop (length a) out) out)
 block-released = releasing.released-iff
 
 -- Not sooner: while one data place was not sent, no read whatever answers Done or writes a byte.
@@ -86,12 +95,13 @@ pub not-sooner : (S M : ℕ) (store₀ : List ℕ) (h : History) (past : List �
     → let state : State = stateAfter S M store₀ h in
     let store : List ℕ = storeAfter S M store₀ h past in
     let accepted : List Reception = acceptedAfter S M store₀ h slot in
+    let soft : ℕ = shareAtHead state slot in
     AreBits a
     → sizeAtHead state slot ≡ length a
-    → AllTrue a accepted
+    → AllTrue soft a accepted
     → (out : List ℕ) (r i : ℕ)
     → DataPlace (length a) r i
-    → sentData (length a) accepted r i ≡ false
+    → sentData soft (length a) accepted r i ≡ false
     → (readOutcome state store slot terminal (length out) .answer ≡ Done → ⊥) × (readOutput state store slot terminal out ≡ out)
 not-sooner = incident.not-sooner
 
@@ -101,11 +111,12 @@ pub at-once : (S M : ℕ) (store₀ : List ℕ) (h : History) (past : List ℕ) 
     → let state : State = stateAfter S M store₀ h in
     let store : List ℕ = storeAfter S M store₀ h past in
     let accepted : List Reception = acceptedAfter S M store₀ h slot in
+    let soft : ℕ = shareAtHead state slot in
     AreBits a
     → sizeAtHead state slot ≡ length a
-    → AllTrue a accepted
+    → AllTrue soft a accepted
     → (out : List ℕ)
-    → AllSent (length a) accepted
+    → AllSent soft (length a) accepted
     → readNumber state (length store) slot terminal (length out) ≡ 0
     → (readOutcome state store slot terminal (length out) ≡ record { answer = Done; state = state })
     × (readOutput state store slot terminal out ≡ a ++ drop (length a) out)
@@ -151,10 +162,11 @@ pub released-uncontradicted : (S M : ℕ) (store₀ : List ℕ) (h : History) (p
     → let state : State = stateAfter S M store₀ h in
     let store : List ℕ = storeAfter S M store₀ h past in
     let A : ℕ = sizeAtHead state slot in
+    let soft : ℕ = shareAtHead state slot in
     readOutcome state store slot terminal (length out) .answer ≡ Done
     → (r i : ℕ)
     → DataPlace A r i
-    → let bits : List ℕ = arrivalsAt A (acceptedAfter S M store₀ h slot) r i in
+    → let bits : List ℕ = arrivalsAt soft A (acceptedAfter S M store₀ h slot) r i in
     let bit : ℕ = keptAt (state .blocks) slot (A + 24) store r 0 i in
     (among bit bits ≡ true) × ((c : ℕ) → among c bits ≡ true → c ≡ bit)
 released-uncontradicted = disputing.given-agreed
@@ -163,7 +175,8 @@ released-uncontradicted = disputing.given-agreed
 -- closes the slot (an open one cannot be opened), no read answers Done or writes a byte.
 pub contradiction-withholds : (S M : ℕ) (store₀ : List ℕ) (h : History) (slot r i b c : ℕ)
     → (let A : ℕ = sizeAtHead (stateAfter S M store₀ h) slot in
-    let bits : List ℕ = arrivalsAt A (acceptedAfter S M store₀ h slot) r i in
+    let soft : ℕ = shareAtHead (stateAfter S M store₀ h) slot in
+    let bits : List ℕ = arrivalsAt soft A (acceptedAfter S M store₀ h slot) r i in
     DataPlace A r i × (among b bits ≡ true) × (among c bits ≡ true) × (b ≡ c → ⊥))
     → (later : History)
     → Undisturbed S M (roomsLong S M store₀) slot later h
@@ -179,8 +192,9 @@ pub nothing-else-withholds : (S M : ℕ) (store₀ : List ℕ) (h : History) (pa
     → let state : State = stateAfter S M store₀ h in
     let store : List ℕ = storeAfter S M store₀ h past in
     let A : ℕ = sizeAtHead state slot in
+    let soft : ℕ = shareAtHead state slot in
     readNumber state (length store) slot terminal (length out) ≡ 0
-    → AllDecided A (acceptedAfter S M store₀ h slot)
+    → AllDecided soft A (acceptedAfter S M store₀ h slot)
     → (readOutcome state store slot terminal (length out) ≡ record { answer = checkedAnswer (state .blocks) slot A store; state = state })
     × (readOutput state store slot terminal out
     ≡ cond (isDone (checkedAnswer (state .blocks) slot A store)) (heardBlock (state .blocks) slot A store ++ drop A out) out)
@@ -188,9 +202,9 @@ nothing-else-withholds = disputing.decided-checked
 
 -- True transmissions of one block never contradict each other: a data place is decided exactly when it was sent.
 -- So demand 3 for them reads as before.
-pub true-agree : (a : List ℕ) → length a ≤ 30576 → AreBits a → (xs : List Reception) → AllTrue a xs
-    → (r i : ℕ) → r < blocks (length a + 24) → decidedData (length a) xs r i ≡ sentData (length a) xs r i
-true-agree a small bits xs true-all r i h = truth.true-decided a small bits xs true-all r _ h
+pub true-agree : (soft : ℕ) (a : List ℕ) → length a ≤ 30576 → AreBits a → (xs : List Reception) → AllTrue soft a xs
+    → (r i : ℕ) → r < blocks (length a + 24) → decidedData soft (length a) xs r i ≡ sentData soft (length a) xs r i
+true-agree soft a small bits xs true-all r i h = truth.true-decided soft a small bits xs true-all r _ h
 
 -- ---- the count
 
@@ -201,7 +215,7 @@ pub reception-undecided : (S M : ℕ) (store₀ : List ℕ) (h : History) (past 
     let store : List ℕ = storeAfter S M store₀ h past in
     receiveNumber state (length store) slot terminal (x .Q) (x .N) (x .version) (x .bits) ≡ 0
     → receiveOutcome state slot terminal (x .Q) (x .N) (x .version) (x .bits) store
-    ≡ record { answer = Heard (undecided (sizeAtHead state slot) (x ∷ acceptedAfter S M store₀ h slot)); state = state }
+    ≡ record { answer = Heard (undecided (shareAtHead state slot) (sizeAtHead state slot) (x ∷ acceptedAfter S M store₀ h slot)); state = state }
 reception-undecided = disputing.reception-any
 
 -- Read, not refused for its arguments, answers 11 with that number where there is such a place, and writes nothing.
@@ -209,7 +223,7 @@ reception-undecided = disputing.reception-any
 pub reading-undecided : (S M : ℕ) (store₀ : List ℕ) (h : History) (past : List ℕ) (slot terminal : ℕ) (out : List ℕ)
     → let state : State = stateAfter S M store₀ h in
     let store : List ℕ = storeAfter S M store₀ h past in
-    let n : ℕ = undecided (sizeAtHead state slot) (acceptedAfter S M store₀ h slot) in
+    let n : ℕ = undecided (shareAtHead state slot) (sizeAtHead state slot) (acceptedAfter S M store₀ h slot) in
     readNumber state (length store) slot terminal (length out) ≡ 0
     → (n ≡ 0 → ⊥)
     → Withheld state store slot terminal out n
@@ -221,14 +235,15 @@ pub reception-counted : (S M : ℕ) (store₀ : List ℕ) (h : History) (past : 
     → let state : State = stateAfter S M store₀ h in
     let store : List ℕ = storeAfter S M store₀ h past in
     let accepted : List Reception = acceptedAfter S M store₀ h slot in
+    let soft : ℕ = shareAtHead state slot in
     AreBits a
     → sizeAtHead state slot ≡ length a
-    → AllTrue a accepted
+    → AllTrue soft a accepted
     → (x : Reception)
-    → True a x
+    → True soft a x
     → receiveNumber state (length store) slot terminal (x .Q) (x .N) (x .version) (x .bits) ≡ 0
     → receiveOutcome state slot terminal (x .Q) (x .N) (x .version) (x .bits) store
-    ≡ record { answer = Heard (unsent (length a) (x ∷ accepted)); state = state }
+    ≡ record { answer = Heard (unsent soft (length a) (x ∷ accepted)); state = state }
 reception-counted = releasing.received-count
 
 -- How many data places there are: the block and its check, A + 24, and with more than one code block 24 for each of them.
@@ -239,10 +254,10 @@ places-single = counting.data-places-single
 pub places-several : (A : ℕ) → A ≤ 30576 → 1 < blocks (A + 24) → dataPlaces A ≡ A + 24 + 24 * blocks (A + 24)
 places-several = counting.data-places-several
 
-pub none-sent : (A : ℕ) (xs : List Reception) → NoneSent A xs → unsent A xs ≡ dataPlaces A
+pub none-sent : (soft A : ℕ) (xs : List Reception) → NoneSent soft A xs → unsent soft A xs ≡ dataPlaces A
 none-sent = counting.unsent-all
 
-pub all-sent : (A : ℕ) (xs : List Reception) → AllSent A xs → unsent A xs ≡ 0
+pub all-sent : (soft A : ℕ) (xs : List Reception) → AllSent soft A xs → unsent soft A xs ≡ 0
 all-sent = counting.unsent-none
 
 -- ---- number 13
@@ -301,80 +316,139 @@ streams-depends = depending.streams-depends
 
 -- An accepted opening starts the slot's receptions anew: none that came before it counts.
 -- After it only those count that the later calls had accepted.
-pub opening-anew : (S M : ℕ) (store₀ : List ℕ) (earlier : History) (past₀ : List ℕ) (slot terminal A : ℕ)
-    → answerTo (stateAfter S M store₀ earlier) (storeAfter S M store₀ earlier past₀) (opening slot terminal A) ≡ Done
+pub opening-anew : (S M : ℕ) (store₀ : List ℕ) (earlier : History) (past₀ : List ℕ) (link : Link) (slot terminal A : ℕ)
+    → answerTo (stateAfter S M store₀ earlier) (storeAfter S M store₀ earlier past₀) (opening link slot terminal A) ≡ Done
     → (later : History)
-    → let opened : History = made (opening slot terminal A) past₀ earlier in
+    → let opened : History = made (opening link slot terminal A) past₀ earlier in
     acceptedAfter S M store₀ (later ++ opened) slot ≡ acceptedIn S M (roomsLong S M store₀) slot later opened
 opening-anew = incident.only-later
 
 -- Whatever the store held and whoever had used the slot before: after an accepted opening and any calls that leave the slot open, a read by
 -- its terminal gives the block exactly when the receptions accepted since then sent every data place.
-pub released-since-opening : (S M : ℕ) (store₀ : List ℕ) (earlier : History) (past₀ : List ℕ) (slot terminal A : ℕ)
-    → answerTo (stateAfter S M store₀ earlier) (storeAfter S M store₀ earlier past₀) (opening slot terminal A) ≡ Done
+pub released-since-opening : (S M : ℕ) (store₀ : List ℕ) (earlier : History) (past₀ : List ℕ) (link : Link) (slot terminal A : ℕ)
+    → answerTo (stateAfter S M store₀ earlier) (storeAfter S M store₀ earlier past₀) (opening link slot terminal A) ≡ Done
     → (later : History)
-    → let opened : History = made (opening slot terminal A) past₀ earlier in
+    → let opened : History = made (opening link slot terminal A) past₀ earlier in
     let heard : List Reception = acceptedIn S M (roomsLong S M store₀) slot later opened in
     let state : State = stateAfter S M store₀ (later ++ opened) in
     Undisturbed S M (roomsLong S M store₀) slot later opened
     → (past : List ℕ) (a : List ℕ)
     → AreBits a
     → length a ≡ A
-    → AllTrue a heard
+    → AllTrue (shareIn link A) a heard
     → (out : List ℕ)
     → A ≤ length out
     → (readOutcome state (storeAfter S M store₀ (later ++ opened) past) slot terminal (length out)
-    ≡ record { answer = cond (eqb (unsent A heard) 0) Done (Lacking (unsent A heard)); state = state })
-    × (readOutput state (storeAfter S M store₀ (later ++ opened) past) slot terminal out ≡ cond (eqb (unsent A heard) 0) (a ++ drop A out) out)
+    ≡ record { answer = cond (eqb (unsent (shareIn link A) A heard) 0) Done (Lacking (unsent (shareIn link A) A heard)); state = state })
+    × (readOutput state (storeAfter S M store₀ (later ++ opened) past) slot terminal out ≡ cond (eqb (unsent (shareIn link A) A heard) 0) (a ++ drop A out) out)
 released-since-opening = incident.after-opening
 
 -- Directly after the opening a read by its terminal answers 11 with the count of all data places, and writes nothing.
 -- The bytes of the store and the earlier history are any.
-pub june-opened : (S M : ℕ) (store₀ : List ℕ) (earlier : History) (past₀ : List ℕ) (slot terminal A : ℕ)
-    → answerTo (stateAfter S M store₀ earlier) (storeAfter S M store₀ earlier past₀) (opening slot terminal A) ≡ Done
+pub june-opened : (S M : ℕ) (store₀ : List ℕ) (earlier : History) (past₀ : List ℕ) (link : Link) (slot terminal A : ℕ)
+    → answerTo (stateAfter S M store₀ earlier) (storeAfter S M store₀ earlier past₀) (opening link slot terminal A) ≡ Done
     → (past : List ℕ) (out : List ℕ)
     → A ≤ length out
-    → let opened : History = made (opening slot terminal A) past₀ earlier in
+    → let opened : History = made (opening link slot terminal A) past₀ earlier in
     Withheld (stateAfter S M store₀ opened) (storeAfter S M store₀ opened past) slot terminal out (dataPlaces A)
 june-opened = incident.june-opened
 
 -- And so it does after one reception of a true transmission that sends parity alone: what another car's block left behind, were it whole,
 -- is never given out.
-pub june-parity : (S M : ℕ) (store₀ : List ℕ) (earlier : History) (past₀ : List ℕ) (slot terminal A : ℕ)
-    → answerTo (stateAfter S M store₀ earlier) (storeAfter S M store₀ earlier past₀) (opening slot terminal A) ≡ Done
+pub june-parity : (S M : ℕ) (store₀ : List ℕ) (earlier : History) (past₀ : List ℕ) (link : Link) (slot terminal A : ℕ)
+    → answerTo (stateAfter S M store₀ earlier) (storeAfter S M store₀ earlier past₀) (opening link slot terminal A) ≡ Done
     → (past : List ℕ) (out : List ℕ)
     → A ≤ length out
     → (sender : ℕ) (x : Reception) (past₁ : List ℕ) (a : List ℕ)
     → AreBits a
     → length a ≡ A
-    → True a x
-    → NoneSent A (x ∷ [])
-    → let heard : History = made (receiving slot sender x) past₁ (made (opening slot terminal A) past₀ earlier) in
+    → True (shareIn link A) a x
+    → NoneSent (shareIn link A) A (x ∷ [])
+    → let heard : History = made (receiving slot sender x) past₁ (made (opening link slot terminal A) past₀ earlier) in
     Withheld (stateAfter S M store₀ heard) (storeAfter S M store₀ heard past) slot terminal out (dataPlaces A)
 june-parity = incident.june-parity
 
--- There are such transmissions: with A = 16, Q = 2, N = 1 and version 2 the first 64 bits send no data place.
+-- There are such transmissions in an uplink: with A = 16, Q = 2, N = 1 and version 2 the first 64 bits send no data place.
 -- So a read after them answers 11 with 40, as 01 says.
-pub parity-alone : (bits : List ℕ) → length bits ≡ 64 → NoneSent 16 (record { Q = 2; N = 1; version = 2; bits = bits } ∷ [])
+pub parity-alone : (bits : List ℕ) → length bits ≡ 64 → NoneSent wholeShare 16 (record { Q = 2; N = 1; version = 2; bits = bits } ∷ [])
 parity-alone = parity.parity-alone
 
--- ---- how many repeats at worst
+-- ---- both links in one store
 
--- Whatever the store held, whoever had used the slot before, and whatever other calls stand between: after an accepted opening, a read by its terminal gives the block
--- once enough true transmissions of it were accepted, in any order. `Enough` has the ways: one each of versions 0, 1 and 3 with at least 24·R bits for every code
--- block of its own R, or one alone, of any version, with at least 3·D − 2·F bits for code block 0 and 3·D for each other; and both in a planner's terms, by the
--- least G that `worst A Q N` tells. Other true transmissions, of version 2 or any, change nothing.
-pub enough-repeats : (S M : ℕ) (store₀ : List ℕ) (earlier : History) (past₀ : List ℕ) (slot terminal A : ℕ)
-    → answerTo (stateAfter S M store₀ earlier) (storeAfter S M store₀ earlier past₀) (opening slot terminal A) ≡ Done
+-- Slots of an uplink and of a downlink stand side by side: every promise above goes by the share at the slot's own head. After an accepted opening and any calls that
+-- leave the slot open that is the link's, 02 E6: 18,528 for an uplink, ⌊N_IR / C⌋ for a downlink (`shareIn`).
+pub share-since-opening : (S M : ℕ) (store₀ : List ℕ) (earlier : History) (past₀ : List ℕ) (link : Link) (slot terminal A : ℕ)
+    → answerTo (stateAfter S M store₀ earlier) (storeAfter S M store₀ earlier past₀) (opening link slot terminal A) ≡ Done
     → (later : History)
-    → let opened : History = made (opening slot terminal A) past₀ earlier in
+    → let opened : History = made (opening link slot terminal A) past₀ earlier in
+    Undisturbed S M (roomsLong S M store₀) slot later opened
+    → shareAtHead (stateAfter S M store₀ (later ++ opened)) slot ≡ shareIn link A
+share-since-opening = opens.still-share
+
+-- What N_cb ≥ 32·R buys: whichever the link, the share and the version, one true transmission with as many bits for every code block as its circle, cut, has places
+-- (`WholeTurn`) gives the block alone.
+pub alone-since-opening : (S M : ℕ) (store₀ : List ℕ) (earlier : History) (past₀ : List ℕ) (link : Link) (slot terminal A : ℕ)
+    → answerTo (stateAfter S M store₀ earlier) (storeAfter S M store₀ earlier past₀) (opening link slot terminal A) ≡ Done
+    → (later : History)
+    → let opened : History = made (opening link slot terminal A) past₀ earlier in
     let heard : List Reception = acceptedIn S M (roomsLong S M store₀) slot later opened in
     let state : State = stateAfter S M store₀ (later ++ opened) in
     Undisturbed S M (roomsLong S M store₀) slot later opened
     → (past : List ℕ) (a : List ℕ)
     → AreBits a
     → length a ≡ A
-    → AllTrue a heard
+    → AllTrue (shareIn link A) a heard
+    → (out : List ℕ)
+    → A ≤ length out
+    → Some (WholeTurn (shareIn link A) A) heard
+    → (readOutcome state (storeAfter S M store₀ (later ++ opened) past) slot terminal (length out) ≡ record { answer = Done; state = state })
+    × (readOutput state (storeAfter S M store₀ (later ++ opened) past) slot terminal out ≡ a ++ drop A out)
+alone-since-opening = alone.gives-alone-since
+
+-- The same of any history, opened as it may be, for a read that is not refused for its arguments.
+-- The premises are those of demand 3's release.
+pub alone-at-once : (S M : ℕ) (store₀ : List ℕ) (h : History) (past : List ℕ) (slot terminal : ℕ) (a : List ℕ)
+    → let state : State = stateAfter S M store₀ h in
+    let store : List ℕ = storeAfter S M store₀ h past in
+    let accepted : List Reception = acceptedAfter S M store₀ h slot in
+    let soft : ℕ = shareAtHead state slot in
+    AreBits a
+    → sizeAtHead state slot ≡ length a
+    → AllTrue soft a accepted
+    → (out : List ℕ)
+    → readNumber state (length store) slot terminal (length out) ≡ 0
+    → Some (WholeTurn soft (length a)) accepted
+    → (readOutcome state store slot terminal (length out) ≡ record { answer = Done; state = state })
+    × (readOutput state store slot terminal out ≡ a ++ drop (length a) out)
+alone-at-once = alone.gives-alone
+
+-- There is such a G for every block, share, Q and N, and it is accepted: 18,576·C (`turnBits`).
+-- A, Q and N are such as 01 accepts, the share and the version any.
+pub alone-exists : (soft A Q N : ℕ) → badSize A ≡ false → badModulation Q ≡ false → badLayers N ≡ false
+    → (badAllocation (blocks (A + 24)) Q N (turnBits A) ≡ false)
+    × ((version : ℕ) (bits : List ℕ) → length bits ≡ turnBits A → WholeTurn soft A (record { Q = Q; N = N; version = version; bits = bits }))
+alone-exists soft A Q N admitted modulation layers = (
+  alone.turn-allocated A Q N admitted modulation layers,
+  λ version bits long r below. rw long (alone.turn-gives A Q N admitted modulation layers soft r below),
+)
+
+-- ---- how many repeats at worst
+
+-- Whatever the store held, whoever had used the slot before, and whatever other calls stand between: after an accepted opening for an uplink, a read by its terminal gives the block
+-- once enough true transmissions of it were accepted, in any order. `Enough` has the ways: one each of versions 0, 1 and 3 with at least 24·R bits for every code
+-- block of its own R, or one alone, of any version, with at least 3·D − 2·F bits for code block 0 and 3·D for each other; and both in a planner's terms, by the
+-- least G that `worst A Q N` tells. Other true transmissions, of version 2 or any, change nothing.
+pub enough-repeats : (S M : ℕ) (store₀ : List ℕ) (earlier : History) (past₀ : List ℕ) (slot terminal A : ℕ)
+    → answerTo (stateAfter S M store₀ earlier) (storeAfter S M store₀ earlier past₀) (opening uplink slot terminal A) ≡ Done
+    → (later : History)
+    → let opened : History = made (opening uplink slot terminal A) past₀ earlier in
+    let heard : List Reception = acceptedIn S M (roomsLong S M store₀) slot later opened in
+    let state : State = stateAfter S M store₀ (later ++ opened) in
+    Undisturbed S M (roomsLong S M store₀) slot later opened
+    → (past : List ℕ) (a : List ℕ)
+    → AreBits a
+    → length a ≡ A
+    → AllTrue wholeShare a heard
     → (out : List ℕ)
     → A ≤ length out
     → Enough A heard
@@ -382,15 +456,16 @@ pub enough-repeats : (S M : ℕ) (store₀ : List ℕ) (earlier : History) (past
     × (readOutput state (storeAfter S M store₀ (later ++ opened) past) slot terminal out ≡ a ++ drop A out)
 enough-repeats = repeating.gives-since
 
--- The same of any history, opened as it may be, for a read that is not refused for its arguments.
--- The premises are those of demand 3's release.
+-- The same of any history after which the head holds an uplink's share, for a read that is not refused for its arguments.
+-- The other premises are those of demand 3's release.
 pub enough-at-once : (S M : ℕ) (store₀ : List ℕ) (h : History) (past : List ℕ) (slot terminal : ℕ) (a : List ℕ)
     → let state : State = stateAfter S M store₀ h in
     let store : List ℕ = storeAfter S M store₀ h past in
     let accepted : List Reception = acceptedAfter S M store₀ h slot in
     AreBits a
     → sizeAtHead state slot ≡ length a
-    → AllTrue a accepted
+    → shareAtHead state slot ≡ wholeShare
+    → AllTrue wholeShare a accepted
     → (out : List ℕ)
     → readNumber state (length store) slot terminal (length out) ≡ 0
     → Enough (length a) accepted

@@ -46,41 +46,41 @@ module _ (M slot : ℕ) where
       ∙ ap (λ (v : ℕ). met v (arriving js (drop 1 bits) j)) (one-bit r p j (getD bits 0 0) store l)
       ∙ met-next (eqb p j) (getD store (byteOf M slot r j) 0) (getD bits 0 0) (arriving js (drop 1 bits) j)
 
--- what a reception's bits leave at place j of code block q, where `before` was kept
-abbrev pub brought : ℕ → ℕ → ℕ → ℕ → List ℕ → ℕ → ℕ → ℕ → ℕ
-brought B Q N v bits q j before =
-    met before (arriving (blockPlaces B Q N v (length bits) q) (drop (sharesBefore (blocks B) Q N (length bits) q) bits) j)
+-- what a reception's bits leave at place j of code block q, where `before` was kept and each code block has a share `soft` of the soft buffer
+abbrev pub brought : ℕ → ℕ → ℕ → ℕ → ℕ → List ℕ → ℕ → ℕ → ℕ → ℕ
+brought soft B Q N v bits q j before =
+    met before (arriving (blockPlaces soft B Q N v (length bits) q) (drop (sharesBefore (blocks B) Q N (length bits) q) bits) j)
 
-module _ (M slot B Q N v : ℕ) (bits : List ℕ) where
+module _ (soft M slot B Q N v : ℕ) (bits : List ℕ) where
   -- the store after the bits of code block r
   abbrev afterBlock : ℕ → List ℕ → List ℕ
-  afterBlock r store = putBits M slot r (blockPlaces B Q N v (length bits) r) (drop (sharesBefore (blocks B) Q N (length bits) r) bits) store
+  afterBlock r store = putBits M slot r (blockPlaces soft B Q N v (length bits) r) (drop (sharesBefore (blocks B) Q N (length bits) r) bits) store
 
-  module _ (places : AllPlaces B Q N v (length bits)) (q j : ℕ) (less : j < perBlock) where
+  module _ (places : AllPlaces soft B Q N v (length bits)) (q j : ℕ) (less : j < perBlock) where
     -- the bits of all code blocks
     putBlocks-here : (r n : ℕ) (store : List ℕ) → r ≤ q → q < r + n → byteOf M slot q j < length store
-        → getD (putBlocks M slot B Q N v bits r n store) (byteOf M slot q j) 0
-        ≡ brought B Q N v bits q j (getD store (byteOf M slot q j) 0)
+        → getD (putBlocks soft M slot B Q N v bits r n store) (byteOf M slot q j) 0
+        ≡ brought soft B Q N v bits q j (getD store (byteOf M slot q j) 0)
     unfolding putBlocks
     putBlocks-here r zero store h g l = absurd (omega arith)
     putBlocks-here r (suc n) store h g l = elim (ℕ-discrete q r) [
       | yes same ↦
-          putBlocks-out M slot B Q N v bits (suc r) n (afterBlock r store) (byteOf M slot q j) places
+          putBlocks-out soft M slot B Q N v bits (suc r) n (afterBlock r store) (byteOf M slot q j) places
           (λ k i u g′ m e. let e′ : q ≡ k = byte-block M slot q j k i less m e in omega arith)
-          ∙ subst (λ (k : ℕ). getD (afterBlock k store) (byteOf M slot q j) 0 ≡ brought B Q N v bits q j (getD store (byteOf M slot q j) 0)) same
+          ∙ subst (λ (k : ℕ). getD (afterBlock k store) (byteOf M slot q j) 0 ≡ brought soft B Q N v bits q j (getD store (byteOf M slot q j) 0)) same
           (putBits-here M slot q _ _ store j l)
       | no other ↦
           putBlocks-here (suc r) n (afterBlock r store) (omega arith) (omega arith) (rw (length-putBits M slot r _ _ store) l)
-          ∙ ap (brought B Q N v bits q j)
+          ∙ ap (brought soft B Q N v bits q j)
           (putBits-out M slot r _ _ store (byteOf M slot q j) (places r)
           (λ i m e. other (byte-block M slot q j r i less m e)))
     ]
 
 -- an accepted reception for a block of A bits
-pub received-here : (M slot A Q N v : ℕ) (bits store : List ℕ) → AllPlaces (A + 24) Q N v (length bits)
+pub received-here : (soft M slot A Q N v : ℕ) (bits store : List ℕ) → AllPlaces soft (A + 24) Q N v (length bits)
     → (r j : ℕ) → r < blocks (A + 24) → j < perBlock → byteOf M slot r j < length store
-    → getD (received M slot A Q N v bits store) (byteOf M slot r j) 0
-    ≡ brought (A + 24) Q N v bits r j (getD store (byteOf M slot r j) 0)
+    → getD (received soft M slot A Q N v bits store) (byteOf M slot r j) 0
+    ≡ brought soft (A + 24) Q N v bits r j (getD store (byteOf M slot r j) 0)
 unfolding received
-received-here M slot A Q N v bits store places r j h l g =
-    putBlocks-here M slot (A + 24) Q N v bits places r j l 0 (blocks (A + 24)) store (omega arith) (omega arith) g
+received-here soft M slot A Q N v bits store places r j h l g =
+    putBlocks-here soft M slot (A + 24) Q N v bits places r j l 0 (blocks (A + 24)) store (omega arith) (omega arith) g

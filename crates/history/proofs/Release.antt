@@ -16,7 +16,7 @@ use Rattle.slots.specs.declared.State.{State}
 use Rattle.slots.specs.Answers.{Lacking}
 use Rattle.slots.specs.State.{perBlock, storeLength, newState, headAt, badShape, badState}
 use Rattle.slots.specs.Room.{byteOf}
-use Rattle.slots.specs.Calls.{sizeAtHead, receiveNumber, receiveOutcome, readNumber, readOutcome, readOutput}
+use Rattle.slots.specs.Calls.{sizeAtHead, shareAtHead, receiveNumber, receiveOutcome, readNumber, readOutcome, readOutput}
 use Rattle.slots.proofs.RoomLaws.{room-within, byte-in-room}
 use Rattle.slots.proofs.HeadLaws.{open-size}
 use Rattle.slots.proofs.Acceptance.{receives, reads}
@@ -34,9 +34,12 @@ use Rattle.history.proofs.AnyAnswers.{receive-any}
 use Rattle.history.proofs.ReleaseAnswers.{read-answer, read-output}
 
 module _ (S M : ℕ) (store₀ : List ℕ) (h : History) (past : List ℕ) (slot terminal : ℕ) where
-  -- the state after the history, the store that the next call is lent, and what was accepted for the slot since its opening
+  -- the state after the history, the slot's share of the soft buffer, the store that the next call is lent, and what was accepted for the slot since its opening
   abbrev pub state : State
   state = run S M store₀ h .state
+
+  abbrev pub soft : ℕ
+  soft = shareAtHead state slot
 
   abbrev pub store : List ℕ
   store = lent (run S M store₀ h) past
@@ -50,14 +53,14 @@ module _ (S M : ℕ) (store₀ : List ℕ) (h : History) (past : List ℕ) (slot
 
   -- in the slot's room in the lent store they have met
   pub kept : badState state ≡ false → storeLength state ≤ length store → slot < state .slots → headAt state slot .opened ≡ true
-      → HoldsMet (state .blocks) slot (sizeAtHead state slot) accepted store
-  unfolding newState storeLength sizeAtHead
+      → HoldsMet soft (state .blocks) slot (sizeAtHead state slot) accepted store
+  unfolding newState storeLength sizeAtHead shareAtHead
   kept sound long below opened = go (badShape S M) refl
     where
       w : World
       w = run S M store₀ h
 
-      go : (b : Bool) → badShape S M ≡ b → HoldsMet (state .blocks) slot (sizeAtHead state slot) accepted store
+      go : (b : Bool) → badShape S M ≡ b → HoldsMet soft (state .blocks) slot (sizeAtHead state slot) accepted store
       go true e =
           let none : state .slots ≡ 0 = ap (λ (t : State). t .slots) (heads S M store₀ h ∙ refused-state S M e (length (begin S M store₀ .rooms)) h) in
           absurd (omega arith)
@@ -66,10 +69,10 @@ module _ (S M : ℕ) (store₀ : List ℕ) (h : History) (past : List ℕ) (slot
           made : Made
           made = record { call = reading slot terminal 0; past = past }
 
-          room : Keeps (state .blocks) slot (sizeAtHead state slot) accepted (w .rooms)
+          room : Keeps soft (state .blocks) slot (sizeAtHead state slot) accepted (w .rooms)
           room =
               let good = run-good S M e store₀ h in
-              subst₂ (λ (n : ℕ) (t : State). Keeps n slot (headAt t slot .size) accepted (w .rooms)) (sym (good .blocks)) (sym (heads S M store₀ h))
+              subst₂ (λ (n : ℕ) (t : State). Keeps (headAt t slot .share) n slot (headAt t slot .size) accepted (w .rooms)) (sym (good .blocks)) (sym (heads S M store₀ h))
               (keeps S M store₀ slot (omega (arith, good .slots)) h (rw (heads S M store₀ h) at opened))
 
           there : (r j : ℕ) → r < blocks (sizeAtHead state slot + 24) → j < perBlock → byteOf (state .blocks) slot r j < length (w .rooms)
@@ -78,12 +81,12 @@ module _ (S M : ℕ) (store₀ : List ℕ) (h : History) (past : List ℕ) (slot
               omega (arith, rooms-whole w made long, room-within (state .slots) (state .blocks) slot below, byte-in-room (state .blocks) slot r j (omega arith) k)
 
   -- a has as many bits as the slot is open for, and all that was accepted since the opening are true transmissions of it
-  module _ (a : List ℕ) (bits : AreBits a) (size-is : sizeAtHead state slot ≡ length a) (true-all : AllTrue a accepted) where
+  module _ (a : List ℕ) (bits : AreBits a) (size-is : sizeAtHead state slot ≡ length a) (true-all : AllTrue soft a accepted) where
     -- a read that is not refused before the room is looked at
     pub released-iff : (out : List ℕ) → readNumber state (length store) slot terminal (length out) ≡ 0
         → (readOutcome state store slot terminal (length out)
-        ≡ record { answer = cond (eqb (unsent (length a) accepted) 0) Done (Lacking (unsent (length a) accepted)); state = state })
-        × (readOutput state store slot terminal out ≡ cond (eqb (unsent (length a) accepted) 0) (a ++ drop (length a) out) out)
+        ≡ record { answer = cond (eqb (unsent soft (length a) accepted) 0) Done (Lacking (unsent soft (length a) accepted)); state = state })
+        × (readOutput state store slot terminal out ≡ cond (eqb (unsent soft (length a) accepted) 0) (a ++ drop (length a) out) out)
     released-iff out came =
         let w = reads state (length store) slot terminal (length out) came in
         let held = rw size-is at (kept (w .sound) (w .long) (w .below) (w .opened)) in (
@@ -92,12 +95,12 @@ module _ (S M : ℕ) (store₀ : List ℕ) (h : History) (past : List ℕ) (slot
         )
 
     -- one more true transmission, accepted
-    pub received-count : (x : Reception) → True a x → receiveNumber state (length store) slot terminal (x .Q) (x .N) (x .version) (x .bits) ≡ 0
+    pub received-count : (x : Reception) → True soft a x → receiveNumber state (length store) slot terminal (x .Q) (x .N) (x .version) (x .bits) ≡ 0
         → receiveOutcome state slot terminal (x .Q) (x .N) (x .version) (x .bits) store
-        ≡ record { answer = Heard (unsent (length a) (x ∷ accepted)); state = state }
+        ≡ record { answer = Heard (unsent soft (length a) (x ∷ accepted)); state = state }
     received-count x true-one came =
         let w = receives state (length store) slot terminal (x .Q) (x .N) (x .version) (x .bits) came in
         let small = in-range (length a) (rw size-is at (open-size state (w .sound) slot (w .below) (w .opened) .0)) .1 in
         receive-any state store slot terminal accepted given (kept (w .sound) (w .long) (w .below) (w .opened)) x came
         ∙ ap (λ (n : ℕ). record { answer = Heard n; state = state })
-        (ap (λ (A : ℕ). undecided A (x ∷ accepted)) size-is ∙ true-undecided a small bits (x ∷ accepted) (true-one, true-all))
+        (ap (λ (A : ℕ). undecided soft A (x ∷ accepted)) size-is ∙ true-undecided soft a small bits (x ∷ accepted) (true-one, true-all))

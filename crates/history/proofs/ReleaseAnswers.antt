@@ -15,7 +15,9 @@ use Rattle.slots.specs.declared.Outcome.{Outcome}
 use Rattle.slots.specs.declared.State.{State}
 use Rattle.slots.specs.Reading.{firstWrong, someWrong, wrongCheck, heardAnswer, heardBlock}
 use Rattle.slots.specs.Answers.{Lacking, WrongBlock, isDone}
-use Rattle.slots.specs.Calls.{sizeAtHead, readNumber, readOutcome, released, readOutput}
+use Rattle.slots.specs.Calls.{sizeAtHead, shareAtHead, readNumber, readOutcome, released, readOutput}
+use Rattle.slots.proofs.Buffers.{Wide}
+use Rattle.slots.proofs.Accepted.{good}
 use Rattle.slots.proofs.HeadLaws.{open-size}
 use Rattle.slots.proofs.Acceptance.{reads}
 use Rattle.history.specs.Calls.{Reception}
@@ -27,36 +29,44 @@ use Rattle.history.proofs.ReleaseSequence.{right-blocks, right-check, t
 
 -- a slot that is open for a block of as many bits as a has, and in its room true transmissions of a have met
 module _ (state : State) (store : List ℕ) (slot terminal : ℕ) (a : List ℕ) (bits : AreBits a) (size-is : sizeAtHead state slot ≡ length a)
-    (xs : List Reception) (given : AllBits xs) (true-all : AllTrue a xs) (kept : HoldsMet (state .blocks) slot (length a) xs store) where
+    (xs : List Reception) (given : AllBits xs) (true-all : AllTrue (shareAtHead state slot) a xs) (kept : HoldsMet (shareAtHead state slot) (state .blocks) slot (length a) xs store) where
+  abbrev soft : ℕ
+  soft = shareAtHead state slot
+
   module _ (size : ℕ) (came : readNumber state (length store) slot terminal size ≡ 0) where
     admitted : badSize (length a) ≡ false
     admitted =
         let w = reads state (length store) slot terminal size came in
         rw size-is at (open-size state (w .sound) slot (w .below) (w .opened) .0)
 
+    wide : Wide soft (length a + 24)
+    wide =
+        let w = reads state (length store) slot terminal size came in
+        rw size-is at (good state (w .sound) .wide slot (w .below) (w .opened))
+
     -- what the room tells: the count of what is unsent, and where nothing is all checks are right
-    room-answer : heardAnswer (state .blocks) slot (length a) store ≡ cond (eqb (unsent (length a) xs) 0) Done (Lacking (unsent (length a) xs))
+    room-answer : heardAnswer (state .blocks) slot (length a) store ≡ cond (eqb (unsent soft (length a) xs) 0) Done (Lacking (unsent soft (length a) xs))
     unfolding heardAnswer
     room-answer =
-        ap (λ (n : ℕ). cond (eqb n 0) heard (Lacking n)) (count a admitted bits xs true-all (state .blocks) slot store kept given)
-        ∙ go (eqb (unsent (length a) xs) 0) refl
+        ap (λ (n : ℕ). cond (eqb n 0) heard (Lacking n)) (count soft a admitted bits xs true-all wide (state .blocks) slot store kept given)
+        ∙ go (eqb (unsent soft (length a) xs) 0) refl
       where
         heard : Answer
         heard =
             cond (someWrong (state .blocks) slot (length a) store) (WrongBlock (firstWrong (state .blocks) slot (length a) store))
             (cond (wrongCheck (state .blocks) slot (length a) store) (Refused 12) Done)
 
-        go : (t : Bool) → eqb (unsent (length a) xs) 0 ≡ t → cond t heard (Lacking (unsent (length a) xs)) ≡ cond t Done (Lacking (unsent (length a) xs))
+        go : (t : Bool) → eqb (unsent soft (length a) xs) 0 ≡ t → cond t heard (Lacking (unsent soft (length a) xs)) ≡ cond t Done (Lacking (unsent soft (length a) xs))
         go true e =
-            let none : unsent (length a) xs ≡ 0 = eqb-true (unsent (length a) xs) 0 e in
+            let none : unsent soft (length a) xs ≡ 0 = eqb-true (unsent soft (length a) xs) 0 e in
             ap₂ (λ (b w : Bool). cond b (WrongBlock (firstWrong (state .blocks) slot (length a) store)) (cond w (Refused 12) Done))
-            (right-blocks a admitted bits xs true-all (state .blocks) slot store kept none)
-            (right-check a admitted bits xs true-all (state .blocks) slot store kept none)
+            (right-blocks soft a admitted bits xs true-all wide (state .blocks) slot store kept none)
+            (right-check soft a admitted bits xs true-all wide (state .blocks) slot store kept none)
         go false e = refl
 
     -- Read answers Done exactly when nothing is unsent, and else the count
     pub read-answer : readOutcome state store slot terminal size
-        ≡ record { answer = cond (eqb (unsent (length a) xs) 0) Done (Lacking (unsent (length a) xs)); state = state }
+        ≡ record { answer = cond (eqb (unsent soft (length a) xs) 0) Done (Lacking (unsent soft (length a) xs)); state = state }
     unfolding readOutcome
     read-answer =
         accepted-is (readNumber state (length store) slot terminal size) state _ came
@@ -64,18 +74,18 @@ module _ (state : State) (store : List ℕ) (slot terminal : ℕ) (a : List ℕ)
 
   -- the output has the block in front exactly when nothing is unsent, and else is as it was
   pub read-output : (out : List ℕ) → readNumber state (length store) slot terminal (length out) ≡ 0
-      → readOutput state store slot terminal out ≡ cond (eqb (unsent (length a) xs) 0) (a ++ drop (length a) out) out
+      → readOutput state store slot terminal out ≡ cond (eqb (unsent soft (length a) xs) 0) (a ++ drop (length a) out) out
   unfolding readOutput released isDone
   read-output out came =
       ap (λ (o : Outcome). cond (isDone (o .answer)) (heardBlock (state .blocks) slot (sizeAtHead state slot) store ++ drop (sizeAtHead state slot) out) out)
       (read-answer (length out) came)
-      ∙ output (eqb (unsent (length a) xs) 0) refl
+      ∙ output (eqb (unsent soft (length a) xs) 0) refl
     where
-      block : unsent (length a) xs ≡ 0 → heardBlock (state .blocks) slot (sizeAtHead state slot) store ≡ a
-      block e = rw size-is (true-block a (admitted (length out) came) bits xs true-all (state .blocks) slot store kept e)
+      block : unsent soft (length a) xs ≡ 0 → heardBlock (state .blocks) slot (sizeAtHead state slot) store ≡ a
+      block e = rw size-is (true-block soft a (admitted (length out) came) bits xs true-all (wide (length out) came) (state .blocks) slot store kept e)
 
-      output : (t : Bool) → eqb (unsent (length a) xs) 0 ≡ t
-          → cond (isDone (cond t Done (Lacking (unsent (length a) xs)))) (heardBlock (state .blocks) slot (sizeAtHead state slot) store ++ drop (sizeAtHead state slot) out) out
+      output : (t : Bool) → eqb (unsent soft (length a) xs) 0 ≡ t
+          → cond (isDone (cond t Done (Lacking (unsent soft (length a) xs)))) (heardBlock (state .blocks) slot (sizeAtHead state slot) store ++ drop (sizeAtHead state slot) out) out
           ≡ cond t (a ++ drop (length a) out) out
-      output true e = ap₂ (λ (l : List ℕ) (n : ℕ). l ++ drop n out) (block (eqb-true (unsent (length a) xs) 0 e)) size-is
+      output true e = ap₂ (λ (l : List ℕ) (n : ℕ). l ++ drop n out) (block (eqb-true (unsent soft (length a) xs) 0 e)) size-is
       output false e = refl

@@ -3,80 +3,96 @@
 use mathlib.Core.Path.{_≡_, _∙_, ap}
 use mathlib.Core.Bool.{false, cond}
 use mathlib.Core.List.{List}
-use Prim.Native.Nat.{ℕ, _+_, _-_, _≤_, _<_}
+use Prim.Native.Nat.{ℕ, _+_, _-_, _*_, _≤_, _<_}
 use native.Mathlib.Omega.{arith}
 use lib.Dec.{lit<}
 use lib.ListN.{length, getD}
+use lib.Seq.{getD-take}
 use Rattle.segmentation.specs.Segmentation.{blocks, sizeOf, fillerOf}
 use Rattle.segmentation.specs.Sizes.{badSize}
 use Rattle.segmentation.specs.CodeBlocks.{withCheck, codeBlock}
 use Rattle.segmentation.proofs.Segmentation.{in-range}
 use Rattle.laws.specs.Bits.{AreBits}
+use Rattle.rate_matching.specs.SubBlocks.{rows}
 use Rattle.rate_matching.specs.Places.{placeNumber}
+use Rattle.rate_matching.specs.Walk.{onCircle}
+use Rattle.rate_matching.proofs.ShapeCount.{data-lt}
+use Rattle.codeword.specs.Codeword.{blockCircle, blockCut}
 use Rattle.codeword.proofs.Data.{withCheck-bits, data-place}
 use Rattle.codeword.proofs.Taken.{length-withCheck}
 use Rattle.slots.specs.State.{perBlock}
 use Rattle.slots.specs.Room.{unheard, heard, byteOf}
 use Rattle.slots.specs.Reading.{keptAt, lacks, lackingIn, lacking}
-use Rattle.slots.proofs.PlaceBounds.{place-below}
+use Rattle.slots.proofs.Buffers.{Wide}
+use Rattle.slots.proofs.PlaceBounds.{filler-fewer, block-cut, place-below}
 use Rattle.slots.proofs.Sums.{sumFrom-ext}
 use Rattle.history.specs.Calls.{Reception}
 use Rattle.history.specs.Accepted.{arrivals}
 use Rattle.history.specs.Agreed.{holding}
 use Rattle.history.specs.Sent.{AllTrue, sent, arrivalsAt, missing, dataWithoutIn, dataWithout, unsent, undecided}
 use Rattle.history.proofs.Arrived.{met, met-is, holding-heard, AllBits, arrived-bits}
-use Rattle.history.proofs.ReleaseTrue.{true-bit, true-decided}
+use Rattle.history.proofs.ReleaseTrue.{cutCircle, true-bit, true-decided}
 
 -- in the room of a slot the bits of the receptions for a block of A bits have met
-abbrev pub HoldsMet : ℕ → ℕ → ℕ → List Reception → List ℕ → Type 0
-HoldsMet M slot A xs store = (r j : ℕ) → r < blocks (A + 24) → j < perBlock → getD store (byteOf M slot r j) 0 ≡ met unheard (arrivals A xs r j)
+abbrev pub HoldsMet : ℕ → ℕ → ℕ → ℕ → List Reception → List ℕ → Type 0
+HoldsMet soft M slot A xs store = (r j : ℕ) → r < blocks (A + 24) → j < perBlock → getD store (byteOf M slot r j) 0 ≡ met unheard (arrivals soft A xs r j)
 
 -- ---- any receptions
 
-module _ (A : ℕ) (admitted : badSize A ≡ false) (xs : List Reception) (given : AllBits xs) (M slot : ℕ) (store : List ℕ) (kept : HoldsMet M slot A xs store) where
+module _ (soft A : ℕ) (admitted : badSize A ≡ false) (xs : List Reception) (given : AllBits xs) (M slot : ℕ) (store : List ℕ) (kept : HoldsMet soft M slot A xs store) where
   -- a data place keeps what its bits say together
   pub kept-holding : (r i : ℕ) → r < blocks (A + 24) → i < sizeOf (A + 24) r
-      → keptAt M slot (A + 24) store r 0 i ≡ holding (arrivalsAt A xs r i)
+      → keptAt M slot (A + 24) store r 0 i ≡ holding (arrivalsAt soft A xs r i)
   unfolding keptAt
   kept-holding r i h m =
       let j : ℕ = placeNumber (sizeOf (A + 24) r + 4) 0 i in
-      kept r j h (place-below A admitted r 0 i (lit< tt) (omega arith)) ∙ met-is (arrivals A xs r j) (arrived-bits A xs r j given)
+      kept r j h (place-below A admitted r 0 i (lit< tt) (omega arith)) ∙ met-is (arrivals soft A xs r j) (arrived-bits soft A xs r j given)
 
   -- the count of data places that lack a bit is that of data places undecided
-  pub count-any : lacking M slot A store ≡ undecided A xs
+  pub count-any : lacking M slot A store ≡ undecided soft A xs
   unfolding lacking lackingIn lacks undecided dataWithout dataWithoutIn
   count-any =
       sumFrom-ext _ _ 0 (blocks (A + 24))
       (λ r g h. sumFrom-ext _ _ (fillerOf (A + 24) r) (sizeOf (A + 24) r - fillerOf (A + 24) r)
       (λ i l m. ap missing
       (ap heard (kept-holding r i (omega arith) (omega arith))
-      ∙ holding-heard (arrivalsAt A xs r i) (arrived-bits A xs r (placeNumber (sizeOf (A + 24) r + 4) 0 i) given))))
+      ∙ holding-heard (arrivalsAt soft A xs r i) (arrived-bits soft A xs r (placeNumber (sizeOf (A + 24) r + 4) 0 i) given))))
 
 -- ---- true transmissions
 
 -- undecided are those not sent
-pub true-undecided : (a : List ℕ) → length a ≤ 30576 → AreBits a → (xs : List Reception) → AllTrue a xs → undecided (length a) xs ≡ unsent (length a) xs
+pub true-undecided : (soft : ℕ) (a : List ℕ) → length a ≤ 30576 → AreBits a → (xs : List Reception) → AllTrue soft a xs → undecided soft (length a) xs ≡ unsent soft (length a) xs
 unfolding undecided unsent dataWithout dataWithoutIn
-true-undecided a small bits xs true-all =
+true-undecided soft a small bits xs true-all =
     sumFrom-ext _ _ 0 (blocks (length a + 24))
     (λ r g h. sumFrom-ext _ _ (fillerOf (length a + 24) r) (sizeOf (length a + 24) r - fillerOf (length a + 24) r)
-    (λ i l m. ap missing (true-decided a small bits xs true-all r (placeNumber (sizeOf (length a + 24) r + 4) 0 i) (omega arith))))
+    (λ i l m. ap missing (true-decided soft a small bits xs true-all r (placeNumber (sizeOf (length a + 24) r + 4) 0 i) (omega arith))))
 
-module _ (a : List ℕ) (admitted : badSize (length a) ≡ false) (bits : AreBits a) (xs : List Reception) (true-all : AllTrue a xs)
-    (M slot : ℕ) (store : List ℕ) (kept : HoldsMet M slot (length a) xs store) where
+module _ (soft : ℕ) (a : List ℕ) (admitted : badSize (length a) ≡ false) (bits : AreBits a) (xs : List Reception) (true-all : AllTrue soft a xs) (wide : Wide soft (length a + 24))
+    (M slot : ℕ) (store : List ℕ) (kept : HoldsMet soft M slot (length a) xs store) where
+  -- a data place lies before the cut
+  before-cut : (r i : ℕ) → r < blocks (length a + 24) → fillerOf (length a + 24) r ≤ i → i < sizeOf (length a + 24) r
+      → onCircle (cutCircle soft (withCheck a) r) (placeNumber (sizeOf (length a + 24) r + 4) 0 i) ≡ onCircle (blockCircle (withCheck a) r) (placeNumber (sizeOf (length a + 24) r + 4) 0 i)
+  unfolding onCircle
+  before-cut r i h l m =
+      let third : placeNumber (sizeOf (length a + 24) r + 4) 0 i < 32 * rows (sizeOf (length a + 24) r + 4) =
+      data-lt (sizeOf (length a + 24) r + 4) (fillerOf (length a + 24) r) (omega (arith, filler-fewer (length a) admitted r)) i l (omega arith) in
+      getD-take (blockCut soft (length (withCheck a)) r) (blockCircle (withCheck a) r) _ 0 (rw (length-withCheck a) (omega (arith, third, block-cut (length a) admitted wide r .least)))
+
   -- a data place keeps the code block's own bit where it was sent
   pub kept-data : (r i : ℕ) → r < blocks (length a + 24) → fillerOf (length a + 24) r ≤ i → i < sizeOf (length a + 24) r
       → keptAt M slot (length a + 24) store r 0 i
-      ≡ cond (sent (length a) xs r (placeNumber (sizeOf (length a + 24) r + 4) 0 i)) (getD (codeBlock (withCheck a) r) i 0) unheard
+      ≡ cond (sent soft (length a) xs r (placeNumber (sizeOf (length a + 24) r + 4) 0 i)) (getD (codeBlock (withCheck a) r) i 0) unheard
   unfolding keptAt
   kept-data r i h l m =
       let range = in-range (length a) admitted in
       let j : ℕ = placeNumber (sizeOf (length a + 24) r + 4) 0 i in
       kept r j h (place-below (length a) admitted r 0 i (lit< tt) (omega arith))
-      ∙ true-bit a (range .1) bits xs true-all r j h
-      ∙ ap (λ (x : ℕ). cond (sent (length a) xs r j) x unheard)
-      (data-place (length a + 24) (omega arith) (omega arith) (withCheck a) (length-withCheck a) r h (withCheck-bits a bits) i l m)
+      ∙ true-bit soft a (range .1) bits xs true-all r j h
+      ∙ ap (λ (x : ℕ). cond (sent soft (length a) xs r j) x unheard)
+      (before-cut r i h l m
+      ∙ data-place (length a + 24) (omega arith) (omega arith) (withCheck a) (length-withCheck a) r h (withCheck-bits a bits) i l m)
 
   -- the count of data places that lack a bit is that of data places not sent
-  pub count : AllBits xs → lacking M slot (length a) store ≡ unsent (length a) xs
-  count given = count-any (length a) admitted xs given M slot store kept ∙ true-undecided a (in-range (length a) admitted .1) bits xs true-all
+  pub count : AllBits xs → lacking M slot (length a) store ≡ unsent soft (length a) xs
+  count given = count-any soft (length a) admitted xs given M slot store kept ∙ true-undecided soft a (in-range (length a) admitted .1) bits xs true-all

@@ -23,6 +23,7 @@ use Rattle.codeword.proofs.Data.{filler-over, carries}
 use Rattle.codeword.proofs.Taken.{length-withCheck}
 use Rattle.slots.specs.Room.{unheard}
 use Rattle.slots.specs.Reading.{keptAt, firstWrong, someWrong, heardIn, heardFrom, heardSequence, wrongCheck, heardBlock}
+use Rattle.slots.proofs.Buffers.{Wide}
 use Rattle.history.specs.Calls.{Reception}
 use Rattle.history.specs.Sent.{AllTrue, unsent}
 use Rattle.history.proofs.DataPlaces.{none-unsent}
@@ -84,14 +85,14 @@ module _ (B : ℕ) (low : 24 ≤ B) (high : B ≤ 30600) (b : List ℕ) (long : 
 
 -- ---- the room
 
-module _ (a : List ℕ) (admitted : badSize (length a) ≡ false) (bits : AreBits a) (xs : List Reception) (true-all : AllTrue a xs)
-    (M slot : ℕ) (store : List ℕ) (kept : HoldsMet M slot (length a) xs store) (all : unsent (length a) xs ≡ 0) where
+module _ (soft : ℕ) (a : List ℕ) (admitted : badSize (length a) ≡ false) (bits : AreBits a) (xs : List Reception) (true-all : AllTrue soft a xs) (wide : Wide soft (length a + 24))
+    (M slot : ℕ) (store : List ℕ) (kept : HoldsMet soft M slot (length a) xs store) (all : unsent soft (length a) xs ≡ 0) where
   -- each data place holds the code block's bit
   held : (r i : ℕ) → r < blocks (length a + 24) → fillerOf (length a + 24) r ≤ i → i < sizeOf (length a + 24) r
       → keptAt M slot (length a + 24) store r 0 i ≡ getD (codeBlock (withCheck a) r) i 0
   held r i h l m =
-      kept-data a admitted bits xs true-all M slot store kept r i h l m
-      ∙ ap (λ (s : Bool). cond s (getD (codeBlock (withCheck a) r) i 0) unheard) (none-unsent (length a) xs all r i (record { block = h; past-filler = l; below-size = m }))
+      kept-data soft a admitted bits xs true-all wide M slot store kept r i h l m
+      ∙ ap (λ (s : Bool). cond s (getD (codeBlock (withCheck a) r) i 0) unheard) (none-unsent soft (length a) xs all r i (record { block = h; past-filler = l; below-size = m }))
 
   -- what is heard is the block with its transport check
   pub sequence : heardSequence M slot (length a) store ≡ withCheck a

@@ -6,19 +6,17 @@ use mathlib.Core.List.{List, [], _∷_, _++_, map}
 use Prim.Native.Nat.{ℕ, suc, _+_, _-_, _≤_, _<_}
 use native.Mathlib.Omega.{arith}
 use lib.Dec.{eqb}
-use lib.ListN.{length, drop}
+use lib.ListN.{length, take, drop}
 use borrow.Author.Tests.{eqb-true, eq-eqb}
 use Rattle.segmentation.specs.Segmentation.{blocks, sizeOf, fillerOf}
 use Rattle.segmentation.specs.CodeBlocks.{withCheck}
 use Rattle.segmentation.proofs.CodeBlocks.{filler-within}
 use Rattle.laws.specs.Bits.{AreBits}
-use Rattle.rate_matching.specs.Circle.{startOf}
-use Rattle.rate_matching.specs.SoftBuffer.{wholeShare}
+use Rattle.rate_matching.specs.Circle.{startIn}
 use Rattle.rate_matching.specs.Walk.{onCircle, selected}
-use Rattle.rate_matching.proofs.Alike.{shape-filled, same-sent}
+use Rattle.rate_matching.proofs.Alike.{shape-filled, same-cut}
 use Rattle.codeword.specs.Shares.{share, sharesBefore}
-use Rattle.codeword.specs.Codeword.{blockCircle, blockRows, blockBits, bitsFrom, codeword}
-use Rattle.codeword.proofs.Uplink.{uplink-sent}
+use Rattle.codeword.specs.Codeword.{blockCircle, blockRows, blockCut, sentBits, blockBits, bitsFrom}
 use Rattle.codeword.proofs.Data.{withCheck-bits, block-filled}
 use Rattle.codeword.proofs.Taken.{length-withCheck, stretch-is}
 use Rattle.slots.specs.Room.{unheard}
@@ -32,20 +30,19 @@ use Rattle.history.proofs.Arrived.{met, all-append, all-met, all-decide
 
 -- ---- the places of a transmission, from the sizes alone
 
-module _ (b : List ℕ) (B : ℕ) (low : 24 ≤ B) (high : B ≤ 30600) (long : length b ≡ B) (bits : AreBits b) where
-  -- what the whole circle sends are the bits at the places that a reception of it fills
-  whole-bits : (Q N v G r : ℕ) → r < blocks B
-      → selected (blockCircle b r) (startOf (blockRows B r) v) (share (blocks B) Q N G r) ≡ map (onCircle (blockCircle b r)) (blockPlaces B Q N v G r)
-  unfolding selected blockPlaces shape blockCircle
-  whole-bits Q N v G r h =
+-- the circle of code block r of the sequence b, cut where a share `soft` of the soft buffer ends
+abbrev pub cutCircle : ℕ → List ℕ → ℕ → List ℕ
+cutCircle soft b r = take (blockCut soft (length b) r) (blockCircle b r)
+
+module _ (soft : ℕ) (b : List ℕ) (B : ℕ) (low : 24 ≤ B) (high : B ≤ 30600) (long : length b ≡ B) (bits : AreBits b) where
+  -- what code block r sends are the bits at the places that a reception of it fills
+  pub block-bits : (Q N v G r : ℕ) → r < blocks B → blockBits soft b Q N v G r ≡ map (onCircle (cutCircle soft b r)) (blockPlaces soft B Q N v G r)
+  unfolding blockBits sentBits selected blockPlaces shape blockCircle
+  block-bits Q N v G r h =
       rw long
       (ap (map _)
-      (same-sent (block-filled B low high b long r h bits) (shape-filled (sizeOf B r + 4) (fillerOf B r) (omega (arith, filler-within B high low r)))
-      (startOf (blockRows B r) v) (share (blocks B) Q N G r)))
-
-  -- and they are the bits of code block r, as an uplink's circle is not cut
-  pub block-bits : (Q N v G r : ℕ) → r < blocks B → blockBits wholeShare b Q N v G r ≡ map (onCircle (blockCircle b r)) (blockPlaces B Q N v G r)
-  block-bits Q N v G r h = uplink-sent b B low high long bits r h Q N v G ∙ whole-bits Q N v G r h
+      (same-cut (block-filled B low high b long r h bits) (shape-filled (sizeOf B r + 4) (fillerOf B r) (omega (arith, filler-within B high low r)))
+      (blockCut soft B r) (startIn (blockCut soft B r) (blockRows B r) v) (share (blocks B) Q N G r)))
 
 -- ---- the bits of true transmissions
 
@@ -60,41 +57,40 @@ all-of-rule f (p ∷ ps) rest j = go (eqb p j) refl (all-of-rule f ps rest j)
     go true e all = ap₂ _&&_ (eq-eqb (f p) (f j) (ap f (eqb-true p j e))) all
     go false e all = all
 
-module _ (a : List ℕ) (small : length a ≤ 30576) (bits : AreBits a) where
+module _ (soft : ℕ) (a : List ℕ) (small : length a ≤ 30576) (bits : AreBits a) where
   -- the bits that a true transmission brings for code block r, and what follows them
-  brings : (x : Reception) → True a x → (r : ℕ) → r < blocks (length a + 24)
+  brings : (x : Reception) → True soft a x → (r : ℕ) → r < blocks (length a + 24)
       → drop (sharesBefore (blocks (length a + 24)) (x .Q) (x .N) (length (x .bits)) r) (x .bits)
-      ≡ map (onCircle (blockCircle (withCheck a) r)) (blockPlaces (length a + 24) (x .Q) (x .N) (x .version) (length (x .bits)) r)
-      ++ bitsFrom wholeShare (withCheck a) (x .Q) (x .N) (x .version) (length (x .bits)) (suc r) (blocks (length a + 24) - suc r)
-  unfolding codeword
+      ≡ map (onCircle (cutCircle soft (withCheck a) r)) (blockPlaces soft (length a + 24) (x .Q) (x .N) (x .version) (length (x .bits)) r)
+      ++ bitsFrom soft (withCheck a) (x .Q) (x .N) (x .version) (length (x .bits)) (suc r) (blocks (length a + 24) - suc r)
   brings x t r h =
       let B : ℕ = length a + 24 in
       let G : ℕ = length (x .bits) in
       ap (drop (sharesBefore (blocks B) (x .Q) (x .N) G r)) t
-      ∙ stretch-is wholeShare a (x .Q) (x .N) (x .version) G r h
-      ∙ ap (λ (l : List ℕ). l ++ bitsFrom wholeShare (withCheck a) (x .Q) (x .N) (x .version) G (suc r) (blocks B - suc r))
-      (block-bits (withCheck a) B (omega arith) (omega arith) (length-withCheck a) (withCheck-bits a bits) (x .Q) (x .N) (x .version) G r h)
+      ∙ stretch-is soft a (x .Q) (x .N) (x .version) G r h
+      ∙ ap (λ (l : List ℕ). l ++ bitsFrom soft (withCheck a) (x .Q) (x .N) (x .version) G (suc r) (blocks B - suc r))
+      (block-bits soft (withCheck a) B (omega arith) (omega arith) (length-withCheck a) (withCheck-bits a bits) (x .Q) (x .N) (x .version) G r h)
 
   -- true transmissions never contradict each other: all that they bring for a place is the block's own bit there
-  true-bits : (xs : List Reception) → AllTrue a xs → (r j : ℕ) → r < blocks (length a + 24)
-      → allAre (onCircle (blockCircle (withCheck a) r) j) (arrivals (length a) xs r j) ≡ true
+  true-bits : (xs : List Reception) → AllTrue soft a xs → (r j : ℕ) → r < blocks (length a + 24)
+      → allAre (onCircle (cutCircle soft (withCheck a) r) j) (arrivals soft (length a) xs r j) ≡ true
   unfolding arrivals allAre
   true-bits [] t r j h = refl
   true-bits (x ∷ xs) t r j h =
-      let ps : List ℕ = blockPlaces (length a + 24) (x .Q) (x .N) (x .version) (length (x .bits)) r in
-      let f : ℕ → ℕ = onCircle (blockCircle (withCheck a) r) in
-      all-append (f j) (arrivals (length a) xs r j) _ (true-bits xs (t .1) r j h)
+      let ps : List ℕ = blockPlaces soft (length a + 24) (x .Q) (x .N) (x .version) (length (x .bits)) r in
+      let f : ℕ → ℕ = onCircle (cutCircle soft (withCheck a) r) in
+      all-append (f j) (arrivals soft (length a) xs r j) _ (true-bits xs (t .1) r j h)
       (ap (λ (l : List ℕ). allAre (f j) (arriving ps l j)) (brings x (t .0) r h) ∙ all-of-rule f ps _ j)
 
   -- so a place keeps that bit if it was sent
-  pub true-bit : (xs : List Reception) → AllTrue a xs → (r j : ℕ) → r < blocks (length a + 24)
-      → met unheard (arrivals (length a) xs r j) ≡ cond (sent (length a) xs r j) (onCircle (blockCircle (withCheck a) r) j) unheard
+  pub true-bit : (xs : List Reception) → AllTrue soft a xs → (r j : ℕ) → r < blocks (length a + 24)
+      → met unheard (arrivals soft (length a) xs r j) ≡ cond (sent soft (length a) xs r j) (onCircle (cutCircle soft (withCheck a) r) j) unheard
   true-bit xs t r j h =
-      all-met (onCircle (blockCircle (withCheck a) r) j) (arrivals (length a) xs r j) (true-bits xs t r j h)
-      ∙ ap (λ (b : Bool). cond b (onCircle (blockCircle (withCheck a) r) j) unheard) (came-sent (length a) xs r j)
+      all-met (onCircle (cutCircle soft (withCheck a) r) j) (arrivals soft (length a) xs r j) (true-bits xs t r j h)
+      ∙ ap (λ (b : Bool). cond b (onCircle (cutCircle soft (withCheck a) r) j) unheard) (came-sent soft (length a) xs r j)
 
   -- and is decided exactly then
-  pub true-decided : (xs : List Reception) → AllTrue a xs → (r j : ℕ) → r < blocks (length a + 24)
-      → decided (arrivals (length a) xs r j) ≡ sent (length a) xs r j
+  pub true-decided : (xs : List Reception) → AllTrue soft a xs → (r j : ℕ) → r < blocks (length a + 24)
+      → decided (arrivals soft (length a) xs r j) ≡ sent soft (length a) xs r j
   true-decided xs t r j h =
-      all-decided (onCircle (blockCircle (withCheck a) r) j) (arrivals (length a) xs r j) (true-bits xs t r j h) ∙ came-sent (length a) xs r j
+      all-decided (onCircle (cutCircle soft (withCheck a) r) j) (arrivals soft (length a) xs r j) (true-bits xs t r j h) ∙ came-sent soft (length a) xs r j

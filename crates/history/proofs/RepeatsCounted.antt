@@ -46,7 +46,7 @@ module _ (such : Reception → Type 0) where
   still-some : (state : State) (room slot : ℕ) (call : Call) (xs : List Reception) → restarts state room slot call ≡ false → Some such xs
       → Some such (sinceCall state room slot call xs)
   unfolding sinceCall restarts
-  still-some state room slot (opening s terminal A) xs r w = rw r w
+  still-some state room slot (opening link s terminal A) xs r w = rw r w
   still-some state room slot (receiving s terminal x) xs r w = go (eqb s slot && eqb (receiveNumber state room s terminal (x .Q) (x .N) (x .version) (x .bits)) 0)
     where
       go : (b : Bool) → Some such (cond b (x ∷ xs) xs)

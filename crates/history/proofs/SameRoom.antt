@@ -52,23 +52,23 @@ module _ (M slot A : ℕ) (admitted : badSize A ≡ false) (fits : blocks (A + 2
   same-streams = SameKept.same-streams A M slot M slot store other same-kept
 
   -- what a reception leaves
-  pub same-received : (Q N v : ℕ) (bits : List ℕ) → AllPlaces (A + 24) Q N v (length bits)
+  pub same-received : (soft Q N v : ℕ) (bits : List ℕ) → AllPlaces soft (A + 24) Q N v (length bits)
       → roomStart M slot + roomLength M ≤ length store → roomStart M slot + roomLength M ≤ length other
-      → SameRoom M slot (received M slot A Q N v bits store) (received M slot A Q N v bits other)
-  same-received Q N v bits places long long′ =
-      by-place M slot (λ (at : ℕ). getD (received M slot A Q N v bits store) at 0 ≡ getD (received M slot A Q N v bits other) at 0) at-place
+      → SameRoom M slot (received soft M slot A Q N v bits store) (received soft M slot A Q N v bits other)
+  same-received soft Q N v bits places long long′ =
+      by-place M slot (λ (at : ℕ). getD (received soft M slot A Q N v bits store) at 0 ≡ getD (received soft M slot A Q N v bits other) at 0) at-place
     where
       at-place : (r j : ℕ) → r < M → j < perBlock
-          → getD (received M slot A Q N v bits store) (byteOf M slot r j) 0 ≡ getD (received M slot A Q N v bits other) (byteOf M slot r j) 0
+          → getD (received soft M slot A Q N v bits store) (byteOf M slot r j) 0 ≡ getD (received soft M slot A Q N v bits other) (byteOf M slot r j) 0
       at-place r j h l =
           let inside = byte-in-room M slot r j h l in
           elim (decLt r (blocks (A + 24))) [
             | yes g ↦
-                received-here M slot A Q N v bits store places r j g l (omega arith)
-                ∙ ap (brought (A + 24) Q N v bits r j) (same-byte r j h l)
-                ∙ sym (received-here M slot A Q N v bits other places r j g l (omega arith))
+                received-here soft M slot A Q N v bits store places r j g l (omega arith)
+                ∙ ap (brought soft (A + 24) Q N v bits r j) (same-byte r j h l)
+                ∙ sym (received-here soft M slot A Q N v bits other places r j g l (omega arith))
             | no g ↦
-                received-past M slot A Q N v bits store fits places r j (omega arith) l
+                received-past soft M slot A Q N v bits store fits places r j (omega arith) l
                 ∙ same-byte r j h l
-                ∙ sym (received-past M slot A Q N v bits other fits places r j (omega arith) l)
+                ∙ sym (received-past soft M slot A Q N v bits other fits places r j (omega arith) l)
           ]

@@ -13,51 +13,52 @@ use Rattle.slots.specs.declared.State.{State}
 use Rattle.slots.specs.declared.Answer.the-variants.{Refused}
 use Rattle.slots.specs.declared.Head.{Head}
 use Rattle.slots.specs.declared.Outcome.{Outcome}
-use Rattle.slots.specs.State.{storeLength, roomStart, roomLength, closedHead}
+use Rattle.slots.specs.State.{storeLength, roomStart, roomLength, closedHead, openHead}
 use Rattle.slots.specs.Room.{cleared}
 use Rattle.slots.specs.Reception.{received}
 use Rattle.slots.specs.Answers.{unlessRefused}
-use Rattle.slots.specs.Calls.{withHead, sizeAtHead, newOutcome, openNumber, openOutcome, openStore, receiveNumber, receiveOutcome, receiveStore, readOutcome, streamsOutcome, closeNumber, closeOutcome}
+use Rattle.slots.specs.Calls.{withHead, sizeAtHead, shareAtHead, newOutcome, receiveNumber, receiveOutcome, receiveStore, readOutcome, streamsOutcome, closeNumber, closeOutcome}
 use Rattle.slots.proofs.RoomLaws.{length-cleared, length-received}
-use Rattle.slots.proofs.Accepted.{openable}
+use Rattle.history.specs.Links.{Link, shareIn, openingNumber}
 use Rattle.history.specs.Calls.{Reception, Call, opening, receiving, reading, streaming, closing, Made, History}
 use Rattle.history.specs.Run.{World, lent, outcomeOf, storeAfterCall, step, begin, run}
 use Rattle.history.specs.Accepted.{lentLength, headsAfterCall, headsAfter}
+use Rattle.history.proofs.Links.{opening-fits, opening-outcome, opening-store}
 
 -- ---- one call
 
 -- an accepted opening has the slot's room in its store
-pub room-lent : (state : State) (room slot A : ℕ) → openNumber state room slot A ≡ 0
+pub room-lent : (link : Link) (state : State) (room slot A : ℕ) → openingNumber link state room slot A ≡ 0
     → roomStart (state .blocks) slot + roomLength (state .blocks) ≤ room
-room-lent state room slot A e = openable state room slot A refl e .slot-stored .within
+room-lent link state room slot A e = opening-fits state room slot A link e .slot-stored .within
 
 -- the store after an opening and after a reception, by what the test of their number gives
-pub open-writes : (state : State) (store : List ℕ) (slot terminal A : ℕ) (b : Bool) → eqb (openNumber state (length store) slot A) 0 ≡ b
-    → storeAfterCall state store (opening slot terminal A) ≡ cond b (cleared (state .blocks) slot store) store
-unfolding storeAfterCall openStore
-open-writes state store slot terminal A b e = ap (λ (t : Bool). cond t (cleared (state .blocks) slot store) store) e
+pub open-writes : (link : Link) (state : State) (store : List ℕ) (slot terminal A : ℕ) (b : Bool) → eqb (openingNumber link state (length store) slot A) 0 ≡ b
+    → storeAfterCall state store (opening link slot terminal A) ≡ cond b (cleared (state .blocks) slot store) store
+unfolding storeAfterCall
+open-writes link state store slot terminal A b e = opening-store link state slot A store ∙ ap (λ (t : Bool). cond t (cleared (state .blocks) slot store) store) e
 
 pub receive-writes : (state : State) (store : List ℕ) (slot terminal : ℕ) (x : Reception) (b : Bool)
     → eqb (receiveNumber state (length store) slot terminal (x .Q) (x .N) (x .version) (x .bits)) 0 ≡ b
     → storeAfterCall state store (receiving slot terminal x)
-    ≡ cond b (received (state .blocks) slot (sizeAtHead state slot) (x .Q) (x .N) (x .version) (x .bits) store) store
+    ≡ cond b (received (shareAtHead state slot) (state .blocks) slot (sizeAtHead state slot) (x .Q) (x .N) (x .version) (x .bits) store) store
 unfolding storeAfterCall receiveStore
 receive-writes state store slot terminal x b e =
-    ap (λ (t : Bool). cond t (received (state .blocks) slot (sizeAtHead state slot) (x .Q) (x .N) (x .version) (x .bits) store) store) e
+    ap (λ (t : Bool). cond t (received (shareAtHead state slot) (state .blocks) slot (sizeAtHead state slot) (x .Q) (x .N) (x .version) (x .bits) store) store) e
 
 -- no call changes the length of the store
 pub length-after : (state : State) (store : List ℕ) (call : Call) → length (storeAfterCall state store call) ≡ length store
-unfolding storeAfterCall openStore receiveStore
-length-after state store (opening slot terminal A) = go (eqb (openNumber state (length store) slot A) 0) refl
+unfolding storeAfterCall receiveStore
+length-after state store (opening link slot terminal A) = ap length (opening-store link state slot A store) ∙ go (eqb (openingNumber link state (length store) slot A) 0) refl
   where
-    go : (b : Bool) → eqb (openNumber state (length store) slot A) 0 ≡ b → length (cond b (cleared (state .blocks) slot store) store) ≡ length store
-    go true e = length-cleared (state .blocks) slot store (room-lent state (length store) slot A (eqb-true _ _ e))
+    go : (b : Bool) → eqb (openingNumber link state (length store) slot A) 0 ≡ b → length (cond b (cleared (state .blocks) slot store) store) ≡ length store
+    go true e = length-cleared (state .blocks) slot store (room-lent link state (length store) slot A (eqb-true _ _ e))
     go false e = refl
 length-after state store (receiving slot terminal x) =
     go (eqb (receiveNumber state (length store) slot terminal (x .Q) (x .N) (x .version) (x .bits)) 0)
   where
-    go : (b : Bool) → length (cond b (received (state .blocks) slot (sizeAtHead state slot) (x .Q) (x .N) (x .version) (x .bits) store) store) ≡ length store
-    go true = length-received (state .blocks) slot (sizeAtHead state slot) (x .Q) (x .N) (x .version) (x .bits) store
+    go : (b : Bool) → length (cond b (received (shareAtHead state slot) (state .blocks) slot (sizeAtHead state slot) (x .Q) (x .N) (x .version) (x .bits) store) store) ≡ length store
+    go true = length-received (shareAtHead state slot) (state .blocks) slot (sizeAtHead state slot) (x .Q) (x .N) (x .version) (x .bits) store
     go false = refl
 length-after state store (reading slot terminal size) = refl
 length-after state store (streaming slot terminal block size) = refl
@@ -80,8 +81,9 @@ state-stays number state o e = state-of number state o ∙ go (eqb number 0)
 
 -- the state that a call returns follows from the state it was handed, the length of the store and the arguments
 pub state-after : (state : State) (store : List ℕ) (call : Call) → outcomeOf state store call .state ≡ headsAfterCall state (length store) call
-unfolding outcomeOf headsAfterCall openOutcome receiveOutcome readOutcome streamsOutcome closeOutcome
-state-after state store (opening slot terminal A) = state-of (openNumber state (length store) slot A) state _
+unfolding outcomeOf headsAfterCall receiveOutcome readOutcome streamsOutcome closeOutcome
+state-after state store (opening link slot terminal A) =
+    ap (λ (o : Outcome). o .state) (opening-outcome link state (length store) slot terminal A) ∙ state-of (openingNumber link state (length store) slot A) state _
 state-after state store (receiving slot terminal r) = state-stays _ state _ refl
 state-after state store (reading slot terminal size) = state-stays _ state _ refl
 state-after state store (streaming slot terminal block size) = state-stays _ state _ refl
@@ -105,7 +107,7 @@ shape-kept state room call = by call
     either false slot h = same
 
     by : (call : Call) → SameShape (headsAfterCall state room call) state
-    by (opening slot terminal A) = either (eqb (openNumber state room slot A) 0) slot (record { opened = true; terminal = terminal; size = A })
+    by (opening link slot terminal A) = either (eqb (openingNumber link state room slot A) 0) slot (openHead terminal A (shareIn link A))
     by (receiving slot terminal r) = same
     by (reading slot terminal size) = same
     by (streaming slot terminal block size) = same

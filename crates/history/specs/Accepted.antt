@@ -1,6 +1,6 @@
 -- 'Accepted', 'since that opening' and 'all bits accepted for it', demand 3 and 02 E2: from the calls and the length of the store alone, never from what a room holds.
 -- Assumes nothing.
-use mathlib.Core.Bool.{true, cond, _&&_}
+use mathlib.Core.Bool.{cond, _&&_}
 use mathlib.Core.List.{List, [], _∷_, _++_}
 use Prim.Native.Nat.{ℕ, _+_}
 use lib.Dec.{eqb, ltb}
@@ -8,9 +8,10 @@ use lib.ListN.{length, drop, getD}
 use Rattle.segmentation.specs.Segmentation.{blocks}
 use Rattle.codeword.specs.Shares.{sharesBefore}
 use Rattle.slots.specs.declared.State.{State}
-use Rattle.slots.specs.State.{storeLength, closedHead}
+use Rattle.slots.specs.State.{storeLength, closedHead, openHead}
 use Rattle.slots.specs.Reception.{blockPlaces}
-use Rattle.slots.specs.Calls.{withHead, newOutcome, openNumber, receiveNumber, closeNumber}
+use Rattle.slots.specs.Calls.{withHead, newOutcome, receiveNumber, closeNumber}
+use Rattle.history.specs.Links.{shareIn, openingNumber}
 use Rattle.history.specs.Calls.{Reception, Call, opening, receiving, reading, streaming, closing, History}
 
 -- the length of the store that a call is lent, where the rooms have n bytes
@@ -19,9 +20,9 @@ lentLength state n past = cond (ltb n (storeLength state)) n (n + length past)
 
 -- the state after a history, where the rooms have n bytes: an accepted opening sets the head, an accepted closing clears it
 unfoldable pub headsAfterCall : State → ℕ → Call → State
-headsAfterCall state room (opening slot terminal A) =
-    cond (eqb (openNumber state room slot A) 0)
-    (withHead state slot (record { opened = true; terminal = terminal; size = A }))
+headsAfterCall state room (opening link slot terminal A) =
+    cond (eqb (openingNumber link state room slot A) 0)
+    (withHead state slot (openHead terminal A (shareIn link A)))
     state
 headsAfterCall state room (receiving slot terminal r) = state
 headsAfterCall state room (reading slot terminal size) = state
@@ -36,8 +37,8 @@ headsAfter S M n (m ∷ h) =
 
 -- the accepted receptions of a slot since its last accepted opening or closing, latest first, after one more call
 unfoldable pub sinceCall : State → ℕ → ℕ → Call → List Reception → List Reception
-sinceCall state room slot (opening s terminal A) earlier =
-    cond (eqb s slot && eqb (openNumber state room s A) 0) [] earlier
+sinceCall state room slot (opening link s terminal A) earlier =
+    cond (eqb s slot && eqb (openingNumber link state room s A) 0) [] earlier
 sinceCall state room slot (receiving s terminal r) earlier =
     cond (eqb s slot && eqb (receiveNumber state room s terminal (r .Q) (r .N) (r .version) (r .bits)) 0) (r ∷ earlier) earlier
 sinceCall state room slot (reading s terminal size) earlier = earlier
@@ -56,12 +57,12 @@ arriving [] bits j = []
 arriving (p ∷ ps) bits j =
     cond (eqb p j) (getD bits 0 0 ∷ arriving ps (drop 1 bits) j) (arriving ps (drop 1 bits) j)
 
--- all bits that receptions for a block of A bits, latest first, brought for circle place j of code block r, in arrival order
-unfoldable pub arrivals : ℕ → List Reception → ℕ → ℕ → List ℕ
-arrivals A [] r j = []
-arrivals A (x ∷ xs) r j =
-    arrivals A xs r j
+-- all bits that receptions for a block of A bits, latest first, brought for circle place j of code block r, in arrival order, each code block having a share `soft` of the soft buffer
+unfoldable pub arrivals : ℕ → ℕ → List Reception → ℕ → ℕ → List ℕ
+arrivals soft A [] r j = []
+arrivals soft A (x ∷ xs) r j =
+    arrivals soft A xs r j
     ++ arriving
-    (blockPlaces (A + 24) (x .Q) (x .N) (x .version) (length (x .bits)) r)
+    (blockPlaces soft (A + 24) (x .Q) (x .N) (x .version) (length (x .bits)) r)
     (drop (sharesBefore (blocks (A + 24)) (x .Q) (x .N) (length (x .bits)) r) (x .bits))
     j

@@ -18,7 +18,7 @@ answerTo state store call = outcomeOf state store call .answer
 
 -- the slot that a call names
 unfoldable pub slotOf : Call → ℕ
-slotOf (opening slot terminal A) = slot
+slotOf (opening link slot terminal A) = slot
 slotOf (receiving slot terminal r) = slot
 slotOf (reading slot terminal size) = slot
 slotOf (streaming slot terminal block size) = slot

@@ -2,6 +2,7 @@
 -- Assumes nothing.
 use mathlib.Core.List.{List}
 use Prim.Native.Nat.{ℕ}
+use Rattle.history.specs.Links.{Link}
 
 -- what a car's reception brings: Q, N, the redundancy version and the bits
 pub record Reception : Type 0 where
@@ -10,9 +11,9 @@ pub record Reception : Type 0 where
   pub version : ℕ
   pub bits : List ℕ
 
--- a call of 01 with its arguments; the length of an output stands for the output
+-- a call of 01 with its arguments, Open for either link (02, E6); the length of an output stands for the output
 pub data Call : Type 0 where
-  opening : (slot terminal A : ℕ) → Call
+  opening : Link → (slot terminal A : ℕ) → Call
   receiving : (slot terminal : ℕ) → Reception → Call
   reading : (slot terminal size : ℕ) → Call
   streaming : (slot terminal block size : ℕ) → Call

@@ -11,10 +11,10 @@ use Rattle.history.specs.Calls.{Reception}
 use Rattle.history.specs.Accepted.{arrivals}
 use Rattle.history.specs.Agreed.{holding}
 
--- the room of a slot for M code blocks that is open for a block of A bits, after the receptions xs
-pub record Holds (M slot A : ℕ) (xs : List Reception) (rooms : List ℕ) : Type 0 where
+-- the room of a slot for M code blocks that is open for a block of A bits, each code block having a share `soft` of the soft buffer, after the receptions xs
+pub record Holds (soft M slot A : ℕ) (xs : List Reception) (rooms : List ℕ) : Type 0 where
   -- a place of one of its code blocks
   pub place : (r j : ℕ) → r < blocks (A + 24) → j < perBlock
-      → getD rooms (byteOf M slot r j) 0 ≡ holding (arrivals A xs r j)
+      → getD rooms (byteOf M slot r j) 0 ≡ holding (arrivals soft A xs r j)
   -- the rest of the room
   pub rest : (r j : ℕ) → blocks (A + 24) ≤ r → r < M → j < perBlock → getD rooms (byteOf M slot r j) 0 ≡ unheard

@@ -8,13 +8,14 @@ use lib.Dec.{eqb}
 use lib.ListN.{length}
 use Rattle.slots.specs.declared.State.{State}
 use Rattle.slots.specs.Answers.{Lacking}
-use Rattle.slots.specs.Calls.{openNumber, readOutcome, readOutput, closeNumber}
+use Rattle.slots.specs.Calls.{readOutcome, readOutput, closeNumber}
+use Rattle.history.specs.Links.{openingNumber}
 use Rattle.history.specs.Calls.{Reception, Call, opening, receiving, reading, streaming, closing, History}
 use Rattle.history.specs.Accepted.{lentLength, headsAfter, sinceCall}
 
 -- an accepted opening or closing of the slot
 unfoldable pub restarts : State → ℕ → ℕ → Call → Bool
-restarts state room slot (opening s terminal A) = eqb s slot && eqb (openNumber state room s A) 0
+restarts state room slot (opening link s terminal A) = eqb s slot && eqb (openingNumber link state room s A) 0
 restarts state room slot (receiving s terminal r) = false
 restarts state room slot (reading s terminal size) = false
 restarts state room slot (streaming s terminal block size) = false

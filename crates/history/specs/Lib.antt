@@ -1,3 +1,4 @@
+pub mod Links
 pub mod Calls
 pub mod Run
 pub mod Accepted

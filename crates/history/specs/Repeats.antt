@@ -1,11 +1,12 @@
--- Repeats that surely bring a block, request E8 of 02: what a reception gives the code blocks, and that one of the receptions gives so much.
+-- Repeats that surely bring a block, requests E8 and E6 of 02: what a reception gives the code blocks, and that one of the receptions gives so much.
 -- Assumes nothing.
 use mathlib.Core.Path.{_≡_}
 use mathlib.Core.Logic.{_⊎_}
 use mathlib.Core.List.{List, [], _∷_}
-use Prim.Native.Nat.{ℕ, _+_, _≤_}
+use Prim.Native.Nat.{ℕ, _+_, _*_, _≤_}
 use lib.ListN.{length}
 use Rattle.segmentation.specs.Segmentation.{blocks}
+use Rattle.codeword.specs.Codeword.{blockCut}
 use Rattle.planning.specs.Needs.{needOfThree, needOfOne, Gives}
 use Rattle.planning.specs.Worst.{leastOfThree, leastOfOne}
 use Rattle.history.specs.Calls.{Reception}
@@ -37,6 +38,14 @@ pub record PlannedRepeat (A v : ℕ) (x : Reception) : Type 0 where
 
 abbrev pub PlannedWhole : ℕ → Reception → Type 0
 PlannedWhole A x = leastOfOne A (x .Q) (x .N) ≤ length (x .bits)
+
+-- of any version, each code block having a share `soft` of the soft buffer: every code block has at least as many bits as its circle, cut, has places
+abbrev pub WholeTurn : ℕ → ℕ → Reception → Type 0
+WholeTurn soft A x = Gives (blockCut soft (A + 24)) (blocks (A + 24)) (x .Q) (x .N) (length (x .bits))
+
+-- a G that does it for a block of A bits with every share, Q and N
+unfoldable pub turnBits : ℕ → ℕ
+turnBits A = 18576 * blocks (A + 24)
 
 -- enough was heard: any one of these
 pub data Enough (A : ℕ) (xs : List Reception) : Type 0 where

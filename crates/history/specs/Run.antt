@@ -9,7 +9,8 @@ use lib.ListN.{length, take}
 use Rattle.slots.specs.declared.State.{State}
 use Rattle.slots.specs.declared.Outcome.{Outcome}
 use Rattle.slots.specs.State.{storeLength}
-use Rattle.slots.specs.Calls.{newOutcome, openOutcome, openStore, receiveOutcome, receiveStore, readOutcome, streamsOutcome, closeOutcome}
+use Rattle.slots.specs.Calls.{newOutcome, receiveOutcome, receiveStore, readOutcome, streamsOutcome, closeOutcome}
+use Rattle.history.specs.Links.{openingOutcome, openingStore}
 use Rattle.history.specs.Calls.{Reception, Call, opening, receiving, reading, streaming, closing, Made, History}
 
 -- the state, and the rooms: as much of the store as the state's rooms take
@@ -23,7 +24,7 @@ lent w past = cond (ltb (length (w .rooms)) (storeLength (w .state))) (w .rooms)
 
 -- the outcome of a call on a lent store
 unfoldable pub outcomeOf : State → List ℕ → Call → Outcome
-outcomeOf state store (opening slot terminal A) = openOutcome state (length store) slot terminal A
+outcomeOf state store (opening link slot terminal A) = openingOutcome link state (length store) slot terminal A
 outcomeOf state store (receiving slot terminal r) =
     receiveOutcome state slot terminal (r .Q) (r .N) (r .version) (r .bits) store
 outcomeOf state store (reading slot terminal size) = readOutcome state store slot terminal size
@@ -33,7 +34,7 @@ outcomeOf state store (closing slot terminal) = closeOutcome state slot terminal
 
 -- the store after a call: Read, Streams and Close do not write it
 unfoldable pub storeAfterCall : State → List ℕ → Call → List ℕ
-storeAfterCall state store (opening slot terminal A) = openStore state slot A store
+storeAfterCall state store (opening link slot terminal A) = openingStore link state slot A store
 storeAfterCall state store (receiving slot terminal r) =
     receiveStore state slot terminal (r .Q) (r .N) (r .version) (r .bits) store
 storeAfterCall state store (reading slot terminal size) = store

@@ -17,3 +17,4 @@ pub mod Cut
 pub mod MatcherBlock
 pub mod MatcherRing
 pub mod MatcherRest
+pub mod Turns

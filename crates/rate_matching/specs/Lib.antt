@@ -8,3 +8,4 @@ pub mod Places
 pub mod Shape
 pub mod Units
 pub mod Matcher
+pub mod Turns

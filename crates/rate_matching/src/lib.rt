@@ -1,6 +1,7 @@
 // Rate matching of clause 5.1.4.1: a place in a stream and a place on the circle are two types, crossed only by the mapping functions.
 mod mapping;
 mod matcher;
+mod shortened;
 pub mod table;
 
 pub use mapping::first_places;
@@ -9,6 +10,7 @@ pub use mapping::place_of;
 pub use mapping::rows_before;
 pub use matcher::rate_match;
 pub use matcher::turn_after_turn;
+pub use shortened::turn_of;
 
 // Which stream, 0 to 2, and the place in it, which runs to D.
 pub struct StreamPlace(pub usize, pub usize);
@@ -26,4 +28,12 @@ pub enum Held {
 pub enum Lies {
     At(CirclePlace),
     Nowhere,
+}
+
+// One turn of a circle by its 64 units, which are the 32 columns of stream 0 and the 32 of streams 1 and 2: from unit `start` to unit `whole`, then the
+// first `rest` bits of unit `whole`, which the cut shortens, then from unit 0 to unit `start`.
+pub struct Turn {
+    pub start: usize,
+    pub whole: usize,
+    pub rest: usize,
 }

@@ -142,7 +142,7 @@ fn put_units(
 }
 
 // The unit that begins at the start of a version, on a circle of `rows` rows that is cut at `ncb`.
-fn start_unit(ncb: usize, rows: usize, version: usize) -> usize
+pub(crate) fn start_unit(ncb: usize, rows: usize, version: usize) -> usize
     requires { ⌜ Cut ncb rows × (rows ≤ 193) × (version ≤ 3) ⌝ }
     ensures { λ r. ⌜ r ≡ startUnit ncb rows version ⌝ }
 {
@@ -154,7 +154,7 @@ fn start_unit(ncb: usize, rows: usize, version: usize) -> usize
 }
 
 // How many bits stand at the first q places of column p of d(1) and d(2), streams of d places.
-fn bits_before(d: usize, filler: usize, p: usize, q: usize) -> usize
+pub(crate) fn bits_before(d: usize, filler: usize, p: usize, q: usize) -> usize
     requires { ⌜ Laid d filler p × (q < 2 * rows d) ⌝ }
     ensures { λ r. ⌜ r ≡ bitsBefore d filler p q ⌝ }
 {
@@ -248,7 +248,14 @@ pub fn turn_after_turn(ring: &[u8], out: &mut [u8])
 }
 
 // Whether these are the lengths and the filler of a code block's streams, a length of its circle that is accepted, and one of the four versions.
-fn matchable(d: usize, d1: usize, d2: usize, filler: usize, ncb: usize, version: usize) -> bool
+pub(crate) fn matchable(
+    d: usize,
+    d1: usize,
+    d2: usize,
+    filler: usize,
+    ncb: usize,
+    version: usize,
+) -> bool
     ensures { λ r. ⌜ r ≡ matchable d d1 d2 filler ncb version ⌝ }
 {
     if d > LONGEST {

@@ -22,15 +22,16 @@ use Rattle.slots.specs.State.{perBlock, roomLength, roomStart}
 use Rattle.slots.specs.Reception.{received}
 use Rattle.slots.specs.Reading.{lacking}
 use Rattle.slots.specs.Answers.{unlessRefused}
-use Rattle.slots.specs.Calls.{sizeAtHead, receiveNumber, receiveStore, receiveOutcome}
+use Rattle.slots.specs.Calls.{sizeAtHead, shareAtHead, receiveNumber, receiveStore, receiveOutcome}
 use Rattle.slots.proofs.Acceptance.{receives}
 use Rattle.slots.proofs.Accepted.{good, room-within}
+use Rattle.slots.proofs.Buffers.{Wide}
 use Rattle.reading.specs.Room.{roomFits}
 use Rattle.reception.specs.Parts.{roomAfter, Accepted}
 use Rattle.reception.proofs.Slot.{room-accepts, room-received, room-lacking}
 
 -- the room after the bits are put is as long, so the places can be counted
-pub fits-still : {A Q N v n m : ℕ} {bits : List ℕ} → Accepted A Q N v bits n → m ≡ n → roomFits A m ≡ true
+pub fits-still : {A soft Q N v n m : ℕ} {bits : List ℕ} → Accepted A soft Q N v bits n → m ≡ n → roomFits A m ≡ true
 unfolding roomFits
 fits-still {A} {m = m} a e = let enough : blocks (A + 24) * perBlock ≤ m = omega (arith, a .fits) in rw (a .size, le-leb (blocks (A + 24) * perBlock) m enough)
 
@@ -39,6 +40,7 @@ pub record Ready (state : State) (room slot Q N v : ℕ) (bits : List ℕ) : Typ
   pub slots-few : slot ≤ 8
   pub blocks-few : state .blocks ≤ 5
   pub size : badSize (sizeAtHead state slot) ≡ false
+  pub wide : Wide (shareAtHead state slot) (sizeAtHead state slot + 24)
   pub fits : blocks (sizeAtHead state slot + 24) ≤ state .blocks
   pub allocation : badAllocation (blocks (sizeAtHead state slot + 24)) Q N (length bits) ≡ false
   pub version : v ≤ 3
@@ -56,6 +58,7 @@ ready {state} {room} {slot} terminal {Q} {N} {v} {bits} told zero =
       slots-few = omega (arith, is .below, whole .shape .slots-most);
       blocks-few = whole .shape .blocks-most;
       size = good-size (sizeAtHead state slot) (head .size-some) (head .size-most);
+      wide = whole .wide slot (is .below) (is .opened);
       fits = head .few;
       allocation = is .allocation;
       version = ltb-false 3 v (is .version);
@@ -91,24 +94,24 @@ module _ {state : State} {room slot Q N v : ℕ} {bits : List ℕ} (is : Ready s
   unfolding roomStart roomLength
   room-in = is .within
 
--- ---- a reception of number 0 with `size` for the A of the slot's head
+-- ---- a reception of number 0 with `size` for the A of the slot's head and `soft` for its share
 
-module _ {state : State} {slot Q N v : ℕ} {bits : List ℕ} (store : List ℕ) {size : ℕ} (is : Ready state (length store) slot Q N v bits) (sized : size ≡ sizeAtHead state slot) where
-  pub room-ready : Accepted size Q N v bits (length (lent state slot store))
+module _ {state : State} {slot Q N v : ℕ} {bits : List ℕ} (store : List ℕ) {size soft : ℕ} (is : Ready state (length store) slot Q N v bits) (sized : size ≡ sizeAtHead state slot) (shared : soft ≡ shareAtHead state slot) where
+  pub room-ready : Accepted size soft Q N v bits (length (lent state slot store))
   unfolding roomStart roomLength
-  room-ready = rw sized (room-accepts (state .blocks) slot (sizeAtHead state slot) Q N v bits store (is .size) (is .fits) (is .version) refl refl (is .within) (is .allocation) (is .given))
+  room-ready = rw (sized, shared) (room-accepts (shareAtHead state slot) (state .blocks) slot (sizeAtHead state slot) Q N v bits store (is .size) (is .wide) (is .fits) (is .version) refl refl (is .within) (is .allocation) (is .given))
 
   -- the room came back with the bits in it
   module _ (terminal : ℕ) {number count : ℕ} {last : List ℕ} (told : number ≡ receiveNumber state (length store) slot terminal Q N v bits) (zero : number ≡ 0)
       (kept : length last ≡ length (lent state slot store))
-      (put : (last ≡ roomAfter size Q N v bits (lent state slot store)) × (count ≡ lacking 1 0 size last)) where
-    after : putBack state slot store last ≡ received (state .blocks) slot (sizeAtHead state slot) Q N v bits store
+      (put : (last ≡ roomAfter size soft Q N v bits (lent state slot store)) × (count ≡ lacking 1 0 size last)) where
+    after : putBack state slot store last ≡ received (shareAtHead state slot) (state .blocks) slot (sizeAtHead state slot) Q N v bits store
     unfolding roomStart roomLength
-    after = room-received (state .blocks) slot (sizeAtHead state slot) Q N v bits store (is .size) (is .fits) (is .version) refl refl (is .within) (rw sized at (put .0))
+    after = room-received (shareAtHead state slot) (state .blocks) slot (sizeAtHead state slot) Q N v bits store (is .size) (is .wide) (is .fits) (is .version) refl refl (is .within) (rw (sized, shared) at (put .0))
 
-    counted : count ≡ lacking (state .blocks) slot (sizeAtHead state slot) (received (state .blocks) slot (sizeAtHead state slot) Q N v bits store)
+    counted : count ≡ lacking (state .blocks) slot (sizeAtHead state slot) (received (shareAtHead state slot) (state .blocks) slot (sizeAtHead state slot) Q N v bits store)
     unfolding roomStart roomLength
-    counted = room-lacking (state .blocks) slot (sizeAtHead state slot) Q N v bits store (is .size) (is .fits) (is .version) refl refl (is .within) (rw sized at (put .0)) kept (rw sized at (put .1))
+    counted = room-lacking (shareAtHead state slot) (state .blocks) slot (sizeAtHead state slot) Q N v bits store (is .size) (is .wide) (is .fits) (is .version) refl refl (is .within) (rw (sized, shared) at (put .0)) kept (rw sized at (put .1))
 
     pub stored : putBack state slot store last ≡ receiveStore state slot terminal Q N v bits store
     unfolding receiveStore

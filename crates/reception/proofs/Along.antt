@@ -7,7 +7,7 @@ use native.Mathlib.Nat.{add-zero, add-sub-cancel-left}
 use native.Mathlib.Decide.{decLe}
 use native.Mathlib.Omega.{arith}
 use lib.ListN.{length, getD, take, drop, set, length-append, length-map, length-take, length-drop, drop-of-length-le}
-use lib.Seq.{getD-take, getD-drop, take-all, drop-drop, take-nil}
+use lib.Seq.{getD-take, getD-drop, take-all, take-take, take-add, drop-drop, drop-at, take-nil, length-take-le}
 use borrow.Rule.Slice.PartMut.{midOf, putMid, put-same}
 use Rattle.laws.specs.Lists.{tab, tabFrom}
 use Rattle.laws.proofs.Parts.{length-mid}
@@ -160,6 +160,42 @@ module _ {js bits list list′ : List ℕ} {at i : ℕ} (p : Put js bits at list
 
 pub put-none : {bits list : List ℕ} (at : ℕ) → at ≤ length bits → Put [] bits at list list at
 put-none {bits} {list} at h = record { told = sym (no-places (drop at bits) list); ends = omega arith }
+
+-- no more bits are lent than n places take
+pub put-first : (n : ℕ) {js bits list list′ : List ℕ} {at m r : ℕ} → at ≤ length bits → m ≡ min (length bits - at) n
+    → Put js (take (at + m) bits) at list list′ r → Put (take n js) bits at list list′ r
+unfolding putAlong
+put-first n {js} {bits} {list} {list′} {at} {m} {r} h e p = record {
+  told =
+      p .told
+      ∙ ap (λ (bs : List ℕ). putFrom 0 (take (length bs) js) bs list) left
+      ∙ ap (λ (k : ℕ). putFrom 0 (take k js) (take m (drop at bits)) list) long
+      ∙ putFrom-front 0 (take m js) m (drop at bits) list (omega (arith, length-take m js))
+      ∙ ap (λ (ks : List ℕ). putFrom 0 ks (drop at bits) list) places;
+  ends = p .ends ∙ ends;
+}
+  where
+    lent : length (take (at + m) bits) ≡ at + m
+    lent = length-take-le (at + m) bits (omega (arith, e))
+
+    left : drop at (take (at + m) bits) ≡ take m (drop at bits)
+    left = ap (drop at) (take-add at m bits) ∙ drop-at (take at bits) (take m (drop at bits)) at (length-take-le at bits h)
+
+    long : length (take m (drop at bits)) ≡ m
+    long = length-take-le m (drop at bits) (rw (length-drop at bits) (omega (arith, e)))
+
+    places : take m js ≡ take (length (drop at bits)) (take n js)
+    places = elim (decLe n (length bits - at)) [
+      | yes l ↦
+          let is : m ≡ n = omega (arith, e) in
+          ap (λ (k : ℕ). take k js) is ∙ sym (take-all (length (drop at bits)) (take n js) (rw (length-drop at bits) (omega (arith, length-take n js))))
+      | no l ↦
+          let is : m ≡ length bits - at = omega (arith, e) in
+          ap (λ (k : ℕ). take k js) is ∙ sym (take-take (length bits - at) n js (omega arith)) ∙ ap (λ (k : ℕ). take k (take n js)) (sym (length-drop at bits))
+    ]
+
+    ends : min (at + length js) (length (take (at + m) bits)) ≡ min (at + length (take n js)) (length bits)
+    ends = rw (lent, length-take n js) (omega (arith, e))
 
 -- ---- a part that is lent
 

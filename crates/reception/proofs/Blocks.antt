@@ -7,7 +7,7 @@ use Prim.Native.Nat.{ℕ, suc, _+_, _-_, _*_, _≤_, _<_}
 use native.Mathlib.Nat.{add-zero, sub-zero, add-sub-cancel-left, mul-le-mul-right}
 use native.Mathlib.Numerals.{add-one}
 use native.Mathlib.Omega.{arith}
-use lib.ListN.{length, getD, drop}
+use lib.ListN.{length, getD, take, drop}
 use borrow.Author.Tests.{le-ltb}
 use borrow.Rule.Slice.PartMut.{midOf, putMid, put-same}
 use Rattle.laws.proofs.Tab.{length-tab}
@@ -15,12 +15,12 @@ use Rattle.laws.proofs.Parts.{length-mid, length-put}
 use Rattle.segmentation.specs.declared.Segments.{Segments}
 use Rattle.segmentation.specs.Segmentation.{blocks, sizeOf, fillerOf}
 use Rattle.segmentation.specs.Sizes.{badSize, segmentsFor}
-use Rattle.rate_matching.specs.SubBlocks.{rows, dummies}
-use Rattle.rate_matching.specs.Circle.{circleLength, startOf}
+use Rattle.rate_matching.specs.SubBlocks.{rows}
+use Rattle.rate_matching.specs.Circle.{circleLength, cutAt, startIn}
 use Rattle.rate_matching.specs.Walk.{sentPlaces, turn, turnAfterTurn}
 use Rattle.rate_matching.specs.Shape.{shape}
 use Rattle.codeword.specs.Shares.{share, sharesBefore}
-use Rattle.codeword.specs.Codeword.{blockRows}
+use Rattle.codeword.specs.Codeword.{blockRows, blockCut}
 use Rattle.codeword.specs.Build.{badVersion, shareOf}
 use Rattle.codeword.proofs.Accepted.{allocated, share-told}
 use Rattle.codeword.proofs.Shares.{stretch-within}
@@ -28,23 +28,29 @@ use Rattle.codeword.proofs.Segmented.{sized-in}
 use Rattle.slots.specs.State.{perBlock, roomLength, roomStart}
 use Rattle.slots.specs.Room.{byteOf}
 use Rattle.slots.specs.Reception.{blockPlaces, putBits, putBlocks, received}
-use Rattle.slots.proofs.PlaceBounds.{sent-below}
+use Rattle.slots.proofs.Buffers.{Wide}
+use Rattle.slots.proofs.PlaceBounds.{block-cut, sent-below}
 use Rattle.reading.proofs.Blocks.{streams, filler-below}
 use Rattle.reception.specs.Parts.{putFrom, partAfter, roomAfter, Accepted}
-use Rattle.reception.specs.Along.{Walked}
+use Rattle.reception.specs.Along.{Sends}
 use Rattle.reception.proofs.Putting.{length-putFrom, putFrom-front, put-in, putBits-is}
 
 -- ---- the code blocks of a block of A bits, A in range
 
 module _ (A : ℕ) (admitted : badSize A ≡ false) where
   -- the bits of code block r can be put
-  pub block-walked : (r : ℕ) → Walked (sizeOf (A + 24) r + 4) (fillerOf (A + 24) r) perBlock
-  unfolding circleLength rows dummies
-  block-walked r = record {
-    most = streams A admitted r .most;
-    filler = omega (arith, filler-below A admitted r);
-    padded = omega (arith, streams A admitted r .bytes);
-    fits = omega (arith, streams A admitted r .most);
+  pub block-sends : {soft v : ℕ} → Wide soft (A + 24) → v ≤ 3 → (r : ℕ) → Sends (sizeOf (A + 24) r + 4) (fillerOf (A + 24) r) soft v perBlock
+  unfolding circleLength rows blockCut blockRows
+  block-sends wide low r = record {
+    walked = record {
+      least = omega (arith, streams A admitted r .least);
+      most = streams A admitted r .most;
+      some = omega (arith, streams A admitted r .bytes);
+      filler = omega (arith, filler-below A admitted r);
+      fits = omega (arith, streams A admitted r .most);
+    };
+    cut = block-cut A admitted wide r;
+    version = low;
   }
 
   -- and their number
@@ -54,33 +60,33 @@ module _ (A : ℕ) (admitted : badSize A ≡ false) where
 -- ---- the loop
 
 -- the code blocks before r have their bits; what the definition still gives from here is the whole
-pub record Blocks (A Q N v : ℕ) (bits room₀ room : List ℕ) (at from r : ℕ) : Type 0 where
+pub record Blocks (A soft Q N v : ℕ) (bits room₀ room : List ℕ) (at from r : ℕ) : Type 0 where
   pub passed : r ≤ blocks (A + 24)
   pub starts : at ≡ sharesBefore (blocks (A + 24)) Q N (length bits) r
   pub begins : from ≡ r * perBlock
   pub long : length room ≡ length room₀
-  pub told : putBlocks 1 0 (A + 24) Q N v bits r (blocks (A + 24) - r) room ≡ roomAfter A Q N v bits room₀
+  pub told : putBlocks soft 1 0 (A + 24) Q N v bits r (blocks (A + 24) - r) room ≡ roomAfter A soft Q N v bits room₀
 
-module _ {A Q N v : ℕ} {bits room₀ : List ℕ} where
-  pub blocks-start : Blocks A Q N v bits room₀ room₀ 0 0 0
+module _ {A soft Q N v : ℕ} {bits room₀ : List ℕ} where
+  pub blocks-start : Blocks A soft Q N v bits room₀ room₀ 0 0 0
   unfolding sharesBefore roomAfter received
   blocks-start = record {
     passed = omega arith;
     starts = refl;
     begins = omega arith;
     long = refl;
-    told = ap (λ (n : ℕ). putBlocks 1 0 (A + 24) Q N v bits 0 n room₀) (sub-zero (blocks (A + 24)));
+    told = ap (λ (n : ℕ). putBlocks soft 1 0 (A + 24) Q N v bits 0 n room₀) (sub-zero (blocks (A + 24)));
   }
 
-  pub blocks-finish : {room : List ℕ} {at from r : ℕ} → blocks (A + 24) ≤ r → Blocks A Q N v bits room₀ room at from r → room ≡ roomAfter A Q N v bits room₀
+  pub blocks-finish : {room : List ℕ} {at from r : ℕ} → blocks (A + 24) ≤ r → Blocks A soft Q N v bits room₀ room at from r → room ≡ roomAfter A soft Q N v bits room₀
   unfolding putBlocks
-  blocks-finish {room} {at} {from} {r} h b = sym (ap (λ (n : ℕ). putBlocks 1 0 (A + 24) Q N v bits r n room) none) ∙ b .told
+  blocks-finish {room} {at} {from} {r} h b = sym (ap (λ (n : ℕ). putBlocks soft 1 0 (A + 24) Q N v bits r n room) none) ∙ b .told
     where
       none : blocks (A + 24) - r ≡ 0
       none = omega arith
 
-  module _ {room : List ℕ} {at from r : ℕ} (ok : Accepted A Q N v bits (length room₀)) (h : r < blocks (A + 24))
-      (b : Blocks A Q N v bits room₀ room at from r) where
+  module _ {room : List ℕ} {at from r : ℕ} (ok : Accepted A soft Q N v bits (length room₀)) (h : r < blocks (A + 24))
+      (b : Blocks A soft Q N v bits room₀ room at from r) where
     -- the part of the room that is lent
     pub part-within : from + perBlock ≤ length room
     part-within = omega (arith, b .begins, b .long, ok .fits, mul-le-mul-right perBlock h)
@@ -93,18 +99,18 @@ module _ {A Q N v : ℕ} {bits room₀ : List ℕ} where
     bits-within {E} e = omega (arith, b .starts, share-is e, stretch-within (blocks (A + 24)) Q N (length bits) r h (allocated _ Q N (length bits) (ok .allocation) .multiple))
 
     pub blocks-next : {E D F : ℕ} {part : List ℕ} → E ≡ shareOf (blocks (A + 24)) Q N (length bits) r → D ≡ sizeOf (A + 24) r + 4 → F ≡ fillerOf (A + 24) r
-        → part ≡ partAfter D F v (midOf at (at + E - at) bits) (midOf from (from + perBlock - from) room)
-        → Blocks A Q N v bits room₀ (putMid from (from + perBlock - from) room part) (at + E) (from + perBlock) (r + 1)
-    unfolding putBlocks partAfter blockPlaces blockRows byteOf roomStart roomLength sharesBefore sentPlaces badVersion
+        → part ≡ partAfter D F (cutAt soft (rows D)) v (midOf at (at + E - at) bits) (midOf from (from + perBlock - from) room)
+        → Blocks A soft Q N v bits room₀ (putMid from (from + perBlock - from) room part) (at + E) (from + perBlock) (r + 1)
+    unfolding putBlocks partAfter blockPlaces blockCut blockRows byteOf roomStart roomLength sharesBefore sentPlaces badVersion
     blocks-next {E} {D} {F} {part} e d f s = record {
       passed = omega arith;
       starts = ap₂ (λ (x y : ℕ). x + y) (b .starts) (share-is e) ∙ ap (sharesBefore C Q N G) (sym (add-one r));
       begins = omega (arith, b .begins);
       long = length-put from (from + perBlock) room part part-within as-long ∙ b .long;
       told =
-          ap₂ (λ (q : ℕ) (l : List ℕ). putBlocks 1 0 (A + 24) Q N v bits q (C - (r + 1)) l) (add-one r)
+          ap₂ (λ (q : ℕ) (l : List ℕ). putBlocks soft 1 0 (A + 24) Q N v bits q (C - (r + 1)) l) (add-one r)
           (put ∙ ap (λ (n : ℕ). putBits 1 0 r js (drop n bits) room) (b .starts))
-          ∙ ap (λ (n : ℕ). putBlocks 1 0 (A + 24) Q N v bits r n room) one
+          ∙ ap (λ (n : ℕ). putBlocks soft 1 0 (A + 24) Q N v bits r n room) one
           ∙ b .told;
     }
       where
@@ -120,8 +126,11 @@ module _ {A Q N v : ℕ} {bits room₀ : List ℕ} where
         mid : List ℕ
         mid = midOf from k room
 
+        Ncb : ℕ
+        Ncb = blockCut soft (A + 24) r
+
         js : List ℕ
-        js = blockPlaces (A + 24) Q N v G r
+        js = blockPlaces soft (A + 24) Q N v G r
 
         one : suc (C - (r + 1)) ≡ C - r
         one = omega arith
@@ -132,13 +141,18 @@ module _ {A Q N v : ℕ} {bits room₀ : List ℕ} where
         lent-long : length (midOf at (at + E - at) bits) ≡ share C Q N G r
         lent-long = length-mid at (at + E) bits (bits-within e) ∙ add-sub-cancel-left at E ∙ share-is e
 
-        places : sentPlaces (shape D F) (startOf (rows D) v) (length (midOf at (at + E - at) bits)) ≡ js
+        places : sentPlaces (take (cutAt soft (rows D)) (shape D F)) (startIn (cutAt soft (rows D)) (rows D) v) (length (midOf at (at + E - at) bits)) ≡ js
         places =
-            ap₂ (λ (x y : ℕ). sentPlaces (shape x y) (startOf (rows x) v) (length (midOf at (at + E - at) bits))) d f
-            ∙ ap (λ (n : ℕ). sentPlaces (shape (sizeOf (A + 24) r + 4) (fillerOf (A + 24) r)) (startOf (blockRows (A + 24) r) v) n) lent-long
+            ap₂ (λ (x y : ℕ). sentPlaces (take (cutAt soft (rows x)) (shape x y)) (startIn (cutAt soft (rows x)) (rows x) v) (length (midOf at (at + E - at) bits))) d f
+            ∙ ap (λ (n : ℕ). sentPlaces (take Ncb (shape (sizeOf (A + 24) r + 4) (fillerOf (A + 24) r))) (startIn Ncb (blockRows (A + 24) r) v) n) lent-long
 
         few : length js ≤ at + E - at
-        few = omega (arith, length-tab (share C Q N G r) (turnAfterTurn (turn (shape (sizeOf (A + 24) r + 4) (fillerOf (A + 24) r)) (startOf (blockRows (A + 24) r) v))), share-is e)
+        few =
+            omega (
+              arith,
+              length-tab (share C Q N G r) (turnAfterTurn (turn (take Ncb (shape (sizeOf (A + 24) r + 4) (fillerOf (A + 24) r))) (startIn Ncb (blockRows (A + 24) r) v))),
+              share-is e,
+            )
 
         part-is : part ≡ putFrom 0 js (drop at bits) mid
         part-is =
@@ -150,7 +164,7 @@ module _ {A Q N v : ℕ} {bits room₀ : List ℕ} where
         as-long = ap length part-is ∙ length-putFrom 0 js (drop at bits) mid ∙ length-mid from (from + perBlock) room part-within
 
         below : (i : ℕ) → i < length js → 0 + getD js i 0 < length mid
-        below i l = rw mid-long (omega (arith, sent-below A (ok .size) Q N v G r (le-ltb 3 v (ok .version)) i l))
+        below i l = rw mid-long (omega (arith, sent-below A (ok .size) (ok .wide) Q N v G r (le-ltb 3 v (ok .version)) i l))
 
         there : from ≡ 0 * (1 * perBlock) + (r * perBlock + 0)
         there = omega (arith, b .begins)

@@ -21,6 +21,7 @@ use Rattle.slots.specs.Room.{byteOf}
 use Rattle.slots.specs.Reception.{blockPlaces, putBits, putBlocks, received}
 use Rattle.slots.specs.Reading.{lacking}
 use Rattle.slots.proofs.RoomLaws.{Places, AllPlaces, length-putBits}
+use Rattle.slots.proofs.Buffers.{Wide}
 use Rattle.slots.proofs.PlaceBounds.{sent-below}
 use Rattle.reading.proofs.Lent.{mid-put, lacking-lent}
 use Rattle.reception.specs.Parts.{roomAfter, Accepted}
@@ -44,55 +45,56 @@ module _ (M slot a k : ℕ) (store : List ℕ) (starts : a ≡ roomStart M slot)
       here : r * perBlock ≡ 0 * (1 * perBlock) + (r * perBlock + 0)
       here = omega arith
 
-  module _ (B Q N v : ℕ) (bits : List ℕ) (places : AllPlaces B Q N v (length bits)) where
+  module _ (soft B Q N v : ℕ) (bits : List ℕ) (places : AllPlaces soft B Q N v (length bits)) where
     -- n code blocks from r on
     blocks-in : (r n : ℕ) (room : List ℕ) → r + n ≤ M → length room ≡ roomLength M
-        → putBlocks M slot B Q N v bits r n (putMid a k store room) ≡ putMid a k store (putBlocks 1 0 B Q N v bits r n room)
+        → putBlocks soft M slot B Q N v bits r n (putMid a k store room) ≡ putMid a k store (putBlocks soft 1 0 B Q N v bits r n room)
     unfolding putBlocks
     blocks-in r zero room h l = refl
     blocks-in r (suc n) room h l =
-        ap (λ (s : List ℕ). putBlocks M slot B Q N v bits (suc r) n s) (bits-in r js bs room (omega arith) (places r) l)
+        ap (λ (s : List ℕ). putBlocks soft M slot B Q N v bits (suc r) n s) (bits-in r js bs room (omega arith) (places r) l)
         ∙ blocks-in (suc r) n (putBits 1 0 r js bs room) (omega arith) (length-putBits 1 0 r js bs room ∙ l)
       where
         js : List ℕ
-        js = blockPlaces B Q N v (length bits) r
+        js = blockPlaces soft B Q N v (length bits) r
 
         bs : List ℕ
         bs = drop (sharesBefore (blocks B) Q N (length bits) r) bits
 
 -- the room that is lent as store[from .. from + long]
-module _ (M slot A Q N v : ℕ) (bits store : List ℕ) {from long : ℕ} (admitted : badSize A ≡ false) (few : blocks (A + 24) ≤ M) (version : v ≤ 3)
+module _ (soft M slot A Q N v : ℕ) (bits store : List ℕ) {from long : ℕ} (admitted : badSize A ≡ false) (wide : Wide soft (A + 24)) (few : blocks (A + 24) ≤ M) (version : v ≤ 3)
     (starts : from ≡ roomStart M slot) (lasts : long ≡ roomLength M) (within : from + long ≤ length store) where
   lent-long : length (midOf from (from + long - from) store) ≡ long
   lent-long = length-mid from (from + long) store within ∙ add-sub-cancel-left from long
 
   -- what the parts of the reception may take for granted
-  pub room-accepts : badAllocation (blocks (A + 24)) Q N (length bits) ≡ false → AreBits bits → Accepted A Q N v bits (length (midOf from (from + long - from) store))
+  pub room-accepts : badAllocation (blocks (A + 24)) Q N (length bits) ≡ false → AreBits bits → Accepted A soft Q N v bits (length (midOf from (from + long - from) store))
   unfolding roomLength
   room-accepts allocation given = record {
     size = admitted;
+    wide = wide;
     allocation = allocation;
     version = version;
     given = given;
     fits = omega (arith, lent-long, mul-le-mul-right perBlock few);
   }
 
-  places : AllPlaces (A + 24) Q N v (length bits)
+  places : AllPlaces soft (A + 24) Q N v (length bits)
   unfolding badVersion
-  places r = sent-below A admitted Q N v (length bits) r (le-ltb 3 v version)
+  places r = sent-below A admitted wide Q N v (length bits) r (le-ltb 3 v version)
 
-  module _ {last : List ℕ} (put : last ≡ roomAfter A Q N v bits (midOf from (from + long - from) store)) where
-    pub room-received : putMid from (from + long - from) store last ≡ received M slot A Q N v bits store
+  module _ {last : List ℕ} (put : last ≡ roomAfter A soft Q N v bits (midOf from (from + long - from) store)) where
+    pub room-received : putMid from (from + long - from) store last ≡ received soft M slot A Q N v bits store
     unfolding roomAfter received
     room-received =
         ap (putMid from (from + long - from) store) put
         ∙ sym
-        (blocks-in M slot from (from + long - from) store starts (omega arith) (A + 24) Q N v bits places
+        (blocks-in M slot from (from + long - from) store starts (omega arith) soft (A + 24) Q N v bits places
         0 (blocks (A + 24)) (midOf from (from + long - from) store) (omega arith) (lent-long ∙ lasts))
-        ∙ ap (λ (s : List ℕ). putBlocks M slot (A + 24) Q N v bits 0 (blocks (A + 24)) s) (put-same from (from + long - from) store)
+        ∙ ap (λ (s : List ℕ). putBlocks soft M slot (A + 24) Q N v bits 0 (blocks (A + 24)) s) (put-same from (from + long - from) store)
 
     pub room-lacking : length last ≡ length (midOf from (from + long - from) store) → {count : ℕ} → count ≡ lacking 1 0 A last
-        → count ≡ lacking M slot A (received M slot A Q N v bits store)
+        → count ≡ lacking M slot A (received soft M slot A Q N v bits store)
     room-lacking e c =
         c
         ∙ ap (lacking 1 0 A) (sym (mid-put from (from + long - from) store last (omega arith) (e ∙ length-mid from (from + long) store within)))

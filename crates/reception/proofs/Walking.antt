@@ -1,35 +1,47 @@
 -- The loops that put bits along a code block's circle, clause 5.1.4.1.2 and 01 'Receive': column after column of stream 0, and of streams 1 and 2.
 -- Assumes nothing.
-use mathlib.Core.Path.{_≡_, refl, sym, _∙_, ap, ap₂}
+use mathlib.Core.Path.{_≡_, refl, sym, _∙_, ap, ap₂, subst}
 use mathlib.Core.Logic.{_⊎_, ⊎-elim}
 use mathlib.Core.List.{List, [], _∷_, _++_, append-assoc, append-nil, map}
-use Prim.Native.Nat.{ℕ, _+_, _-_, _*_, _/_, _≤_, _<_}
+use Prim.Native.Nat.{ℕ, _+_, _-_, _*_, _%_, _≤_, _<_}
 use native.Mathlib.Nat.{mul-le-mul-right, add-sub-cancel-left}
 use native.Mathlib.Decide.{decLt, ℕ-discrete}
 use native.Mathlib.Omega.{arith}
-use lib.ListN.{length, getD, length-append, List·getD-append}
+use lib.ListN.{length, getD, take, length-append, List·getD-append}
 use lib.Seq.{getD-append-add}
 use borrow.Rule.Slice.PartMut.{midOf, putMid}
 use Rattle.laws.specs.Lists.{tab, tabFrom}
 use Rattle.laws.proofs.Parts.{length-mid}
-use Rattle.laws.proofs.Tab.{length-tabFrom, getD-tabFrom, tabFrom-split}
+use Rattle.laws.proofs.Tab.{length-tab, length-tabFrom, getD-tabFrom, tabFrom-split}
+use Rattle.laws.proofs.Keep.{length-keep}
 use Rattle.rate_matching.specs.Columns.{column}
 use Rattle.rate_matching.specs.SubBlocks.{rows, dummies, rowsBefore}
-use Rattle.rate_matching.specs.Circle.{circleLength, startOf}
-use Rattle.rate_matching.specs.Walk.{itself, turn}
+use Rattle.rate_matching.specs.Circle.{circleLength, cutAt, startIn}
+use Rattle.rate_matching.specs.Walk.{holdsBit, itself, round, turn}
 use Rattle.rate_matching.specs.Shape.{shape, bitPlaces, second, pairPlaces, lastPlace}
 use Rattle.rate_matching.proofs.Columns.{column-rule}
 use Rattle.rate_matching.proofs.Places.{dummies-add}
-use Rattle.rate_matching.proofs.Circle.{start-is}
-use Rattle.rate_matching.proofs.ShapeTurn.{bitPlaces-none, turn-parts, length-shape, turn-some, turn-few}
+use Rattle.rate_matching.proofs.Circle.{start-below}
+use Rattle.rate_matching.proofs.ShapeTurn.{bitPlaces-none, length-shape}
 use Rattle.rate_matching.proofs.ShapeColumns.{bitPlaces-split, first-few, column-places, pair-places}
+use Rattle.rate_matching.specs.Units.{unitStart, startUnit, wholeUnits, restPlaces, bitsBefore}
+use Rattle.rate_matching.specs.declared.Turn.{Turn}
+use Rattle.rate_matching.specs.Turns.{unitsOf, turnOf}
+use Rattle.rate_matching.proofs.Units.{some-dummies, low-start, high-start}
+use Rattle.rate_matching.proofs.Cut.{cut-place, rest-before, whole-least, whole-most, start-head, start-whole, turn-cut, length-cut, turn-some}
+use Rattle.rate_matching.proofs.MatcherRest.{count-few}
+use Rattle.rate_matching.proofs.MatcherBlock.{Matchable, matchable-is}
+use Rattle.rate_matching.proofs.Turns.{turn-told, rest-taken}
 use Rattle.slots.specs.State.{perBlock}
-use Rattle.reception.specs.Along.{Put, Walked, Column}
+use Rattle.reception.specs.Along.{Put, turnIn, Walked, Sends, Column}
 use Rattle.reception.proofs.Along.{put-append, put-as, put-long, put-none, put-lent, run-lent}
 
 -- a list that is as long has the circle's places too
 pub walked-still : {D F n m : ℕ} → Walked D F n → m ≡ n → Walked D F m
-walked-still w e = record { most = w .most; filler = w .filler; padded = w .padded; fits = omega (arith, w .fits) }
+walked-still w e = record { least = w .least; most = w .most; some = w .some; filler = w .filler; fits = omega (arith, w .fits) }
+
+pub sends-still : {D F soft v n m : ℕ} → Sends D F soft v n → m ≡ n → Sends D F soft v m
+sends-still w e = record { walked = walked-still (w .walked) e; cut = w .cut; version = w .version }
 
 -- ---- the places of stream 2 alone
 
@@ -247,7 +259,7 @@ module _ {D F from to : ℕ} {bits : List ℕ} {at : ℕ} {part₀ : List ℕ} (
         here : map (λ (k : ℕ). j + k) places ≡ bitPlaces (shape D F) (32 * rows D + c * (2 * rows D)) (32 * rows D + c * (2 * rows D) + 2 * rows D)
         here =
             ap₂ (λ (n v : ℕ). map (λ (k : ℕ). n + k) (pairPlaces (rowsBefore (dummies D) (v + 1)) (rowsBefore (dummies D + F) v) (lastPlace (rows D) v))) (w .place) e
-            ∙ sym (pair-places D F (omega (arith, ok .0 .filler)) c low (ok .0 .filler) (ok .0 .padded))
+            ∙ sym (pair-places D F (omega (arith, ok .0 .filler)) c low (ok .0 .filler) (some-dummies D (ok .0 .some)))
 
         next : 32 * rows D + c * (2 * rows D) + 2 * rows D ≡ 32 * rows D + (c + 1) * (2 * rows D)
         next = omega arith
@@ -268,100 +280,208 @@ module _ {D F from to : ℕ} {bits : List ℕ} {at : ℕ} {part₀ : List ℕ} (
       all : c ≡ to
       all = omega (arith, w .passed)
 
--- ---- once round: from a version's start to the end, and from the begin to the start
+-- ---- the column that the cut shortens
 
--- the column of stream 0, 32 for none, and that of streams 1 and 2 where version v starts
-pub record Starts (v s p : ℕ) : Type 0 where
+-- none of its places lies before the cut
+pub rest-none : (places : List ℕ) {rest : ℕ} {bits : List ℕ} (at : ℕ) {part : List ℕ} → at ≤ length bits → rest ≡ 0 → Put (take rest places) bits at part part at
+rest-none places at h e = put-as (ap (λ (n : ℕ). take n places) (sym e)) (put-none at h)
+
+-- ---- once round: from a version's start to the cut, and from the begin to the start
+
+-- the column of stream 0, 32 for none, and that of streams 1 and 2 where unit u begins
+pub record Starts (u s p : ℕ) : Type 0 where
   pub first : s ≤ 32
-  pub later : p ≤ 32
-  pub start : s + 2 * p ≡ 24 * v + 2
+  pub start : s + p ≡ u
   pub one : (s ≡ 32 → ⊥) → p ≡ 0
 
-pub starts : {v s : ℕ} → v ≤ 3 → ((24 * v + 2 < 32) × (s ≡ 24 * v + 2)) ⊎ ((32 ≤ 24 * v + 2) × (s ≡ 32)) → Starts v s ((24 * v + 2 - s) / 2)
-starts {v} {s} h w =
+pub starts : {u s : ℕ} → ((u < 32) × (s ≡ u)) ⊎ ((32 ≤ u) × (s ≡ 32)) → Starts u s (u - s)
+starts {u} {s} w =
     ⊎-elim
-    (λ a. record { first = omega (arith, a); later = omega (arith, a); start = omega (arith, a); one = λ e. omega (arith, a) })
-    (λ b. record { first = omega (arith, b); later = omega (arith, b); start = omega (arith, b); one = λ e. absurd (e (b .1)) })
+    (λ a. record { first = omega (arith, a); start = omega (arith, a); one = λ e. omega (arith, a) })
+    (λ b. record { first = omega (arith, b); start = omega (arith, b); one = λ e. absurd (e (b .1)) })
     w
 
-module _ (D F : ℕ) (some : 0 < D) (few : F ≤ D) {v s p : ℕ} (w : Starts v s p) where
+-- five stretches of w between a start and the cut at n: the start k0 is b, past the first m places, or a, among them
+module _ (w : List ℕ) (a b m e n : ℕ) {k0 : ℕ} (low : m ≤ e) (high : e ≤ n) where
+  past-first : a ≡ m → k0 ≡ b → m ≤ b → b ≤ e → (((bitPlaces w a m ++ bitPlaces w b e) ++ bitPlaces w e n) ++ bitPlaces w 0 a) ++ bitPlaces w m b ≡ bitPlaces w k0 n ++ bitPlaces w 0 k0
+  past-first is k h l =
+      ap (λ (i : ℕ). (((bitPlaces w i m ++ bitPlaces w b e) ++ bitPlaces w e n) ++ bitPlaces w 0 i) ++ bitPlaces w m b) is
+      ∙ ap (λ (x : List ℕ). (((x ++ bitPlaces w b e) ++ bitPlaces w e n) ++ bitPlaces w 0 m) ++ bitPlaces w m b) (bitPlaces-none w m m (omega arith))
+      ∙ append-assoc (bitPlaces w b e ++ bitPlaces w e n) (bitPlaces w 0 m) (bitPlaces w m b)
+      ∙ ap₂ _++_ (sym (bitPlaces-split w b n e l high)) (sym (bitPlaces-split w 0 b m (omega arith) h))
+      ∙ ap (λ (i : ℕ). bitPlaces w i n ++ bitPlaces w 0 i) (sym k)
+
+  among-first : b ≡ m → k0 ≡ a → a ≤ m → (((bitPlaces w a m ++ bitPlaces w b e) ++ bitPlaces w e n) ++ bitPlaces w 0 a) ++ bitPlaces w m b ≡ bitPlaces w k0 n ++ bitPlaces w 0 k0
+  among-first is k h =
+      ap (λ (i : ℕ). (((bitPlaces w a m ++ bitPlaces w i e) ++ bitPlaces w e n) ++ bitPlaces w 0 a) ++ bitPlaces w m i) is
+      ∙ ap (λ (x : List ℕ). (((bitPlaces w a m ++ bitPlaces w m e) ++ bitPlaces w e n) ++ bitPlaces w 0 a) ++ x) (bitPlaces-none w m m (omega arith))
+      ∙ append-nil (((bitPlaces w a m ++ bitPlaces w m e) ++ bitPlaces w e n) ++ bitPlaces w 0 a)
+      ∙ ap (λ (x : List ℕ). (x ++ bitPlaces w e n) ++ bitPlaces w 0 a) (sym (bitPlaces-split w a e m h low))
+      ∙ ap (λ (x : List ℕ). x ++ bitPlaces w 0 a) (sym (bitPlaces-split w a n e (omega arith) high))
+      ∙ ap (λ (i : ℕ). bitPlaces w i n ++ bitPlaces w 0 i) (sym k)
+
+module _ {D F soft v long : ℕ} (ok : Sends D F soft v long) where
   abbrev R : ℕ
   R = rows D
 
-  abbrev Part : ℕ → ℕ → List ℕ
-  Part a b = bitPlaces (shape D F) a b
+  abbrev Ncb : ℕ
+  Ncb = cutAt soft R
 
-  begin : startOf R v ≡ R * (24 * v + 2)
-  unfolding rows
-  begin = start-is (rows D) v (omega arith)
-
-  whole : length (shape D F) ≡ 32 * R + 32 * (2 * R)
-  unfolding circleLength
-  whole = length-shape D F few ∙ omega arith
-
-  -- the start is in streams 1 and 2
-  from-pairs : s ≡ 32
-      → ((Part (s * R) (32 * R) ++ Part (32 * R + p * (2 * R)) (32 * R + 32 * (2 * R))) ++ Part (0 * R) (s * R)) ++ Part (32 * R + 0 * (2 * R)) (32 * R + p * (2 * R))
-      ≡ Part (startOf R v) (length (shape D F)) ++ Part 0 (startOf R v)
-  from-pairs e =
-      ap (λ (l : List ℕ). ((l ++ Part (32 * R + p * (2 * R)) (32 * R + 32 * (2 * R))) ++ Part (0 * R) (s * R)) ++ Part (32 * R + 0 * (2 * R)) (32 * R + p * (2 * R)))
-      (bitPlaces-none (shape D F) (s * R) (32 * R) (omega (arith, far)))
-      ∙ append-assoc (Part (32 * R + p * (2 * R)) (32 * R + 32 * (2 * R))) (Part (0 * R) (s * R)) (Part (32 * R + 0 * (2 * R)) (32 * R + p * (2 * R)))
-      ∙ ap₂ _++_ (ap₂ Part (sym k0) (sym whole)) (ap₂ _++_ (ap₂ Part zero far) (ap₂ Part there (sym k0)) ∙ sym (bitPlaces-split (shape D F) 0 (startOf R v) (32 * R) (omega arith) (omega (arith, k0))))
+  -- its three numbers
+  pub turn-units : {t : Turn} → t ≡ turnOf D F soft v → t ≡ unitsOf D F Ncb v
+  turn-units e = e ∙ sym (turn-told D F soft v refl (matchable-is fit))
     where
-      far : s * R ≡ 32 * R
-      far = ap (λ (n : ℕ). n * R) e
+      fit : Matchable D D D F Ncb v
+      fit = record {
+        fits = record { first = refl; second = refl; some = ok .walked .some; most = ok .walked .most; filler = ok .walked .filler };
+        least = ok .walked .least;
+        cut = ok .cut;
+        version = ok .version;
+      }
 
-      zero : 0 * R ≡ 0
-      zero = omega arith
+  module _ {t : Turn} (is : t ≡ turnOf D F soft v) where
+    abbrev u : ℕ
+    u = t .start
 
-      there : 32 * R + 0 * (2 * R) ≡ 32 * R
-      there = omega arith
+    abbrev whole : ℕ
+    whole = t .whole
 
-      k0 : startOf R v ≡ 32 * R + p * (2 * R)
-      k0 = begin ∙ ap (λ (n : ℕ). R * n) (sym (w .start) ∙ ap (λ (n : ℕ). n + 2 * p) e) ∙ omega arith
+    abbrev rest : ℕ
+    rest = t .rest
 
-  -- the start is in stream 0
-  from-columns : p ≡ 0
-      → ((Part (s * R) (32 * R) ++ Part (32 * R + p * (2 * R)) (32 * R + 32 * (2 * R))) ++ Part (0 * R) (s * R)) ++ Part (32 * R + 0 * (2 * R)) (32 * R + p * (2 * R))
-      ≡ Part (startOf R v) (length (shape D F)) ++ Part 0 (startOf R v)
-  from-columns e =
-      ap (λ (l : List ℕ). ((Part (s * R) (32 * R) ++ Part (32 * R + p * (2 * R)) (32 * R + 32 * (2 * R))) ++ Part (0 * R) (s * R)) ++ l)
-      (bitPlaces-none (shape D F) (32 * R + 0 * (2 * R)) (32 * R + p * (2 * R)) (omega (arith, here)))
-      ∙ append-nil ((Part (s * R) (32 * R) ++ Part (32 * R + p * (2 * R)) (32 * R + 32 * (2 * R))) ++ Part (0 * R) (s * R))
-      ∙ ap₂ _++_
-      (ap₂ (λ (a b : ℕ). Part (s * R) (32 * R) ++ Part a b) (ap (λ (n : ℕ). 32 * R + n) here ∙ omega arith) (sym whole)
-      ∙ sym (bitPlaces-split (shape D F) (s * R) (length (shape D F)) (32 * R) (mul-le-mul-right R (w .first)) (omega (arith, whole)))
-      ∙ ap (λ (n : ℕ). Part n (length (shape D F))) (sym k0))
-      (ap₂ Part zero (sym k0))
-    where
-      here : p * (2 * R) ≡ 0
-      here = ap (λ (n : ℕ). n * (2 * R)) e ∙ omega arith
+    told : t ≡ unitsOf D F Ncb v
+    told = turn-units is
 
-      zero : 0 * R ≡ 0
-      zero = omega arith
+    start-told : u ≡ startUnit Ncb R v
+    unfolding unitsOf
+    start-told = ap (λ (t : Turn). t .start) told
 
-      alone : 24 * v + 2 ≡ s
-      alone = omega (arith, w .start)
+    whole-told : whole ≡ wholeUnits Ncb R
+    unfolding unitsOf
+    whole-told = ap (λ (t : Turn). t .whole) told
 
-      k0 : startOf R v ≡ s * R
-      k0 = begin ∙ ap (λ (n : ℕ). R * n) alone ∙ omega arith
+    rest-told : rest ≡ bitsBefore D F (column (whole % 32)) (restPlaces Ncb R)
+    unfolding unitsOf
+    rest-told = ap (λ (t : Turn). t .rest) told ∙ ap (λ (n : ℕ). bitsBefore D F (column (n % 32)) (restPlaces Ncb R)) (sym whole-told)
 
-  pub round-is : ((Part (s * R) (32 * R) ++ Part (32 * R + p * (2 * R)) (32 * R + 32 * (2 * R))) ++ Part (0 * R) (s * R)) ++ Part (32 * R + 0 * (2 * R)) (32 * R + p * (2 * R))
-      ≡ turn (shape D F) (startOf R v)
-  round-is = elim (ℕ-discrete s 32) [ yes e ↦ from-pairs e | no e ↦ from-columns (w .one e) ] ∙ sym (turn-parts (shape D F) (startOf R v))
+    -- the whole columns of streams 1 and 2 begin after those of stream 0, and the start is no later than the cut
+    pub whole-in : (32 ≤ whole) × (whole ≤ 64) × (u ≤ whole)
+    whole-in = (omega (arith, whole-told, whole-least (ok .cut)), omega (arith, whole-told, whole-most (ok .cut)), omega (arith, whole-told, start-told, start-whole (ok .cut) v (ok .version)))
+
+    pub start-within : {s p : ℕ} → Starts u s p → p ≤ whole - 32
+    start-within {s} {p} w = elim (ℕ-discrete s 32) [ yes e ↦ omega (arith, w .start, whole-in) | no e ↦ omega (arith, w .one e) ]
+
+    -- no column is shortened where all are whole
+    pub rest-low : 0 < rest → whole - 32 < 32
+    rest-low h = omega (arith, whole-in, whole-told, rest-before (ok .cut) (omega (arith, rest-told, count-few D F (column (whole % 32)) (restPlaces Ncb R))))
+
+    -- where the shortened column begins
+    abbrev e : ℕ
+    e = 32 * R + (whole - 32) * (2 * R)
+
+    begins : e + restPlaces Ncb R ≡ Ncb
+    begins = omega (arith, cut-place (ok .cut), rw (← whole-told) at (high-start R (wholeUnits Ncb R) (whole-least (ok .cut))), ap (unitStart R) whole-told)
+
+    shortened : take rest (bitPlaces (shape D F) e (32 * R + (whole - 32 + 1) * (2 * R))) ≡ bitPlaces (shape D F) e Ncb
+    shortened =
+        subst (λ (n : ℕ). take rest (bitPlaces (shape D F) (32 * R + (n - 32) * (2 * R)) (32 * R + (n - 32 + 1) * (2 * R))) ≡ bitPlaces (shape D F) (32 * R + (n - 32) * (2 * R)) Ncb) (sym whole-told)
+        (elim (decLt W 64) [ yes l ↦ some-whole l | no l ↦ all-whole (omega arith) ])
+      where
+        W : ℕ
+        W = wholeUnits Ncb R
+
+        j : ℕ
+        j = 32 * R + (W - 32) * (2 * R)
+
+        is-rest : rest ≡ bitsBefore D F (column (W % 32)) (restPlaces Ncb R)
+        is-rest = rest-told ∙ ap (λ (n : ℕ). bitsBefore D F (column (n % 32)) (restPlaces Ncb R)) whole-told
+
+        next : 32 * R + (W - 32 + 1) * (2 * R) ≡ j + 2 * R
+        next = omega arith
+
+        some-whole : W < 64 → take rest (bitPlaces (shape D F) j (32 * R + (W - 32 + 1) * (2 * R))) ≡ bitPlaces (shape D F) j Ncb
+        some-whole l = ap₂ take is-rest (ap (bitPlaces (shape D F) j) next) ∙ rest-taken D F (ok .walked .some) (ok .walked .filler) (ok .cut) l
+
+        all-whole : 64 ≤ W → take rest (bitPlaces (shape D F) j (32 * R + (W - 32 + 1) * (2 * R))) ≡ bitPlaces (shape D F) j Ncb
+        all-whole l =
+            let none : rest ≡ 0 = no-rest l in
+            ap (λ (n : ℕ). take n (bitPlaces (shape D F) j (32 * R + (W - 32 + 1) * (2 * R)))) none
+            ∙ sym (bitPlaces-none (shape D F) j Ncb (omega (arith, cut-place (ok .cut), high-start R W (whole-least (ok .cut)), no-places l)))
+          where
+            no-places : 64 ≤ W → restPlaces Ncb R ≡ 0
+            no-places l = elim (decLt 0 (restPlaces Ncb R)) [ yes h ↦ absurd (omega (arith, rest-before (ok .cut) h)) | no h ↦ omega arith ]
+
+            no-rest : 64 ≤ W → rest ≡ 0
+            no-rest l = omega (arith, is-rest, no-places l, count-few D F (column (W % 32)) (restPlaces Ncb R))
+
+    pub round-is : {s p : ℕ} → Starts u s p
+        → (((bitPlaces (shape D F) (s * R) (32 * R) ++ bitPlaces (shape D F) (32 * R + p * (2 * R)) e)
+        ++ take rest (bitPlaces (shape D F) e (32 * R + (whole - 32 + 1) * (2 * R))))
+        ++ bitPlaces (shape D F) (0 * R) (s * R)) ++ bitPlaces (shape D F) (32 * R + 0 * (2 * R)) (32 * R + p * (2 * R))
+        ≡ turnIn D F soft v
+    unfolding turnIn
+    round-is {s} {p} w =
+        ap₂ (λ (x : List ℕ) (i : ℕ). (((Stretch (s * R) (32 * R) ++ Stretch b e) ++ x) ++ Stretch i (s * R)) ++ Stretch (32 * R + 0 * (2 * R)) b) shortened zero
+        ∙ ap (λ (i : ℕ). (((Stretch (s * R) (32 * R) ++ Stretch b e) ++ Stretch e Ncb) ++ Stretch 0 (s * R)) ++ Stretch i b) there
+        ∙ elim (ℕ-discrete s 32) [
+          | yes is ↦ past-first (shape D F) (s * R) b (32 * R) e Ncb (omega arith) till (ap (λ (n : ℕ). n * R) is) (later is) (omega arith) (omega (arith, mul-le-mul-right (2 * R) (start-within w)))
+          | no isnt ↦ among-first (shape D F) (s * R) b (32 * R) e Ncb (omega arith) till (rw (w .one isnt) (omega arith)) (sooner isnt) (mul-le-mul-right R (w .first))
+        ]
+        ∙ sym (turn-cut (shape D F) Ncb (startIn Ncb R v) fits (omega (arith, start-below (ok .cut) v (ok .version))))
+      where
+        b : ℕ
+        b = 32 * R + p * (2 * R)
+
+        Stretch : ℕ → ℕ → List ℕ
+        Stretch i j = bitPlaces (shape D F) i j
+
+        zero : 0 * R ≡ 0
+        zero = omega arith
+
+        there : 32 * R + 0 * (2 * R) ≡ 32 * R
+        there = omega arith
+
+        till : e ≤ Ncb
+        till = omega (arith, begins)
+
+        fits : Ncb ≤ length (shape D F)
+        fits = rw (length-shape D F (omega (arith, ok .walked .filler))) (ok .cut .most)
+
+        k0 : startIn Ncb R v ≡ unitStart R u
+        k0 = sym (ap (unitStart R) start-told ∙ start-head (ok .cut) v)
+
+        later : s ≡ 32 → startIn Ncb R v ≡ 32 * R + p * (2 * R)
+        later is = let q : u - 32 ≡ p = omega (arith, w .start) in k0 ∙ high-start R u (omega (arith, w .start)) ∙ ap (λ (n : ℕ). 32 * R + n * (2 * R)) q
+
+        sooner : (s ≡ 32 → ⊥) → startIn Ncb R v ≡ s * R
+        sooner isnt = let q : u ≡ s = omega (arith, w .start, w .one isnt) in k0 ∙ low-start R u (below isnt q) ∙ ap (λ (n : ℕ). n * R) q
+          where
+            below : (s ≡ 32 → ⊥) → u ≡ s → u < 32
+            below isnt q = omega (arith, w .first, isnt)
 
 -- a turn has a place, and not more than the circle
-module _ {D F long v : ℕ} (w : Walked D F long) (low : v ≤ 3) where
-  pos : 0 < D
-  pos = omega (arith, w .filler)
+module _ {D F soft v long : ℕ} (w : Sends D F soft v long) where
+  pub round-some : 0 < length (turnIn D F soft v)
+  unfolding turnIn
+  round-some = turn-some (w .walked .least) (w .walked .filler) (w .cut) (w .version)
 
-  few : F ≤ D
-  few = omega (arith, w .filler)
+  pub round-few : length (turnIn D F soft v) ≤ perBlock
+  unfolding turnIn turn round circleLength rows
+  round-few =
+      omega (
+        arith,
+        length-keep (holdsBit shortened) (tabFrom k0 (length shortened - k0) itself ++ tab k0 itself),
+        length-append (tabFrom k0 (length shortened - k0) itself) (tab k0 itself),
+        length-tabFrom k0 (length shortened - k0) itself,
+        length-tab k0 itself,
+        length-cut (w .walked .least) (w .walked .filler) (w .cut) (w .version),
+        start-below (w .cut) v (w .version),
+        w .cut .most,
+        w .walked .most,
+      )
+    where
+      k0 : ℕ
+      k0 = startIn (cutAt soft (rows D)) (rows D) v
 
-  pub round-some : 0 < length (turn (shape D F) (startOf (rows D) v))
-  round-some = turn-some pos few low
-
-  pub round-few : length (turn (shape D F) (startOf (rows D) v)) ≤ perBlock
-  unfolding circleLength rows
-  round-few = omega (arith, turn-few pos few low, w .most)
+      shortened : List ℕ
+      shortened = take (cutAt soft (rows D)) (shape D F)

@@ -3,12 +3,13 @@
 use mathlib.Core.Path.{_≡_}
 use mathlib.Core.Bool.{false}
 use mathlib.Core.List.{List}
-use Prim.Native.Nat.{ℕ, _+_, _-_, _*_, _≤_, _<_, min}
+use Prim.Native.Nat.{ℕ, _+_, _-_, _*_, _%_, _≤_, _<_, min}
 use lib.ListN.{length, getD, take, drop}
 use Rattle.laws.specs.Lists.{tab, tabFrom}
-use Rattle.rate_matching.specs.SubBlocks.{rows, dummies}
-use Rattle.rate_matching.specs.Circle.{circleLength}
-use Rattle.rate_matching.specs.Walk.{itself, turnAfterTurn}
+use Rattle.rate_matching.specs.SubBlocks.{rows}
+use Rattle.rate_matching.specs.Circle.{circleLength, Cut, cutAt, startIn}
+use Rattle.rate_matching.specs.Walk.{itself, turn, turnAfterTurn}
+use Rattle.rate_matching.specs.Shape.{shape}
 use Rattle.rate_matching.specs.Places.{longest}
 use Rattle.slots.specs.Room.{isUnheard}
 use Rattle.reception.specs.Parts.{putFrom}
@@ -31,12 +32,23 @@ unfoldable pub ringAfter : ℕ → List ℕ → List ℕ
 ringAfter n bits =
     putFrom 0 (tabFrom (n + n) (length bits - (n + n)) (turnAfterTurn (tab n itself))) (drop (n + n) bits) (take n (drop n bits))
 
--- D places a stream with dummies before them, F of them filler, and a list of `long` entries that has the circle's places
+-- streams of D = K + 4 places, K a multiple of 8 from 40 on, F of them filler, and a list of `long` entries that has the circle's places
 pub record Walked (D F long : ℕ) : Type 0 where
+  pub least : 44 ≤ D
   pub most : D ≤ longest
+  pub some : D % 8 ≡ 4
   pub filler : F < D
-  pub padded : 0 < dummies D
   pub fits : circleLength (rows D) ≤ long
+
+-- and version v of them can be sent where each code block has a share `soft` of the soft buffer
+pub record Sends (D F soft v long : ℕ) : Type 0 where
+  pub walked : Walked D F long
+  pub cut : Cut (cutAt soft (rows D)) (rows D)
+  pub version : v ≤ 3
+
+-- one turn of version v along the circle of such a code block, which is cut at N_cb
+unfoldable pub turnIn : ℕ → ℕ → ℕ → ℕ → List ℕ
+turnIn D F soft v = turn (take (cutAt soft (rows D)) (shape D F)) (startIn (cutAt soft (rows D)) (rows D) v)
 
 -- a column of R rows of streams 1 and 2 from original position u, in a list of `long` entries: some places absent at least from stream 1, and not all
 pub record Column (R u N absent long : ℕ) : Type 0 where

@@ -4,15 +4,16 @@ use mathlib.Core.Path.{_≡_}
 use mathlib.Core.Bool.{false}
 use mathlib.Core.List.{List, [], _∷_}
 use Prim.Native.Nat.{ℕ, _+_, _*_, _≤_}
-use lib.ListN.{length, drop, getD}
+use lib.ListN.{length, take, drop, getD}
 use Rattle.laws.specs.Bits.{AreBits}
 use Rattle.segmentation.specs.Segmentation.{blocks}
 use Rattle.segmentation.specs.Sizes.{badSize}
 use Rattle.rate_matching.specs.SubBlocks.{rows}
-use Rattle.rate_matching.specs.Circle.{startOf}
+use Rattle.rate_matching.specs.Circle.{startIn}
 use Rattle.rate_matching.specs.Walk.{sentPlaces}
 use Rattle.rate_matching.specs.Shape.{shape}
 use Rattle.codeword.specs.Build.{badAllocation}
+use Rattle.codeword.specs.Codeword.{blockRows}
 use Rattle.slots.specs.State.{perBlock}
 use Rattle.slots.specs.Room.{putBit}
 use Rattle.slots.specs.Reception.{received}
@@ -22,17 +23,18 @@ unfoldable pub putFrom : ℕ → List ℕ → List ℕ → List ℕ → List ℕ
 putFrom base [] bits list = list
 putFrom base (j ∷ js) bits list = putFrom base js (drop 1 bits) (putBit list (base + j) (getD bits 0 0))
 
--- the part of a room for a code block with D places a stream and F filler bits, after bits of version v
-unfoldable pub partAfter : ℕ → ℕ → ℕ → List ℕ → List ℕ → List ℕ
-partAfter D F v bits part = putFrom 0 (sentPlaces (shape D F) (startOf (rows D) v) (length bits)) bits part
+-- the part of a room for a code block with D places a stream and F filler bits, its circle cut at N_cb, after bits of version v
+unfoldable pub partAfter : ℕ → ℕ → ℕ → ℕ → List ℕ → List ℕ → List ℕ
+partAfter D F Ncb v bits part = putFrom 0 (sentPlaces (take Ncb (shape D F)) (startIn Ncb (rows D) v) (length bits)) bits part
 
 -- a room after a reception: by itself it is the room of slot 0, which starts at 0 whatever the rooms are for
-unfoldable pub roomAfter : ℕ → ℕ → ℕ → ℕ → List ℕ → List ℕ → List ℕ
-roomAfter A Q N v bits room = received 1 0 A Q N v bits room
+unfoldable pub roomAfter : ℕ → ℕ → ℕ → ℕ → ℕ → List ℕ → List ℕ → List ℕ
+roomAfter A soft Q N v bits room = received soft 1 0 A Q N v bits room
 
--- an accepted reception for a block of A bits, and a room of n bytes for its code blocks
-pub record Accepted (A Q N v : ℕ) (bits : List ℕ) (n : ℕ) : Type 0 where
+-- an accepted reception for a block of A bits, a share `soft` that is long enough for its code blocks, and a room of n bytes for them
+pub record Accepted (A soft Q N v : ℕ) (bits : List ℕ) (n : ℕ) : Type 0 where
   pub size : badSize A ≡ false
+  pub wide : (r : ℕ) → 32 * blockRows (A + 24) r ≤ soft
   pub allocation : badAllocation (blocks (A + 24)) Q N (length bits) ≡ false
   pub version : v ≤ 3
   pub given : AreBits bits

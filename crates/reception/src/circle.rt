@@ -5,15 +5,14 @@ ghost use mathlib.Core.Path.{_≡_};
 ghost use mathlib.Core.Bool.{cond};
 ghost use Prim.Native.Nat.{_+_, _-_, _*_, _≤_, _<_};
 ghost use lib.Dec.{eqb};
-ghost use lib.ListN.{length};
+ghost use lib.ListN.{length, take};
 ghost use Rattle.laws.specs.Bits.{AreBits};
 ghost use Rattle.laws.specs.Lists.{tab, tabFrom};
 ghost use Rattle.rate_matching.specs.SubBlocks.{rows, rowsBefore};
-ghost use Rattle.rate_matching.specs.Circle.{startOf};
-ghost use Rattle.rate_matching.specs.Walk.{itself, turn};
+ghost use Rattle.rate_matching.specs.Walk.{itself};
 ghost use Rattle.rate_matching.specs.Shape.{shape, bitPlaces, second, pairPlaces, lastPlace};
 ghost use Rattle.slots.specs.Room.{disputed, meet};
-ghost use Rattle.reception.specs.Along.{putAlong, Put, AllKnown, ringAfter, Walked, Column};
+ghost use Rattle.reception.specs.Along.{putAlong, Put, AllKnown, ringAfter, turnIn, Walked, Sends, Column};
 
 // What a place that kept `old` keeps after the bit `new`: no branch, so that a run is met many places at a time.
 fn met(old: u8, new: u8) -> u8
@@ -190,26 +189,54 @@ fn put_pairs(
     i
 }
 
-// Puts the bits of one turn of redundancy version `version`, or as many as there are, and tells how many.
+// Puts bits in the first `rest` places that hold a bit of column c of streams 1 and 2: those before the cut.
+fn put_rest(
+    d: usize,
+    filler: usize,
+    c: usize,
+    rest: usize,
+    bits: &[u8],
+    at: usize,
+    part: &mut [u8],
+) -> usize
+    requires { ⌜ Walked d filler (length (now part)) × (0 < rest → c < 32) × (at ≤ length (now bits)) ⌝ }
+    ensures { λ r. ⌜ Put (take rest (bitPlaces (shape d filler) (32 * rows d + c * (2 * rows d)) (32 * rows d + (c + 1) * (2 * rows d))))
+        (now (bits .entry)) at (now (part .entry)) (now (part .exit)) r ⌝ }
+{
+    if rest == 0 {
+        return at;
+    }
+    let left = bits.len() - at;
+    let n = if left < rest { left } else { rest };
+    let end = at + n;
+    put_pairs(d, filler, c, c + 1, &bits[..end], at, part)
+}
+
+// Puts the bits of one turn of redundancy version `version`, or as many as there are, and tells how many. The code block has a share `soft` of the soft
+// buffer, which cuts its circle.
 pub(crate) fn put_round(
     d: usize,
     filler: usize,
+    soft: usize,
     version: usize,
     bits: &[u8],
     part: &mut [u8],
 ) -> usize
-    requires { ⌜ Walked d filler (length (now part)) × (version ≤ 3) ⌝ }
-    ensures { λ r. ⌜ Put (turn (shape d filler) (startOf (rows d) version)) (now (bits .entry)) 0 (now (part .entry)) (now (part .exit)) r ⌝ }
+    requires { ⌜ Sends d filler soft version (length (now part)) ⌝ }
+    ensures { λ r. ⌜ Put (turnIn d filler soft version) (now (bits .entry)) 0 (now (part .entry)) (now (part .exit)) r ⌝ }
 {
     if bits.len() == 0 {
         return 0;
     }
+    let turn = rate_matching::turn_of(d, filler, soft, version);
+    let start = turn.start;
+    let whole = turn.whole - 32;
     // the version starts at the head of a column: of stream 0, or past its 32 of streams 1 and 2
-    let start = 24 * version + 2;
     let s = if start < 32 { start } else { 32 };
-    let p = (start - s) / 2;
+    let p = start - s;
     let first = put_columns(d, filler, s, 32, bits, 0, part);
-    let second = put_pairs(d, filler, p, 32, bits, first, part);
-    let third = put_columns(d, filler, 0, s, bits, second, part);
-    put_pairs(d, filler, 0, p, bits, third, part)
+    let second = put_pairs(d, filler, p, whole, bits, first, part);
+    let third = put_rest(d, filler, whole, turn.rest, bits, second, part);
+    let fourth = put_columns(d, filler, 0, s, bits, third, part);
+    put_pairs(d, filler, 0, p, bits, fourth, part)
 }

@@ -1,4 +1,4 @@
-// The call Receive of 01.
+// The call Receive of 01, for an uplink and, with a circle that is cut, for a downlink (02).
 mod circle;
 mod parts;
 
@@ -36,10 +36,11 @@ pub fn receive(
     }
     let head = states::head_at(state, slot);
     let size = head.size;
+    let soft = head.share;
     let room = state.blocks * states::PER_BLOCK;
     let from = slot * room;
     let to = from + room;
-    let lacking = put_and_count(size, q, n, version, bits, &mut store[from..to]);
+    let lacking = put_and_count(size, soft, q, n, version, bits, &mut store[from..to]);
     Outcome {
         answer: Answer::Heard(lacking),
         state,
@@ -67,19 +68,20 @@ fn receive_number(
     or_else(versioned, codeword::bad_bits(bits), 2)
 }
 
-// Puts the bits in the slot's room and counts the data places that then lack one.
+// Puts the bits in the slot's room, where each code block has a share `soft` of the soft buffer, and counts the data places that then lack one.
 fn put_and_count(
     size: usize,
+    soft: usize,
     q: usize,
     n: usize,
     version: usize,
     bits: &[u8],
     room: &mut [u8],
 ) -> usize
-    requires { ⌜ Accepted size q n version (now bits) (length (now room)) ⌝ }
-    ensures stored { λ r. ⌜ now (room .exit) ≡ roomAfter size q n version (now (bits .entry)) (now (room .entry)) ⌝ }
+    requires { ⌜ Accepted size soft q n version (now bits) (length (now room)) ⌝ }
+    ensures stored { λ r. ⌜ now (room .exit) ≡ roomAfter size soft q n version (now (bits .entry)) (now (room .entry)) ⌝ }
     ensures count { λ r. ⌜ r ≡ lacking 1 0 size (now (room .exit)) ⌝ }
 {
-    parts::put_blocks(size, q, n, version, bits, room);
+    parts::put_blocks(size, soft, q, n, version, bits, room);
     reading::lacking_in(size, room)
 }

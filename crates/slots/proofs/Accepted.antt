@@ -2,8 +2,8 @@
 -- In a Proof file, behind `if number != 0 { return .. }`: `openable`, `closing`, `served`, or `stored` and `owned`, from what the
 -- number's function ensures.
 -- Assumes nothing.
-use mathlib.Core.Path.{_≡_}
-use mathlib.Core.Bool.{true, false, not, _||_}
+use mathlib.Core.Path.{_≡_, refl, sym, _∙_, ap}
+use mathlib.Core.Bool.{Bool, true, false, cond, not, _||_}
 use mathlib.Core.List.{List, [], _∷_, _++_}
 use Prim.Native.Nat.{ℕ, _+_, _≤_, _<_}
 use native.Mathlib.Nat.{mul-le-mul-right}
@@ -11,14 +11,16 @@ use native.Mathlib.Omega.{arith}
 use borrow.Author.Tests.{ltb-true, ltb-false, eqb-true, not-false}
 use lib.Dec.{T, eqb, ltb}
 use Rattle.refusals.specs.Refusals.{Rule, rule, firstOf}
-use Rattle.refusals.proofs.Refusals.{numbered, cleared}
+use Rattle.refusals.proofs.Refusals.{numbered, firstOf-append, cleared}
 use Rattle.slots.specs.declared.Head.{Head}
 use Rattle.slots.specs.declared.State.{State}
 use Rattle.segmentation.specs.Segmentation.{blocks}
 use Rattle.segmentation.specs.Sizes.{badSize}
+use Rattle.codeword.specs.Downlink.{tooShort, badBuffer, shareFor}
 use Rattle.slots.specs.State.{roomLength, roomStart, storeLength, headAt, tooMany, broken, badShape, badState}
-use Rattle.slots.specs.Calls.{storeRules, ownerRules, openNumber, closeNumber, sizeAtHead}
+use Rattle.slots.specs.Calls.{storeRules, ownerRules, openRules, openNumber, openDownNumber, closeNumber, sizeAtHead, shareAtHead}
 use Rattle.slots.proofs.Tests.{or-left, or-right, inside}
+use Rattle.slots.proofs.Buffers.{Wide, short-wide, buffer-found}
 use Rattle.slots.proofs.Heads.{unbroken}
 
 -- ---- the state's shape
@@ -51,22 +53,40 @@ fitting {M} {A} e f =
     let a = inside A 30576 e in
     record { size-some = a .0; size-most = a .1; few = ltb-false M (blocks (A + 24)) f }
 
--- an open head below S has an A that fits
+-- what an open head that is not broken keeps to
+record Told (M : ℕ) (h : Head) : Type 0 where
+  pub size : badSize (h .size) ≡ false
+  pub few : tooMany M (h .size) ≡ false
+  pub enough : tooShort (h .share) (h .size + 24) (blocks (h .size + 24)) ≡ false
+
+open-told : (M : ℕ) (h : Head) → h .opened ≡ true → broken M h ≡ false → Told M h
+unfolding broken
+open-told M h o b =
+    let short : Bool = tooShort (h .share) (h .size + 24) (blocks (h .size + 24)) in
+    let all = rw o at b in
+    let rest = or-right (badSize (h .size)) (tooMany M (h .size) || short) all in
+    record {
+      size = or-left (badSize (h .size)) (tooMany M (h .size) || short) all;
+      few = or-left (tooMany M (h .size)) short rest;
+      enough = or-right (tooMany M (h .size)) short rest;
+    }
+
+-- an open head below S has an A that fits, and a share that is long enough
 pub record Good (state : State) : Type 0 where
   pub shape : Shape (state .slots) (state .blocks)
   pub fits : (slot : ℕ) → slot < state .slots → headAt state slot .opened ≡ true → Fitting (state .blocks) (sizeAtHead state slot)
+  pub wide : (slot : ℕ) → slot < state .slots → headAt state slot .opened ≡ true → Wide (shareAtHead state slot) (sizeAtHead state slot + 24)
 
 pub good : (state : State) → badState state ≡ false → Good state
-unfolding badState broken headAt sizeAtHead
+unfolding badState headAt sizeAtHead shareAtHead
 good state e = record {
   shape = good-shape (or-left (badShape (state .slots) (state .blocks)) _ e);
-  fits = λ slot l o. open-fits (headAt state slot) o (unbroken (state .blocks) (state .slots) slot (state .heads) (or-right (badShape (state .slots) (state .blocks)) _ e) l);
+  fits = λ slot l o. let told = open-told (state .blocks) (headAt state slot) o (whole slot l) in fitting (told .size) (told .few);
+  wide = λ slot l o. let told = open-told (state .blocks) (headAt state slot) o (whole slot l) in short-wide (headAt state slot .size) (told .size) (headAt state slot .share) (told .enough);
 }
   where
-    open-fits : (h : Head) → h .opened ≡ true → broken (state .blocks) h ≡ false → Fitting (state .blocks) (h .size)
-    open-fits h o b =
-        let sizes = rw o at b in
-        fitting (or-left (badSize (h .size)) (tooMany (state .blocks) (h .size)) sizes) (or-right (badSize (h .size)) (tooMany (state .blocks) (h .size)) sizes)
+    whole : (slot : ℕ) → slot < state .slots → broken (state .blocks) (headAt state slot) ≡ false
+    whole slot l = unbroken (state .blocks) (state .slots) slot (state .heads) (or-right (badShape (state .slots) (state .blocks)) _ e) l
 
 -- ---- 13, 5, 6
 
@@ -103,11 +123,53 @@ pub record Openable (state : State) (room slot A : ℕ) : Type 0 where
 
 -- number 0 of Open
 pub openable : (state : State) (room slot A : ℕ) {n : ℕ} → n ≡ openNumber state room slot A → n ≡ 0 → Openable state room slot A
-unfolding openNumber storeRules
+unfolding openNumber openRules storeRules
 openable state room slot A e z =
     let rest = rule (headAt state slot .opened) 7 ∷ rule (badSize A) 1 ∷ rule (tooMany (state .blocks) A) 10 ∷ [] in
     let clear = cleared (storeRules state room slot ++ rest) e z tt in
     record { slot-stored = stored state room slot rest e z tt; closed = clear 3; size-fits = fitting (clear 4) (clear 5) }
+
+-- A is in range
+pub open-admitted : (state : State) (room slot A : ℕ) {n : ℕ} → n ≡ openNumber state room slot A → n ≡ 0 → badSize A ≡ false
+unfolding openNumber openRules storeRules
+open-admitted state room slot A e z = cleared (openRules state room slot A) e z tt 4
+
+-- ---- 21 after these
+
+module _ (state : State) (room slot A release kMIMO processes Nsoft layers : ℕ) where
+  -- the number by the share as it is found
+  pub down-found : firstOf (openRules state room slot A ++ (rule (tooShort (shareFor (blocks (A + 24)) release kMIMO processes Nsoft layers) (A + 24) (blocks (A + 24))) 21 ∷ []))
+      ≡ openDownNumber state room slot A release kMIMO processes Nsoft layers
+  unfolding openDownNumber openNumber openRules storeRules
+  down-found =
+      firstOf-append (openRules state room slot A) _ tt
+      ∙ go (eqb (firstOf (openRules state room slot A)) 0) refl
+      ∙ sym (firstOf-append (openRules state room slot A) _ tt)
+    where
+      short : ℕ → Bool
+      short soft = tooShort soft (A + 24) (blocks (A + 24))
+
+      go : (b : Bool) → eqb (firstOf (openRules state room slot A)) 0 ≡ b
+          → cond b (firstOf (rule (short (shareFor (blocks (A + 24)) release kMIMO processes Nsoft layers)) 21 ∷ [])) (firstOf (openRules state room slot A))
+          ≡ cond b (firstOf (rule (badBuffer (A + 24) release kMIMO processes Nsoft layers) 21 ∷ [])) (firstOf (openRules state room slot A))
+      go true z = ap (λ (t : Bool). firstOf (rule t 21 ∷ [])) (buffer-found A (open-admitted state room slot A refl (eqb-true _ 0 z)) release kMIMO processes Nsoft layers)
+      go false z = refl
+
+  -- number 0 of Open for a downlink: none of Open's applies
+  pub down-open : openDownNumber state room slot A release kMIMO processes Nsoft layers ≡ 0 → openNumber state room slot A ≡ 0
+  unfolding openDownNumber openNumber openRules storeRules
+  down-open e = go (eqb (firstOf (openRules state room slot A)) 0) refl (sym (firstOf-append (openRules state room slot A) _ tt) ∙ e)
+    where
+      go : (b : Bool) → eqb (firstOf (openRules state room slot A)) 0 ≡ b
+          → cond b (firstOf (rule (badBuffer (A + 24) release kMIMO processes Nsoft layers) 21 ∷ [])) (firstOf (openRules state room slot A)) ≡ 0
+          → firstOf (openRules state room slot A) ≡ 0
+      go true z h = eqb-true _ 0 z
+      go false z h = h
+
+  -- nor 21
+  pub down-buffer : openDownNumber state room slot A release kMIMO processes Nsoft layers ≡ 0 → badBuffer (A + 24) release kMIMO processes Nsoft layers ≡ false
+  unfolding openDownNumber openRules storeRules
+  down-buffer e = cleared (openRules state room slot A ++ (rule (badBuffer (A + 24) release kMIMO processes Nsoft layers) 21 ∷ [])) refl e tt 6
 
 -- ---- 8, 9
 
@@ -118,6 +180,7 @@ pub record Owned (state : State) (slot terminal : ℕ) : Type 0 where
   pub opened : headAt state slot .opened ≡ true
   pub theirs : headAt state slot .terminal ≡ terminal
   pub size-fits : Fitting (state .blocks) (sizeAtHead state slot)
+  pub wide : Wide (shareAtHead state slot) (sizeAtHead state slot + 24)
 
 own : (state : State) (slot terminal : ℕ) → badState state ≡ false → not (ltb slot (state .slots)) ≡ false → not (headAt state slot .opened) ≡ false
     → not (eqb (headAt state slot .terminal) terminal) ≡ false → Owned state slot terminal
@@ -130,6 +193,7 @@ own state slot terminal bad absent closed other =
       opened = is-open;
       theirs = eqb-true (headAt state slot .terminal) terminal (not-false (eqb (headAt state slot .terminal) terminal) other);
       size-fits = good state bad .fits slot below is-open;
+      wide = good state bad .wide slot below is-open;
     }
 
 -- number 0 of a call that asks for the store and the owner first

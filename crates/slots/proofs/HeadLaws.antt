@@ -11,10 +11,11 @@ use lib.Seq.{getD-set-same, getD-set-other, set-out}
 use borrow.Author.Tests.{le-ltb}
 use Rattle.segmentation.specs.Segmentation.{blocks}
 use Rattle.segmentation.specs.Sizes.{badSize}
+use Rattle.codeword.specs.Downlink.{tooShort}
 use Rattle.segmentation.proofs.Segmentation.{good-size}
 use Rattle.slots.specs.declared.Head.{Head}
 use Rattle.slots.specs.declared.State.{State}
-use Rattle.slots.specs.State.{closedHead, newState, headAt, tooMany, broken, someBroken, badShape, badState}
+use Rattle.slots.specs.State.{closedHead, openHead, newState, headAt, tooMany, broken, someBroken, badShape, badState}
 use Rattle.slots.specs.Calls.{withHead, sizeAtHead}
 use Rattle.slots.proofs.Tests.{or-left, or-right}
 use Rattle.slots.proofs.Heads.{closed-unbroken, unbroken}
@@ -22,11 +23,11 @@ use Rattle.slots.proofs.Accepted.{Fitting, good}
 
 -- ---- broken heads
 
--- a head that is open for an A that fits
-pub fitting-unbroken : {M A : ℕ} (terminal : ℕ) → Fitting M A → broken M (record { opened = true; terminal = terminal; size = A }) ≡ false
+-- a head that is open for an A that fits, with a share that is long enough
+pub fitting-unbroken : {M A : ℕ} (terminal soft : ℕ) → Fitting M A → tooShort soft (A + 24) (blocks (A + 24)) ≡ false → broken M (openHead terminal A soft) ≡ false
 unfolding broken tooMany
-fitting-unbroken {M} {A} terminal f =
-    ap₂ (λ (a b : Bool). a || b) (good-size A (f .size-some) (f .size-most)) (le-ltb M (blocks (A + 24)) (f .few))
+fitting-unbroken {M} {A} terminal soft f e =
+    ap₂ (λ (a b : Bool). a || b) (good-size A (f .size-some) (f .size-most)) (ap₂ (λ (a b : Bool). a || b) (le-ltb M (blocks (A + 24)) (f .few)) e)
 
 all-unbroken : (M n : ℕ) (hs : List Head) → ((i : ℕ) → i < n → broken M (getD hs i closedHead) ≡ false) → someBroken M n hs ≡ false
 unfolding someBroken

@@ -1,4 +1,5 @@
 pub mod Tests
+pub mod Buffers
 pub mod Heads
 pub mod Accepted
 pub mod Cleared

@@ -2,31 +2,31 @@
 -- Assumes nothing.
 use mathlib.Core.Path.{_≡_}
 use mathlib.Core.Bool.{false}
-use mathlib.Core.List.{List}
-use Prim.Native.Nat.{ℕ, _+_, _%_, _≤_, _<_}
-use native.Mathlib.Decide.{decLt}
+use Prim.Native.Nat.{ℕ, _+_, _≤_, _<_}
 use native.Mathlib.Omega.{arith}
-use lib.ListN.{length, getD, List·getD-eq-default}
+use lib.ListN.{length, take}
 use borrow.Author.Tests.{ltb-false}
 use Rattle.laws.proofs.Tab.{length-tab, getD-tab}
+use Rattle.interleaver.proofs.Rows.{row-keeps}
 use Rattle.segmentation.specs.Segmentation.{blocks, sizeOf, fillerOf}
 use Rattle.segmentation.specs.Sizes.{badSize}
-use Rattle.segmentation.proofs.Segmentation.{in-range, size-most}
+use Rattle.segmentation.proofs.Segmentation.{in-range, size-row, row-below, size-most}
 use Rattle.segmentation.proofs.CodeBlocks.{filler-within}
 use Rattle.rate_matching.specs.SubBlocks.{rows}
-use Rattle.rate_matching.specs.Circle.{circleLength, startOf}
+use Rattle.rate_matching.specs.Circle.{circleLength, Cut, startIn}
 use Rattle.rate_matching.specs.Walk.{turn, turnAfterTurn, sentPlaces}
 use Rattle.rate_matching.specs.Places.{placeNumber, placeOf}
 use Rattle.rate_matching.specs.Shape.{shape}
-use Rattle.rate_matching.proofs.Circle.{start-lt}
-use Rattle.rate_matching.proofs.Walk.{turn-lt}
+use Rattle.rate_matching.proofs.Cut.{sent-before}
 use Rattle.rate_matching.proofs.Places.{place-on-circle}
 use Rattle.rate_matching.proofs.ShapeTurn as ShapeTurn
 use Rattle.codeword.specs.Build.{badVersion}
-use Rattle.codeword.specs.Codeword.{blockRows}
+use Rattle.codeword.specs.Codeword.{blockRows, blockCut}
 use Rattle.codeword.specs.Shares.{share}
+use Rattle.codeword.proofs.Sent.{cut-told}
 use Rattle.slots.specs.State.{perBlock}
 use Rattle.slots.specs.Reception.{blockPlaces}
+use Rattle.slots.proofs.Buffers.{Wide}
 use Rattle.slots.proofs.RoomLaws.{Places}
 
 module _ (A : ℕ) (admitted : badSize A ≡ false) where
@@ -46,29 +46,31 @@ module _ (A : ℕ) (admitted : badSize A ≡ false) where
   pub length-shape : (r : ℕ) → length (shape (sizeOf (A + 24) r + 4) (fillerOf (A + 24) r)) ≡ circleLength (rows (sizeOf (A + 24) r + 4))
   length-shape r = ShapeTurn.length-shape (sizeOf (A + 24) r + 4) (fillerOf (A + 24) r) (omega (arith, filler-within (A + 24) high (omega arith) r))
 
-  -- the places that a code block sends
-  pub sent-below : (Q N v G r : ℕ) → badVersion v ≡ false → Places (blockPlaces (A + 24) Q N v G r)
-  unfolding blockPlaces sentPlaces turnAfterTurn blockRows badVersion
-  sent-below Q N v G r low i l =
-      rw (getD-tab E (turnAfterTurn (turn w k0)) i 0 (rw (length-tab E (turnAfterTurn (turn w k0))) at l)) (entry (i % length (turn w k0)))
-    where
-      w : List ℕ
-      w = shape (sizeOf (A + 24) r + 4) (fillerOf (A + 24) r)
+  -- K + 4
+  pub streams-least : (r : ℕ) → 44 ≤ sizeOf (A + 24) r + 4
+  streams-least r = omega (arith, row-keeps _ (row-below (A + 24) high r) .least, size-row (A + 24) high r)
 
-      k0 : ℕ
-      k0 = startOf (rows (sizeOf (A + 24) r + 4)) v
+  pub filler-fewer : (r : ℕ) → fillerOf (A + 24) r < sizeOf (A + 24) r + 4
+  filler-fewer r = omega (arith, filler-within (A + 24) high (omega arith) r)
 
-      E : ℕ
-      E = share (blocks (A + 24)) Q N G r
+  module _ {soft : ℕ} (wide : Wide soft (A + 24)) where
+    -- where the circle of a code block is cut
+    pub block-cut : (r : ℕ) → Cut (blockCut soft (A + 24) r) (rows (sizeOf (A + 24) r + 4))
+    unfolding blockCut blockRows
+    block-cut r = cut-told (rows (sizeOf (A + 24) r + 4)) (rows-pos r) (wide r)
 
-      starts : k0 < length w
-      starts = rw (length-shape r) (start-lt (rows (sizeOf (A + 24) r + 4)) v (rows-pos r) (ltb-false 3 v low))
+    -- the places that a code block sends
+    pub sent-below : (Q N v G r : ℕ) → badVersion v ≡ false → Places (blockPlaces soft (A + 24) Q N v G r)
+    unfolding blockPlaces sentPlaces blockRows badVersion
+    sent-below Q N v G r low i l =
+        rw (getD-tab E places i 0 (rw (length-tab E places) at l))
+        (omega (arith, sent-before (streams-least r) (filler-fewer r) (block-cut r) (ltb-false 3 v low) i, block-cut r .most, circle-most r))
+      where
+        E : ℕ
+        E = share (blocks (A + 24)) Q N G r
 
-      entry : (k : ℕ) → getD (turn w k0) k 0 < perBlock
-      entry k = elim (decLt k (length (turn w k0))) [
-        | yes h ↦ omega (arith, turn-lt w k0 starts k h, length-shape r, circle-most r)
-        | no h ↦ rw (List·getD-eq-default (turn w k0) 0 {n = k} (omega arith)) (omega arith)
-      ]
+        places : ℕ → ℕ
+        places = turnAfterTurn (turn (take (blockCut soft (A + 24) r) (shape (sizeOf (A + 24) r + 4) (fillerOf (A + 24) r))) (startIn (blockCut soft (A + 24) r) (rows (sizeOf (A + 24) r + 4)) v))
 
   -- the place of a stream's place
   pub place-below : (r s i : ℕ) → s < 3 → i < sizeOf (A + 24) r + 4 → placeNumber (sizeOf (A + 24) r + 4) s i < perBlock

@@ -123,50 +123,50 @@ putBits-out M slot r (j ∷ js) bits store at p h =
     ∙ getD-set-other store (byteOf M slot r j) at (meet (getD store (byteOf M slot r j) 0) (getD bits 0 0)) 0 (h j (p 0 (omega arith)))
 
 -- all that a transmission sends are places of code blocks
-abbrev pub AllPlaces : ℕ → ℕ → ℕ → ℕ → ℕ → Type 0
-AllPlaces B Q N v G = (q : ℕ) → Places (blockPlaces B Q N v G q)
+abbrev pub AllPlaces : ℕ → ℕ → ℕ → ℕ → ℕ → ℕ → Type 0
+AllPlaces soft B Q N v G = (q : ℕ) → Places (blockPlaces soft B Q N v G q)
 
-pub length-putBlocks : (M slot B Q N v : ℕ) (bits : List ℕ) (r n : ℕ) (store : List ℕ)
-    → length (putBlocks M slot B Q N v bits r n store) ≡ length store
+pub length-putBlocks : (soft M slot B Q N v : ℕ) (bits : List ℕ) (r n : ℕ) (store : List ℕ)
+    → length (putBlocks soft M slot B Q N v bits r n store) ≡ length store
 unfolding putBlocks
-length-putBlocks M slot B Q N v bits r zero store = refl
-length-putBlocks M slot B Q N v bits r (suc n) store =
-    length-putBlocks M slot B Q N v bits (suc r) n
-    (putBits M slot r (blockPlaces B Q N v (length bits) r) (drop (sharesBefore (blocks B) Q N (length bits) r) bits) store)
-    ∙ length-putBits M slot r (blockPlaces B Q N v (length bits) r) (drop (sharesBefore (blocks B) Q N (length bits) r) bits) store
+length-putBlocks soft M slot B Q N v bits r zero store = refl
+length-putBlocks soft M slot B Q N v bits r (suc n) store =
+    length-putBlocks soft M slot B Q N v bits (suc r) n
+    (putBits M slot r (blockPlaces soft B Q N v (length bits) r) (drop (sharesBefore (blocks B) Q N (length bits) r) bits) store)
+    ∙ length-putBits M slot r (blockPlaces soft B Q N v (length bits) r) (drop (sharesBefore (blocks B) Q N (length bits) r) bits) store
 
 -- a byte that is no place of these code blocks stays
-pub putBlocks-out : (M slot B Q N v : ℕ) (bits : List ℕ) (r n : ℕ) (store : List ℕ) (at : ℕ) → AllPlaces B Q N v (length bits)
+pub putBlocks-out : (soft M slot B Q N v : ℕ) (bits : List ℕ) (r n : ℕ) (store : List ℕ) (at : ℕ) → AllPlaces soft B Q N v (length bits)
     → ((q j : ℕ) → r ≤ q → q < r + n → j < perBlock → at ≡ byteOf M slot q j → ⊥)
-    → getD (putBlocks M slot B Q N v bits r n store) at 0 ≡ getD store at 0
+    → getD (putBlocks soft M slot B Q N v bits r n store) at 0 ≡ getD store at 0
 unfolding putBlocks
-putBlocks-out M slot B Q N v bits r zero store at p h = refl
-putBlocks-out M slot B Q N v bits r (suc n) store at p h =
-    putBlocks-out M slot B Q N v bits (suc r) n
-    (putBits M slot r (blockPlaces B Q N v (length bits) r) (drop (sharesBefore (blocks B) Q N (length bits) r) bits) store)
+putBlocks-out soft M slot B Q N v bits r zero store at p h = refl
+putBlocks-out soft M slot B Q N v bits r (suc n) store at p h =
+    putBlocks-out soft M slot B Q N v bits (suc r) n
+    (putBits M slot r (blockPlaces soft B Q N v (length bits) r) (drop (sharesBefore (blocks B) Q N (length bits) r) bits) store)
     at
     p
     (λ q j l g. h q j (omega arith) (omega arith))
-    ∙ putBits-out M slot r (blockPlaces B Q N v (length bits) r) (drop (sharesBefore (blocks B) Q N (length bits) r) bits) store at
+    ∙ putBits-out M slot r (blockPlaces soft B Q N v (length bits) r) (drop (sharesBefore (blocks B) Q N (length bits) r) bits) store at
     (p r)
     (λ j. h r j (omega arith) (omega arith))
 
 -- a reception for a block of A bits, of which all code blocks have a place in the room
-module _ (M slot A Q N v : ℕ) (bits store : List ℕ) where
-  pub length-received : length (received M slot A Q N v bits store) ≡ length store
+module _ (soft M slot A Q N v : ℕ) (bits store : List ℕ) where
+  pub length-received : length (received soft M slot A Q N v bits store) ≡ length store
   unfolding received
-  length-received = length-putBlocks M slot (A + 24) Q N v bits 0 (blocks (A + 24)) store
+  length-received = length-putBlocks soft M slot (A + 24) Q N v bits 0 (blocks (A + 24)) store
 
-  module _ (fits : blocks (A + 24) ≤ M) (places : AllPlaces (A + 24) Q N v (length bits)) where
+  module _ (fits : blocks (A + 24) ≤ M) (places : AllPlaces soft (A + 24) Q N v (length bits)) where
     -- no byte of another room, and none past the rooms
-    pub received-out : (at : ℕ) → (InRoom M slot at → ⊥) → getD (received M slot A Q N v bits store) at 0 ≡ getD store at 0
+    pub received-out : (at : ℕ) → (InRoom M slot at → ⊥) → getD (received soft M slot A Q N v bits store) at 0 ≡ getD store at 0
     unfolding received
-    received-out at h = putBlocks-out M slot (A + 24) Q N v bits 0 (blocks (A + 24)) store at places
+    received-out at h = putBlocks-out soft M slot (A + 24) Q N v bits 0 (blocks (A + 24)) store at places
         (λ q j l g k e. h (rw e (byte-in-room M slot q j (omega arith) k)))
 
     -- no place of a code block past the last
     pub received-past : (r j : ℕ) → blocks (A + 24) ≤ r → j < perBlock
-        → getD (received M slot A Q N v bits store) (byteOf M slot r j) 0 ≡ getD store (byteOf M slot r j) 0
+        → getD (received soft M slot A Q N v bits store) (byteOf M slot r j) 0 ≡ getD store (byteOf M slot r j) 0
     unfolding received
-    received-past r j h l = putBlocks-out M slot (A + 24) Q N v bits 0 (blocks (A + 24)) store (byteOf M slot r j) places
+    received-past r j h l = putBlocks-out soft M slot (A + 24) Q N v bits 0 (blocks (A + 24)) store (byteOf M slot r j) places
         (λ q k u g m e. let same : r ≡ q = byte-block M slot r j q k l m e in omega arith)

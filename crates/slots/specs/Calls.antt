@@ -1,6 +1,6 @@
--- The six calls of 01's slots: for each its refusals in 01's order, its answer with the state returned, and every lent byte afterwards.
+-- The calls of 01's slots and Open for a downlink (02, E6): for each its refusals in 01's order, its answer with the state returned, and every lent byte afterwards.
 -- Assumes nothing.
-use mathlib.Core.Bool.{Bool, true, cond, not}
+use mathlib.Core.Bool.{Bool, cond, not}
 use mathlib.Core.List.{List, [], _∷_, _++_}
 use Prim.Native.Nat.{ℕ, _+_, _*_}
 use lib.Dec.{eqb, ltb}
@@ -8,12 +8,14 @@ use lib.ListN.{length, drop, set}
 use Rattle.refusals.specs.Refusals.{Rule, rule, firstOf}
 use Rattle.segmentation.specs.Segmentation.{blocks, sizeOf}
 use Rattle.segmentation.specs.Sizes.{badSize}
+use Rattle.rate_matching.specs.SoftBuffer.{softShare, wholeShare}
 use Rattle.codeword.specs.Build.{badAllocation, badVersion, badBits}
+use Rattle.codeword.specs.Downlink.{badBuffer}
 use Rattle.slots.specs.declared.Head.{Head}
 use Rattle.slots.specs.declared.State.{State}
 use Rattle.slots.specs.declared.Answer.the-variants.{Done, Heard}
 use Rattle.slots.specs.declared.Outcome.{Outcome}
-use Rattle.slots.specs.State.{storeLength, closedHead, newState, headAt, tooMany, badShape, badState}
+use Rattle.slots.specs.State.{storeLength, closedHead, openHead, newState, headAt, tooMany, badShape, badState}
 use Rattle.slots.specs.Room.{cleared}
 use Rattle.slots.specs.Reception.{received}
 use Rattle.slots.specs.Reading.{lacking, heardAnswer, heardBlock, threeStreams}
@@ -39,25 +41,51 @@ newOutcome S M =
     unlessRefused (firstOf (rule (badShape S M) 13 ∷ [])) (newState 0 0)
     (record { answer = Done; state = newState S M })
 
--- Open: 13, 5, 6, 7, 1, 10
+-- 13, 5, 6, 7, 1, 10: what is asked of every opening
+unfoldable pub openRules : State → ℕ → ℕ → ℕ → List Rule
+openRules state room slot A =
+    storeRules state room slot
+    ++ (rule (headAt state slot .opened) 7 ∷ rule (badSize A) 1 ∷ rule (tooMany (state .blocks) A) 10 ∷ [])
+
+-- Open: the head of an uplink holds the whole share
 unfoldable pub openNumber : State → ℕ → ℕ → ℕ → ℕ
-openNumber state room slot A =
-    firstOf
-    (storeRules state room slot
-    ++ (rule (headAt state slot .opened) 7 ∷ rule (badSize A) 1 ∷ rule (tooMany (state .blocks) A) 10 ∷ []))
+openNumber state room slot A = firstOf (openRules state room slot A)
 
 unfoldable pub openOutcome : State → ℕ → ℕ → ℕ → ℕ → Outcome
 openOutcome state room slot terminal A =
     unlessRefused (openNumber state room slot A) state
-    (record { answer = Done; state = withHead state slot (record { opened = true; terminal = terminal; size = A }) })
+    (record { answer = Done; state = withHead state slot (openHead terminal A wholeShare) })
 
 unfoldable pub openStore : State → ℕ → ℕ → List ℕ → List ℕ
 openStore state slot A store =
     cond (eqb (openNumber state (length store) slot A) 0) (cleared (state .blocks) slot store) store
 
+-- Open for a downlink: 21 comes last; the head holds ⌊N_IR / C⌋ as it is, also where no circle is so long
+unfoldable pub openDownNumber : State → ℕ → ℕ → ℕ → ℕ → ℕ → ℕ → ℕ → ℕ → ℕ
+openDownNumber state room slot A release kMIMO processes Nsoft layers =
+    firstOf (openRules state room slot A ++ (rule (badBuffer (A + 24) release kMIMO processes Nsoft layers) 21 ∷ []))
+
+unfoldable pub openDownOutcome : State → ℕ → ℕ → ℕ → ℕ → ℕ → ℕ → ℕ → ℕ → ℕ → Outcome
+openDownOutcome state room slot terminal A release kMIMO processes Nsoft layers =
+    unlessRefused (openDownNumber state room slot A release kMIMO processes Nsoft layers) state
+    (record {
+      answer = Done;
+      state = withHead state slot (openHead terminal A (softShare (blocks (A + 24)) release kMIMO processes Nsoft layers));
+    })
+
+unfoldable pub openDownStore : State → ℕ → ℕ → ℕ → ℕ → ℕ → ℕ → ℕ → List ℕ → List ℕ
+openDownStore state slot A release kMIMO processes Nsoft layers store =
+    cond (eqb (openDownNumber state (length store) slot A release kMIMO processes Nsoft layers) 0)
+    (cleared (state .blocks) slot store)
+    store
+
 -- the A of a slot's head
 unfoldable pub sizeAtHead : State → ℕ → ℕ
 sizeAtHead state slot = headAt state slot .size
+
+-- the share of the soft buffer that each code block of a slot has
+unfoldable pub shareAtHead : State → ℕ → ℕ
+shareAtHead state slot = headAt state slot .share
 
 -- Receive: 13, 5, 6, 8, 9, 3, 4, 2
 unfoldable pub receiveNumber : State → ℕ → ℕ → ℕ → ℕ → ℕ → ℕ → List ℕ → ℕ
@@ -73,7 +101,7 @@ receiveNumber state room slot terminal Q N v bits =
 unfoldable pub receiveStore : State → ℕ → ℕ → ℕ → ℕ → ℕ → List ℕ → List ℕ → List ℕ
 receiveStore state slot terminal Q N v bits store =
     cond (eqb (receiveNumber state (length store) slot terminal Q N v bits) 0)
-    (received (state .blocks) slot (sizeAtHead state slot) Q N v bits store)
+    (received (shareAtHead state slot) (state .blocks) slot (sizeAtHead state slot) Q N v bits store)
     store
 
 -- accepted: how many data places lack a bit after the reception

@@ -1,4 +1,4 @@
--- The state of 01's slots: S, M and eight heads, and which states and stores are refused.
+-- The state of 01's slots: S, M and eight heads, each with its code blocks' share of the soft buffer (02, E6), and which states and stores are refused.
 -- Assumes nothing.
 use mathlib.Core.Bool.{Bool, true, false, not, _||_, _&&_}
 use mathlib.Core.List.{List, [], _∷_}
@@ -7,6 +7,7 @@ use lib.Dec.{eqb, ltb}
 use lib.ListN.{getD, replicate}
 use Rattle.segmentation.specs.Segmentation.{blocks}
 use Rattle.segmentation.specs.Sizes.{badSize}
+use Rattle.codeword.specs.Downlink.{tooShort}
 use Rattle.slots.specs.declared.Head.{Head}
 use Rattle.slots.specs.declared.State.{State}
 
@@ -28,7 +29,11 @@ storeLength state = state .slots * roomLength (state .blocks)
 
 -- a closed head: its other numbers are 0
 unfoldable pub closedHead : Head
-closedHead = record { opened = false; terminal = 0; size = 0 }
+closedHead = record { opened = false; terminal = 0; size = 0; share = 0 }
+
+-- a head that is open for a terminal with a block of A bits, each code block having a share `soft` of the soft buffer
+abbrev pub openHead : ℕ → ℕ → ℕ → Head
+openHead terminal A soft = record { opened = true; terminal = terminal; size = A; share = soft }
 
 -- S slots for M code blocks each, all closed
 unfoldable pub newState : ℕ → ℕ → State
@@ -42,9 +47,11 @@ headAt state slot = getD (state .heads) slot closedHead
 unfoldable pub tooMany : ℕ → ℕ → Bool
 tooMany M A = ltb M (blocks (A + 24))
 
--- a head is broken if it is open and its A is out of range or needs more than M code blocks
+-- a head is broken if it is open and its A is out of range or needs more than M code blocks, or its share is below 32·R for one of its code blocks
 unfoldable pub broken : ℕ → Head → Bool
-broken M h = h .opened && (badSize (h .size) || tooMany M (h .size))
+broken M h =
+    h .opened
+    && (badSize (h .size) || (tooMany M (h .size) || tooShort (h .share) (h .size + 24) (blocks (h .size + 24))))
 
 -- one of the first n heads is broken
 unfoldable pub someBroken : ℕ → ℕ → List Head → Bool

@@ -5,12 +5,15 @@ pub mod states;
 pub use opening::close;
 pub use opening::new;
 pub use opening::open;
+pub use opening::open_down;
 
-// A slot's head: closed, or open for a terminal with a block of `size` bits (A).
+// A slot's head: closed, or open for a terminal with a block of `size` bits (A), each code block having `share` places of the soft buffer:
+// 18,528 in an uplink, the floor of N_IR / C in a downlink, 0 in a closed head.
 pub struct Head {
     pub opened: bool,
     pub terminal: u16,
     pub size: usize,
+    pub share: usize,
 }
 
 // S slots, each for M code blocks; heads from S upward are ignored.

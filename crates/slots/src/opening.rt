@@ -1,4 +1,4 @@
-// The calls New, Open and Close.
+// The calls New, Open, Open for a downlink, and Close.
 use crate::Answer;
 use crate::Head;
 use crate::Outcome;
@@ -6,11 +6,18 @@ use crate::State;
 use crate::states;
 use refusals::or_else;
 ghost use mathlib.Core.Path.{_≡_};
-ghost use Prim.Native.Nat.{ℕ};
+ghost use mathlib.Core.List.{[], _∷_, _++_};
+ghost use Prim.Native.Nat.{ℕ, _+_, _≤_};
 ghost use lib.ListN.{length, replicate};
-ghost use Rattle.slots.specs.State.{newState};
-ghost use Rattle.slots.specs.Room.{unheard};
-ghost use Rattle.slots.specs.Calls.{newOutcome, openNumber, openOutcome, openStore, closeNumber, closeOutcome};
+ghost use Rattle.codeword.specs.Downlink.{tooShort};
+ghost use Rattle.refusals.specs.Refusals.{rule, firstOf};
+ghost use Rattle.segmentation.specs.Segmentation.{blocks};
+ghost use Rattle.slots.specs.State.{roomLength, roomStart, newState};
+ghost use Rattle.slots.specs.Room.{unheard, cleared};
+ghost use Rattle.slots.specs.Calls.{newOutcome, openRules, openNumber, openOutcome, openStore, openDownOutcome, openDownStore, closeNumber, closeOutcome};
+
+// The share of the soft buffer that an uplink's code block has: the places of the largest circle.
+const WHOLE_SHARE: usize = 18528;
 
 // A state of S slots for M code blocks each, all closed. Touches no room.
 pub fn new(slots: usize, blocks: usize) -> Outcome
@@ -52,19 +59,82 @@ pub fn open(state: State, slot: usize, terminal: u16, size: usize, store: &mut [
             state,
         };
     }
-    let m = state.blocks;
-    let from = states::room_start(m, slot);
-    let to = from + states::room_length(m);
-    fill(&mut store[from..to]);
+    clear_room(state.blocks, slot, store);
     let head = Head {
         opened: true,
         terminal,
         size,
+        share: WHOLE_SHARE,
     };
     Outcome {
         answer: Answer::Done,
         state: states::with_head(state, slot, head),
     }
+}
+
+// Opens a slot for a downlink: the same, and each code block has its share of the soft buffer. `release` is 8 or 11, `mimo` is K_MIMO, `soft`
+// the receiver's soft bits for `processes` processes, `layers` how many it supports.
+pub fn open_down(
+    state: State,
+    slot: usize,
+    terminal: u16,
+    size: usize,
+    release: usize,
+    mimo: usize,
+    processes: usize,
+    soft: usize,
+    layers: usize,
+    store: &mut [u8],
+) -> Outcome
+    ensures { λ r. ⌜ r ≡ openDownOutcome state (length (now (store .entry))) slot terminal size release mimo processes soft layers ⌝ }
+    ensures { λ r. ⌜ now (store .exit) ≡ openDownStore state slot size release mimo processes soft layers (now (store .entry)) ⌝ }
+{
+    let count = states::block_count(size);
+    let share = codeword::share_for(count, release, mimo, processes, soft, layers);
+    let number = down_number(state, store.len(), slot, size, share);
+    if number != 0 {
+        return Outcome {
+            answer: Answer::Refused(number),
+            state,
+        };
+    }
+    clear_room(state.blocks, slot, store);
+    let head = Head {
+        opened: true,
+        terminal,
+        size,
+        share,
+    };
+    Outcome {
+        answer: Answer::Done,
+        state: states::with_head(state, slot, head),
+    }
+}
+
+// Its refusals for a share of the soft buffer, 0 where the receiver is refused: Open's, then 21.
+fn down_number(state: State, room: usize, slot: usize, size: usize, share: usize) -> u8
+    ensures { λ r. ⌜ r ≡ firstOf (openRules state room slot size ++ (rule (tooShort share (size + 24) (blocks (size + 24))) 21 ∷ [])) ⌝ }
+{
+    let number = open_number(state, room, slot, size);
+    if number != 0 {
+        return number;
+    }
+    if states::too_short(share, size) {
+        21
+    } else {
+        0
+    }
+}
+
+// Unheard over a slot's whole room.
+fn clear_room(m: usize, slot: usize, store: &mut [u8])
+    requires { ⌜ (m ≤ 5) × (slot ≤ 8) ⌝ }
+    requires { ⌜ roomStart m slot + roomLength m ≤ length (now store) ⌝ }
+    ensures { λ r. ⌜ now (store .exit) ≡ cleared m slot (now (store .entry)) ⌝ }
+{
+    let from = states::room_start(m, slot);
+    let to = from + states::room_length(m);
+    fill(&mut store[from..to]);
 }
 
 // Open's refusals, for a store of `room` bytes.

@@ -3,7 +3,7 @@ use crate::Head;
 use crate::State;
 use refusals::or_else;
 ghost use mathlib.Core.Path.{_≡_};
-ghost use mathlib.Core.Bool.{cond, _||_};
+ghost use mathlib.Core.Bool.{false, cond, _||_};
 ghost use mathlib.Core.List.{_++_};
 ghost use Prim.Native.Nat.{_+_, _≤_, _<_};
 ghost use lib.Dec.{eqb, ltb};
@@ -11,11 +11,15 @@ ghost use lib.ListN.{getD};
 ghost use Rattle.refusals.specs.Refusals.{firstOf};
 ghost use Rattle.segmentation.specs.Segmentation.{blocks};
 ghost use Rattle.segmentation.specs.Sizes.{badSize};
+ghost use Rattle.codeword.specs.Downlink.{tooShort};
 ghost use Rattle.slots.specs.State.{roomLength, roomStart, closedHead, headAt, tooMany, broken, badShape, badState};
 ghost use Rattle.slots.specs.Calls.{storeRules, ownerRules, withHead};
 
 // The bytes that a room has for one code block, the largest circle.
 pub const PER_BLOCK: usize = 18528;
+
+// The share that is long enough for every code block, 32·193.
+const MOST_NEEDED: usize = 6176;
 
 // The length of a room for M code blocks.
 pub(crate) fn room_length(m: usize) -> usize
@@ -41,6 +45,7 @@ pub(crate) fn closed_head() -> Head
         opened: false,
         terminal: 0,
         size: 0,
+        share: 0,
     }
 }
 
@@ -103,11 +108,24 @@ pub(crate) fn bad_shape(s: usize, m: usize) -> bool
     outside(s, 8) || outside(m, 5)
 }
 
-// An open head whose A is out of range or needs more than M code blocks.
+// An N_cb below 32·R for one of the code blocks: the longest decides. None has more than 193 rows, so that a long share needs no look at them.
+pub(crate) fn too_short(share: usize, a: usize) -> bool
+    requires { ⌜ badSize a ≡ false ⌝ }
+    ensures { λ r. ⌜ r ≡ tooShort share (a + 24) (blocks (a + 24)) ⌝ }
+{
+    if share >= MOST_NEEDED {
+        return false;
+    }
+    let s = segmentation::segments_for(a);
+    share < 32 * ((s.long + 35) / 32)
+}
+
+// An open head whose A is out of range or needs more than M code blocks, or whose share is too short for one of them.
 fn bad_head(m: usize, head: Head) -> bool
     ensures { λ r. ⌜ r ≡ broken m head ⌝ }
 {
-    head.opened && (bad_size(head.size) || too_many(m, head.size))
+    head.opened
+        && (bad_size(head.size) || (too_many(m, head.size) || too_short(head.share, head.size)))
 }
 
 // Number 13. The shape comes first, so that there are heads to look at.

@@ -15,7 +15,7 @@ use Rattle.slots.specs.declared.Answer.the-variants.{Done, Refused}
 use Rattle.slots.specs.State.{badShape}
 use Rattle.slots.specs.Answers.{numberOf, Lacking, WrongBlock, unlessRefused}
 use Rattle.slots.specs.Reading.{lacking, firstWrong, someWrong, wrongCheck, heardAnswer}
-use Rattle.slots.specs.Calls.{storeRules, ownerRules, sizeAtHead, newOutcome, openNumber, openOutcome, receiveNumber, receiveOutcome, readNumber, readOutcome, streamsNumber, streamsOutcome, closeNumber, closeOutcome}
+use Rattle.slots.specs.Calls.{storeRules, ownerRules, sizeAtHead, newOutcome, openNumber, openOutcome, openDownNumber, openDownOutcome, receiveNumber, receiveOutcome, readNumber, readOutcome, streamsNumber, streamsOutcome, closeNumber, closeOutcome}
 
 -- an accepted outcome has number 0, a refused one its number
 given : (n : ℕ) (state : State) (accepted : Outcome) → numberOf (accepted .answer) ≡ 0 → numberOf (unlessRefused n state accepted .answer) ≡ n
@@ -33,6 +33,11 @@ new-number S M = given _ _ _ refl
 pub open-number : (state : State) (room slot terminal A : ℕ) → numberOf (openOutcome state room slot terminal A .answer) ≡ openNumber state room slot A
 unfolding openOutcome numberOf
 open-number state room slot terminal A = given _ _ _ refl
+
+pub open-down-number : (state : State) (room slot terminal A release kMIMO processes Nsoft layers : ℕ)
+    → numberOf (openDownOutcome state room slot terminal A release kMIMO processes Nsoft layers .answer) ≡ openDownNumber state room slot A release kMIMO processes Nsoft layers
+unfolding openDownOutcome numberOf
+open-down-number state room slot terminal A release kMIMO processes Nsoft layers = given _ _ _ refl
 
 pub receive-number : (state : State) (slot terminal Q N v : ℕ) (bits store : List ℕ)
     → numberOf (receiveOutcome state slot terminal Q N v bits store .answer) ≡ receiveNumber state (length store) slot terminal Q N v bits

@@ -5,7 +5,7 @@ use mathlib.Core.List.{List, [], append-nil}
 use Prim.Native.Nat.{ℕ}
 use Rattle.slots.specs.declared.State.{State}
 use Rattle.statements.specs.Outcome.{Given, Gives, SingleOutcome}
-use Rattle.statements.specs.Calls.{SizesStatement, BuildStatement, BuildTwoStatement, BuildDownStatement, SizesToCStatement, ReportBuildStatement, ReportPartStatement, DataPartStatement, ControlStatement, WhoseStatement, WhoseToCStatement, WorstStatement, PackStatement, UnpackStatement, NewStatement, OpenStatement, ReceiveStatement, ReadStatement, StreamsStatement, CloseStatement}
+use Rattle.statements.specs.Calls.{SizesStatement, BuildStatement, BuildTwoStatement, BuildDownStatement, SizesToCStatement, ReportBuildStatement, ReportPartStatement, DataPartStatement, ControlStatement, WhoseStatement, WhoseToCStatement, WorstStatement, PackStatement, UnpackStatement, NewStatement, OpenStatement, OpenDownStatement, ReceiveStatement, ReadStatement, StreamsStatement, CloseStatement}
 
 -- the law: what an answer and the bytes afterwards are said to be, they are
 pub single : {A B : Type 0} (answer : A) (after : B) → SingleOutcome (Gives answer after)
@@ -63,6 +63,10 @@ new-single S M = single _ _
 
 pub open-single : (state : State) (slot terminal A : ℕ) (store : List ℕ) → SingleOutcome (OpenStatement state slot terminal A store)
 open-single state slot terminal A store = single _ _
+
+pub open-down-single : (state : State) (slot terminal A release kMIMO processes Nsoft layers : ℕ) (store : List ℕ)
+    → SingleOutcome (OpenDownStatement state slot terminal A release kMIMO processes Nsoft layers store)
+open-down-single state slot terminal A release kMIMO processes Nsoft layers store = single _ _
 
 pub receive-single : (state : State) (slot terminal Q N v : ℕ) (bits store : List ℕ) → SingleOutcome (ReceiveStatement state slot terminal Q N v bits store)
 receive-single state slot terminal Q N v bits store = single _ _

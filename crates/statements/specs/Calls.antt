@@ -15,7 +15,7 @@ use Rattle.control_messages.specs.declared.Owner.{Owner}
 use Rattle.control_messages.specs.Calls.{controlNumber, controlOutput, whoseAnswer, numberOf, terminalOf}
 use Rattle.slots.specs.declared.State.{State}
 use Rattle.slots.specs.declared.Outcome.{Outcome}
-use Rattle.slots.specs.Calls.{newOutcome, openOutcome, openStore, receiveOutcome, receiveStore, readOutcome, readOutput, streamsOutcome, streamsOutput, closeOutcome}
+use Rattle.slots.specs.Calls.{newOutcome, openOutcome, openStore, openDownOutcome, openDownStore, receiveOutcome, receiveStore, readOutcome, readOutput, streamsOutcome, streamsOutput, closeOutcome}
 use Rattle.packing.specs.Change.{packNumber, packOutput, unpackNumber, unpackOutput}
 use Rattle.statements.specs.Outcome.{Given, Gives}
 
@@ -79,6 +79,11 @@ NewStatement S M = Gives (newOutcome S M) tt
 abbrev pub OpenStatement : State → ℕ → ℕ → ℕ → List ℕ → Given Outcome (List ℕ) → Type 0
 OpenStatement state slot terminal A store =
     Gives (openOutcome state (length store) slot terminal A) (openStore state slot A store)
+
+-- Open for a downlink
+abbrev pub OpenDownStatement : State → ℕ → ℕ → ℕ → ℕ → ℕ → ℕ → ℕ → ℕ → List ℕ → Given Outcome (List ℕ) → Type 0
+OpenDownStatement state slot terminal A release kMIMO processes Nsoft layers store =
+    Gives (openDownOutcome state (length store) slot terminal A release kMIMO processes Nsoft layers) (openDownStore state slot A release kMIMO processes Nsoft layers store)
 
 abbrev pub ReceiveStatement : State → ℕ → ℕ → ℕ → ℕ → ℕ → List ℕ → List ℕ → Given Outcome (List ℕ) → Type 0
 ReceiveStatement state slot terminal Q N v bits store =

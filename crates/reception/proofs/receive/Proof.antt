@@ -8,7 +8,7 @@ use borrow.Author.Needs.{needs}
 use borrow.Author.Tests.{ne-eqb}
 use Rattle.slots.specs.declared.Head.{Head}
 use Rattle.slots.specs.Answers.{unlessRefused}
-use Rattle.slots.specs.Calls.{sizeAtHead, receiveStore, receiveOutcome}
+use Rattle.slots.specs.Calls.{sizeAtHead, shareAtHead, receiveStore, receiveOutcome}
 use Rattle.reception.proofs.Accepts.{Ready, ready, room-small, room-near, room-in, room-ready, stored, answered}
 use Rattle.reception.proofs.receive.Statement.{statement}
 use Rattle.reception.proofs.receive.Tie as tie
@@ -24,6 +24,11 @@ is-ready c = ready _ (c .before .receive-number .ensures) (c .if1 .left)
 sized : (c : tie.After-head-at) → c .head-at .result .size ≡ sizeAtHead (entry (c .before) .args .state) (entry (c .before) .args .slot)
 unfolding sizeAtHead
 sized c = ap (λ (h : Head). h .size) (c .head-at .ensures)
+
+-- and its share
+shared : (c : tie.After-head-at) → c .head-at .result .share ≡ shareAtHead (entry (c .before) .args .state) (entry (c .before) .args .slot)
+unfolding shareAtHead
+shared c = ap (λ (h : Head). h .share) (c .head-at .ensures)
 
 receive-number-requires : tie.Need-receive-number-requires
 receive-number-requires c κs = search needs
@@ -54,7 +59,7 @@ part-put-and-count-end : tie.Need-part-put-and-count-end
 part-put-and-count-end c = room-in (is-ready (c .before .before))
 
 put-and-count-requires : tie.Need-put-and-count-requires
-put-and-count-requires c κs = room-ready _ (is-ready (c .before .before .before)) (sized (c .before .before))
+put-and-count-requires c κs = room-ready _ (is-ready (c .before .before .before)) (sized (c .before .before)) (shared (c .before .before))
 
 same-length : tie.Need-same-length
 same-length c = search needs
@@ -66,9 +71,9 @@ returns-2 c =
     let found = head .before in
     let is = is-ready found in
     let told = found .before .receive-number .ensures in
-    let long = p .kept .1 .1 .1 .1 .1 .0 in (
-      answered _ is (sized head) _ told (found .if1 .left) long (p .ensures),
-      stored _ is (sized head) _ told (found .if1 .left) long (p .ensures),
+    let long = p .kept .1 .1 .1 .1 .1 .1 .0 in (
+      answered _ is (sized head) (shared head) _ told (found .if1 .left) long (p .ensures),
+      stored _ is (sized head) (shared head) _ told (found .if1 .left) long (p .ensures),
     )
 
 pub receive-spec : {M : Type 1} → statement M

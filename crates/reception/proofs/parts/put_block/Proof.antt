@@ -4,9 +4,10 @@ use native.Mathlib.Omega.{arith}
 use borrow.Author.Needs.{needs}
 use Rattle.rate_matching.specs.Walk.{sentPlaces}
 use Rattle.reception.specs.Parts.{partAfter}
+use Rattle.reception.specs.Along.{turnIn}
 use Rattle.reception.proofs.Along.{put-long}
 use Rattle.reception.proofs.Rounds.{first-some, two-rounds, ring-round}
-use Rattle.reception.proofs.Walking.{walked-still, round-some, round-few}
+use Rattle.reception.proofs.Walking.{sends-still, round-some, round-few}
 use Rattle.reception.proofs.parts.put_block.Statement.{statement}
 use Rattle.reception.proofs.parts.put_block.Tie as tie
 
@@ -36,45 +37,45 @@ same-length : tie.Need-same-length
 same-length c = search needs
 
 returns : tie.Need-returns
-unfolding partAfter sentPlaces
+unfolding partAfter sentPlaces turnIn
 returns c =
     let first = c .before .before .before .before .before .before .before .before in
     let e = entry first in
-    two-rounds _ _ (round-some (e .pre .0) (e .pre .1)) (first .put-round .ensures) (omega arith) (c .before .before .put-round2 .ensures)
+    two-rounds _ _ (round-some (e .pre .0)) (first .put-round .ensures) (omega arith) (c .before .before .put-round2 .ensures)
 
 put-short-requires : tie.Need-put-short-requires
 put-short-requires c κs =
     let first = c .before .before .before .before .before in
     let e = entry first in
     let told = first .put-round .ensures in
-    (walked-still (e .pre .0) (put-long told), e .pre .1, first-some _ _ (round-some (e .pre .0) (e .pre .1)) told (omega arith), omega arith, omega arith, e .pre .2)
+    (sends-still (e .pre .0) (put-long told), first-some _ _ (round-some (e .pre .0)) told (omega arith), omega arith, omega arith, e .pre .1)
 
 same-length-2 : tie.Need-same-length-2
 same-length-2 c = search needs
 
 returns-2 : tie.Need-returns-2
-unfolding partAfter sentPlaces
+unfolding partAfter sentPlaces turnIn
 returns-2 c =
     let first = c .before .before .before .before .before .before .before .before in
     let e = entry first in
-    ring-round _ _ (round-some (e .pre .0) (e .pre .1)) (first .put-round .ensures) (omega arith) (e .pre .2) (c .before .before .put-short .ensures)
+    ring-round _ _ (round-some (e .pre .0)) (first .put-round .ensures) (omega arith) (e .pre .1) (c .before .before .put-short .ensures)
 
 put-long-requires : tie.Need-put-long-requires
 put-long-requires c κs =
     let first = c .before .before .before .before .before in
     let e = entry first in
     let told = first .put-round .ensures in
-    (walked-still (e .pre .0) (put-long told), e .pre .1, first-some _ _ (round-some (e .pre .0) (e .pre .1)) told (omega arith), omega (arith, told .ends, round-few (e .pre .0) (e .pre .1)), omega arith, e .pre .2)
+    (sends-still (e .pre .0) (put-long told), first-some _ _ (round-some (e .pre .0)) told (omega arith), omega (arith, told .ends, round-few (e .pre .0)), omega arith, e .pre .1)
 
 same-length-3 : tie.Need-same-length-3
 same-length-3 c = search needs
 
 returns-3 : tie.Need-returns-3
-unfolding partAfter sentPlaces
+unfolding partAfter sentPlaces turnIn
 returns-3 c =
     let first = c .before .before .before .before .before .before .before .before in
     let e = entry first in
-    ring-round _ _ (round-some (e .pre .0) (e .pre .1)) (first .put-round .ensures) (omega arith) (e .pre .2) (c .before .before .put-long .ensures)
+    ring-round _ _ (round-some (e .pre .0)) (first .put-round .ensures) (omega arith) (e .pre .1) (c .before .before .put-long .ensures)
 
 pub put-block-spec : {M : Type 1} → statement M
 put-block-spec =

@@ -11,15 +11,15 @@ use Rattle.laws.proofs.Parts.{length-mid}
 use Rattle.segmentation.specs.Segmentation.{blocks, sizeOf}
 use Rattle.codeword.specs.Build.{shareOf}
 use Rattle.reading.proofs.Blocks.{Block, block-of, blocks-few}
-use Rattle.reception.proofs.Blocks.{block-walked, count-is, Blocks, blocks-start, blocks-next, blocks-finish, part-within, bits-within}
+use Rattle.reception.proofs.Blocks.{block-sends, count-is, Blocks, blocks-start, blocks-next, blocks-finish, part-within, bits-within}
 use Rattle.reception.proofs.parts.put_blocks.Statement.{statement}
 use Rattle.reception.proofs.parts.put_blocks.Tie as tie
 
 abbrev Inv-loop : tie.InvT-loop
-Inv-loop a q n version bits room₀ s C g at₀ from₀ r₀ room at from r = Blocks a q n version bits room₀ room at from r
+Inv-loop a soft q n version bits room₀ s C g at₀ from₀ r₀ room at from r = Blocks a soft q n version bits room₀ room at from r
 
 abbrev μ-loop : tie.MeasureT-loop
-μ-loop a q n version bits room₀ s C g at₀ from₀ r₀ room at from r = C - r
+μ-loop a soft q n version bits room₀ s C g at₀ from₀ r₀ room at from r = C - r
 
 -- in the loop: the function's entry, and the numbers of code block r
 abbrev entry : tie.In-loop Inv-loop μ-loop → tie.Start Inv-loop μ-loop
@@ -58,7 +58,7 @@ size-of-requires : tie.Need-size-of-requires Inv-loop μ-loop
 size-of-requires c κs = tt
 
 add-d : tie.Need-add-d Inv-loop μ-loop
-add-d c = omega (arith, size c, block-walked _ (entry (c .before) .pre .size) (c .before .before .loop .r) .most)
+add-d c = omega (arith, size c, block-sends _ (entry (c .before) .pre .size) (entry (c .before) .pre .wide) (entry (c .before) .pre .version) (c .before .before .loop .r) .walked .most)
 
 filler-of-requires : tie.Need-filler-of-requires Inv-loop μ-loop
 filler-of-requires c κs = tt
@@ -99,7 +99,7 @@ put-block-requires c κs =
     let given = entry i .args .bits .now in
     let filled = c .before .before .before .filler-of .ensures ∙ block i .filled in
     rw (size (c .before .before .before .before), filled, length-mid _ _ (i .before .loop .room) (part-fits i), add-sub-cancel-left (i .before .loop .from) 18528)
-    (block-walked _ (entry i .pre .size) r, entry i .pre .version, take-below 2 (lit< tt) (at + E - at) (drop at given) (drop-below 2 at given (entry i .pre .given)))
+    (block-sends _ (entry i .pre .size) (entry i .pre .wide) (entry i .pre .version) r, take-below 2 (lit< tt) (at + E - at) (drop at given) (drop-below 2 at given (entry i .pre .given)))
 
 add-r : tie.Need-add-r Inv-loop μ-loop
 add-r c =

@@ -4,11 +4,7 @@ use mathlib.Core.Path.{sym, _∙_, ap}
 use Prim.Native.Nat.{ℕ}
 use borrow.Author.Needs.{needs}
 use Rattle.laws.proofs.Parts.{fresh-count}
-use Rattle.rate_matching.specs.SubBlocks.{rows}
-use Rattle.rate_matching.specs.Circle.{startOf}
-use Rattle.rate_matching.specs.Walk.{turn}
-use Rattle.rate_matching.specs.Shape.{shape}
-use Rattle.reception.specs.Along.{putAlong, ringAfter}
+use Rattle.reception.specs.Along.{putAlong, ringAfter, turnIn}
 use Rattle.reception.proofs.parts.put_short.Statement.{statement}
 use Rattle.reception.proofs.parts.put_short.Tie as tie
 
@@ -16,12 +12,12 @@ array-borrow-prefix-ring : tie.Need-array-borrow-prefix-ring
 array-borrow-prefix-ring c = search needs
 
 slice-aggregate-put-turns : tie.Need-slice-aggregate-put-turns
-slice-aggregate-put-turns c = fresh-count {A = ℕ} 0 3168 _ (c .before .before .before .pre .3)
+slice-aggregate-put-turns c = fresh-count {A = ℕ} 0 3168 _ (c .before .before .before .pre .2)
 
 put-turns-requires : tie.Need-put-turns-requires
 put-turns-requires c κs =
     let e = c .before .before .before .before in
-    rw (sym (fresh-count {A = ℕ} 0 3168 _ (e .pre .3))) (e .pre .0, e .pre .1, e .pre .2, e .pre .4, e .pre .5)
+    rw (sym (fresh-count {A = ℕ} 0 3168 _ (e .pre .2))) (e .pre .0, e .pre .1, e .pre .3, e .pre .4)
 
 same-length : tie.Need-same-length
 same-length c = search needs
@@ -31,7 +27,7 @@ returns c =
     let e = c .before .before .before .before .before .before .before .before in
     let a = e .args in
     c .before .before .before .put-turns .ensures
-    ∙ ap (λ (k : ℕ). putAlong (turn (shape (a .d) (a .filler)) (startOf (rows (a .d)) (a .version))) (ringAfter k (a .bits .now)) (a .part .now)) (sym (fresh-count {A = ℕ} 0 3168 _ (e .pre .3)))
+    ∙ ap (λ (k : ℕ). putAlong (turnIn (a .d) (a .filler) (a .soft) (a .version)) (ringAfter k (a .bits .now)) (a .part .now)) (sym (fresh-count {A = ℕ} 0 3168 _ (e .pre .2)))
 
 pub put-short-spec : {M : Type 1} → statement M
 put-short-spec =

@@ -4,11 +4,7 @@ use mathlib.Core.Path.{_∙_, ap}
 use mathlib.Core.List.{List}
 use Prim.Native.Nat.{ℕ}
 use borrow.Author.Needs.{needs}
-use Rattle.rate_matching.specs.SubBlocks.{rows}
-use Rattle.rate_matching.specs.Circle.{startOf}
-use Rattle.rate_matching.specs.Walk.{turn}
-use Rattle.rate_matching.specs.Shape.{shape}
-use Rattle.reception.specs.Along.{putAlong}
+use Rattle.reception.specs.Along.{putAlong, turnIn}
 use Rattle.reception.proofs.parts.put_turns.Statement.{statement}
 use Rattle.reception.proofs.parts.put_turns.Tie as tie
 
@@ -33,7 +29,7 @@ returns c =
     let p = c .before .before in
     let e = c .before .before .before .before .before .before .before .before .before .before .before .before .args in
     p .put-round .ensures .told
-    ∙ ap (λ (l : List ℕ). putAlong (turn (shape (e .d) (e .filler)) (startOf (rows (e .d)) (e .version))) l (e .part .now)) (met p .meet-turns .ensures)
+    ∙ ap (λ (l : List ℕ). putAlong (turnIn (e .d) (e .filler) (e .soft) (e .version)) l (e .part .now)) (met p .meet-turns .ensures)
 
 pub put-turns-spec : {M : Type 1} → statement M
 put-turns-spec =

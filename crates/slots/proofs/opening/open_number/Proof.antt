@@ -2,7 +2,7 @@
 -- Assumes nothing.
 use borrow.Author.Needs.{needs}
 use Rattle.refusals.proofs.Refusals.{chained-on, next, done}
-use Rattle.slots.specs.Calls.{storeRules, openNumber}
+use Rattle.slots.specs.Calls.{storeRules, openRules, openNumber}
 use Rattle.slots.proofs.opening.open_number.Statement.{statement}
 use Rattle.slots.proofs.opening.open_number.Tie as tie
 
@@ -28,7 +28,7 @@ or-else-requires-3 : tie.Need-or-else-requires-3
 or-else-requires-3 c κs = search needs
 
 returns : tie.Need-returns
-unfolding openNumber storeRules
+unfolding openNumber openRules storeRules
 returns c =
     let entry = c .before .before .before .before .before .before .before .args in
     let opened = rw (c .before .before .before .before .before .before .head-at .ensures) at (c .before .before .before .before .or-else .ensures) in
