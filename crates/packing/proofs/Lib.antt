@@ -3,3 +3,5 @@ pub mod Forms
 pub mod Changing
 pub mod Rooms
 pub mod Carried
+pub mod Stores
+pub mod Opened

@@ -1,13 +1,36 @@
 // Rooms a quarter the size: four places in a byte, the first in the top two bits, and the change of form of one room, both ways.
+mod opening;
+
 use slots::states::PER_BLOCK;
 ghost use mathlib.Core.Path.{_≡_};
 ghost use Prim.Native.Nat.{_/_, min};
 ghost use lib.ListN.{length};
 ghost use Rattle.packing.specs.Packing.{inTwoBits, fourIn, packedOver, unpackedOver};
+ghost use Rattle.packing.specs.Store.{bytesABlock, placesAsked};
 ghost use Rattle.packing.specs.Change.{badBlocks, changeNumber, packNumber, packOutput, unpackNumber, unpackOutput};
+pub use opening::open_down_packed;
+pub use opening::open_packed;
 
 // The bytes that a packed room has for one code block.
 pub const PACKED_PER_BLOCK: usize = 4632;
+
+// The bytes that a room has for one code block, in either form.
+pub fn bytes_a_block(four: bool) -> usize
+    ensures { λ r. ⌜ r ≡ bytesABlock four ⌝ }
+{
+    if four { PACKED_PER_BLOCK } else { PER_BLOCK }
+}
+
+// How many places a store of `bytes` bytes keeps, as far as a call asks: no store needs more than 8 rooms of 5 code blocks.
+pub fn places_asked(four: bool, bytes: usize) -> usize
+    ensures { λ r. ⌜ r ≡ placesAsked four bytes ⌝ }
+{
+    if four {
+        4 * fewer(bytes, 40 * PACKED_PER_BLOCK)
+    } else {
+        bytes
+    }
+}
 
 // What two bits keep of a place: a value above 3 becomes 2, unheard.
 fn in_two_bits(x: u8) -> u8

@@ -1,14 +1,14 @@
 -- The count of the data places that lack a bit, 01 'Slots': code block by code block, each column by column or from a copy of its data places.
 -- Assumes nothing.
 use mathlib.Core.Path.{_≡_, refl, sym, _∙_, ap, ap₂}
-use mathlib.Core.Bool.{false, cond}
+use mathlib.Core.Bool.{true, false, cond, _&&_, and-eq-true-iff}
 use mathlib.Core.List.{List}
 use Prim.Native.Nat.{ℕ, _+_, _-_, _*_, _/_, _%_, _^_, _≤_, _<_}
 use native.Mathlib.Nat.{add-zero, zero-add, mul-le-mul-right}
 use native.Mathlib.Omega.{arith}
-use lib.Dec.{eqb, ltb}
+use lib.Dec.{eqb, ltb, leb}
 use lib.ListN.{length, getD}
-use borrow.Author.Tests.{le-leb, lt-leb}
+use borrow.Author.Tests.{eqb-true, leb-true, eq-eqb, le-leb, lt-leb}
 use borrow.Rule.Slice.PartMut.{midOf}
 use Rattle.laws.specs.Bits.{bitsOf}
 use Rattle.laws.specs.Lists.{tabFrom}
@@ -19,6 +19,7 @@ use Rattle.segmentation.specs.Segmentation.{blocks, sizeOf, fillerOf}
 use Rattle.segmentation.specs.Sizes.{badSize, segmentsFor}
 use Rattle.rate_matching.specs.Columns.{numberOf, turnedRound, columnTable, column}
 use Rattle.rate_matching.specs.SubBlocks.{rows, dummies, rowsBefore}
+use Rattle.rate_matching.specs.Circle.{circleLength}
 use Rattle.rate_matching.specs.Places.{plainPlace, placeNumber}
 use Rattle.rate_matching.proofs.Columns.{column-rule, table-at}
 use Rattle.slots.specs.State.{perBlock, roomStart}
@@ -26,7 +27,7 @@ use Rattle.slots.specs.Room.{heard, byteOf}
 use Rattle.slots.specs.Reading.{keptAt, lacks, sumFrom, lackingIn, lacking}
 use Rattle.slots.proofs.PlaceBounds.{place-below}
 use Rattle.slots.proofs.Sums.{sumFrom-ext, sumFrom-shift, sumFrom-most}
-use Rattle.reading.specs.Circle.{keptOn, missing, missingAt, missingOn, Stretch}
+use Rattle.reading.specs.Circle.{keptOn, missing, missingAt, missingOn, countable, Streams, Stretch}
 use Rattle.reading.specs.Room.{roomFits}
 use Rattle.reading.proofs.Sums.{Summing, start, next, finish, sumFrom-split}
 use Rattle.reading.proofs.ColumnSums.{inColumn, by-columns}
@@ -138,6 +139,9 @@ module _ {circle : List ℕ} {k f : ℕ} {p : List ℕ} where
     unfolding rows
     column-ends = let most : rows (k + 4) ≤ 193 = omega (arith, w .sized .most) in omega (arith, l .place, mul-le-mul-right (rows (k + 4)) h)
 
+    column-there : j + rows (k + 4) ≤ 32 * rows (k + 4)
+    column-there = omega (arith, l .place, mul-le-mul-right (rows (k + 4)) h)
+
     module _ {a b : ℕ} (from : a ≡ rowsBefore (dummies (k + 4) + f) (getD p c 0)) (to : b ≡ rowsBefore (dummies (k + 4) + k) (getD p c 0)) where
       -- its data places
       pub rows-few : (a ≤ b) × (b ≤ rows (k + 4)) × (rows (k + 4) ≤ 193)
@@ -145,7 +149,8 @@ module _ {circle : List ℕ} {k f : ℕ} {p : List ℕ} where
       rows-few = (omega arith, omega arith, omega (arith, w .sized .most))
 
       pub column-within : j + b ≤ length circle
-      column-within = omega (arith, column-ends, rows-few, w .room)
+      unfolding circleLength
+      column-within = omega (arith, column-there, rows-few, w .room)
 
       pub column-lent : length (midOf (j + a) (j + b - (j + a)) circle) ≤ 255
       column-lent = omega (arith, length-mid (j + a) (j + b) circle column-within, rows-few)
@@ -178,6 +183,29 @@ module _ {circle : List ℕ} {k f : ℕ} {p : List ℕ} where
 
   pub columns-finish : {n j c : ℕ} → f ≤ k → 32 ≤ c → Columns circle k f p n j c → n ≡ sumFrom (missingOn circle (k + 4)) f (k - f)
   columns-finish low h w = finish h (w .sum) ∙ parts-sum circle k f low
+
+-- ---- a circle by itself
+
+pub countable-told : (long K F : ℕ) → countable long K F ≡ true → (F ≤ K) × Stretch long (K + 4) 0 F (K - F)
+unfolding countable
+countable-told long K F t =
+    let a = and-eq-true-iff (leb K 6144 && leb 40 K && eqb (K % 8) 0 && leb F K) (leb (circleLength (rows (K + 4))) long) .0 t in
+    let b = and-eq-true-iff (leb K 6144 && leb 40 K && eqb (K % 8) 0) (leb F K) .0 (a .0) in
+    let c = and-eq-true-iff (leb K 6144 && leb 40 K) (eqb (K % 8) 0) .0 (b .0) in
+    let d = and-eq-true-iff (leb K 6144) (leb 40 K) .0 (c .0) in
+    let low = leb-true F K (b .1) in
+    let least = leb-true 40 K (d .1) in
+    let most = leb-true K 6144 (d .0) in
+    let bytes = eqb-true (K % 8) 0 (c .1) in
+    (low, record { sized = record { least = omega (arith, least); most = omega (arith, most); bytes = omega (arith, bytes) }; stream = omega arith; within = omega (arith, low); room = leb-true (circleLength (rows (K + 4))) long (a .1) })
+
+pub countable-is : {long K F : ℕ} → F ≤ K → Streams (K + 4) → circleLength (rows (K + 4)) ≤ long → countable long K F ≡ true
+unfolding countable
+countable-is {long} {K} {F} low w h =
+    let least : 40 ≤ K = omega (arith, w .least) in
+    let most : K ≤ 6144 = omega (arith, w .most) in
+    let bytes : K % 8 ≡ 0 = omega (arith, w .bytes) in
+    simp (le-leb K 6144 most, le-leb 40 K least, eq-eqb (K % 8) 0 bytes, le-leb F K low, le-leb (circleLength (rows (K + 4))) long h)
 
 -- ---- code block by code block
 

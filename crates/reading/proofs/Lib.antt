@@ -4,6 +4,7 @@ pub mod Bytes
 pub mod Rows
 pub mod Gathering
 pub mod Blocks
+pub mod Form
 pub mod Lent
 pub mod Zeros
 pub mod Lacking

@@ -13,7 +13,6 @@ use Rattle.rate_matching.specs.SubBlocks.{rows, dummies}
 use Rattle.rate_matching.specs.Circle.{circleLength}
 use Rattle.rate_matching.specs.Places.{plainPlace, shiftedPlace, placeNumber, placeOf, circlePlace, firstPlaces, longest, firstsWithin}
 use Rattle.rate_matching.proofs.Places.{dummies-add, once-round, place-on-circle}
-use Rattle.slots.specs.State.{perBlock}
 use Rattle.reading.specs.Circle.{keptOn, rowStep, placeBy, keptBy, Along, Streams, Stretch}
 
 -- q rows further by the plain rule
@@ -74,15 +73,15 @@ module _ {D : ℕ} (w : Streams D) where
   unfolding placeBy
   place-by s i u h = rw (first-at s (i % 32) (omega arith)) (sym (place-further s (i % 32) (i / 32) u (omega arith)) ∙ ap (placeNumber D s) (omega arith))
 
-  pub place-in-room : (s i : ℕ) → s < 3 → i < D → placeNumber D s i < perBlock
-  unfolding placeOf circleLength rows
-  place-in-room s i u h = omega (arith, w .most, place-on-circle D (s, i) (record { stream = u; place = h }))
+  place-there : (s i : ℕ) → s < 3 → i < D → placeNumber D s i < circleLength (rows D)
+  unfolding placeOf
+  place-there s i u h = place-on-circle D (s, i) (record { stream = u; place = h })
 
 -- the stretch of a stream lies on the circle
 pub along : {long D s i n : ℕ} → Stretch long D s i n → Along long (firstPlaces D s) (rowStep s) i n
 along {long} {D} {s} {i} {n} w = record {
   most = omega (arith, w .within, w .sized .most);
-  places = λ k a b. rw (place-by (w .sized) s k (w .stream) (omega (arith, w .within))) (omega (arith, w .room, place-in-room (w .sized) s k (w .stream) (omega (arith, w .within))));
+  places = λ k a b. rw (place-by (w .sized) s k (w .stream) (omega (arith, w .within))) (omega (arith, w .room, place-there (w .sized) s k (w .stream) (omega (arith, w .within))));
 }
 
 -- what is read along it

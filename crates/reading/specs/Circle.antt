@@ -1,15 +1,16 @@
 -- What a code block's circle keeps for the places of its streams, 01 'Slots', and where these places lie row by row (clause 5.1.4.1.1).
 -- Assumes nothing.
 use mathlib.Core.Path.{_≡_}
-use mathlib.Core.Bool.{cond, _&&_}
+use mathlib.Core.Bool.{Bool, cond, _&&_}
 use mathlib.Core.List.{List, _++_}
 use Prim.Native.Nat.{ℕ, _+_, _*_, _/_, _%_, _≤_, _<_}
-use lib.Dec.{eqb, ltb}
+use lib.Dec.{eqb, ltb, leb}
 use lib.ListN.{getD}
 use Rattle.laws.specs.Lists.{tab}
 use Rattle.rate_matching.specs.declared.CirclePlace.{CirclePlace}
+use Rattle.rate_matching.specs.SubBlocks.{rows}
+use Rattle.rate_matching.specs.Circle.{circleLength}
 use Rattle.rate_matching.specs.Places.{placeNumber, circlePlace, longest}
-use Rattle.slots.specs.State.{perBlock}
 use Rattle.slots.specs.Room.{heard}
 
 -- the byte for place i of stream s, of streams of D places
@@ -77,9 +78,13 @@ pub record Streams (D : ℕ) : Type 0 where
   pub most : D ≤ longest
   pub bytes : D % 8 ≡ 4
 
--- stream s has the n places from place i on, and the circle lies in a room for one code block
+-- stream s has the n places from place i on, and a list of `long` entries has the circle's places
 pub record Stretch (long D s i n : ℕ) : Type 0 where
   pub sized : Streams D
   pub stream : s < 3
   pub within : i + n ≤ D
-  pub room : perBlock ≤ long
+  pub room : circleLength (rows D) ≤ long
+
+-- `long` entries have the circle of a code block of size K, a multiple of 8 from 40 to 6144, of which at most all are filler
+unfoldable pub countable : ℕ → ℕ → ℕ → Bool
+countable long K F = leb K 6144 && leb 40 K && eqb (K % 8) 0 && leb F K && leb (circleLength (rows (K + 4))) long

@@ -8,7 +8,14 @@ use slots::Outcome;
 use slots::State;
 use slots::states;
 ghost use mathlib.Core.Path.{_≡_};
-ghost use lib.ListN.{length};
+ghost use lib.ListN.{length, drop};
+ghost use mathlib.Core.Bool.{true};
+ghost use mathlib.Core.List.{_++_};
+ghost use Prim.Native.Nat.{_*_, _≤_};
+ghost use Rattle.slots.specs.State.{perBlock};
+ghost use Rattle.packing.specs.Store.{placesIn};
+ghost use Rattle.reading.specs.Circle.{streamsOn, Stretch};
+ghost use Rattle.reading.specs.Form.{circleAt, Unpacks, Circles};
 ghost use Rattle.slots.specs.Calls.{readNumber, readOutcome, readOutput, streamsNumber, streamsOutcome, streamsOutput};
 
 // Read's refusals before the room is looked at, for a store of `room` bytes and an output of `size`.
@@ -25,7 +32,46 @@ pub fn read(state: State, slot: usize, terminal: u16, store: &[u8], out: &mut [u
     ensures { λ r. ⌜ r ≡ readOutcome state (now (store .entry)) slot terminal (length (now (out .entry))) ⌝ }
     ensures { λ r. ⌜ now (out .exit) ≡ readOutput state (now (store .entry)) slot terminal (now (out .entry)) ⌝ }
 {
-    let number = read_number(state, store.len(), slot, terminal, out.len());
+    let mut none = [0u8; 1];
+    read_form(false, state, slot, terminal, store, &mut none, out)
+}
+
+// The same for a store with four places a byte.
+pub fn read_packed(
+    state: State,
+    slot: usize,
+    terminal: u16,
+    store: &[u8],
+    out: &mut [u8],
+) -> Outcome
+    ensures { λ r. ⌜ r ≡ readOutcome state (placesIn true (now (store .entry))) slot terminal (length (now (out .entry))) ⌝ }
+    ensures { λ r. ⌜ now (out .exit) ≡ readOutput state (placesIn true (now (store .entry))) slot terminal (now (out .entry)) ⌝ }
+{
+    let mut circle = [0u8; 18528];
+    read_form(true, state, slot, terminal, store, &mut circle, out)
+}
+
+// The same for a store of either form, with a buffer for one code block's circle where it has to be unpacked.
+fn read_form(
+    four: bool,
+    state: State,
+    slot: usize,
+    terminal: u16,
+    store: &[u8],
+    circle: &mut [u8],
+    out: &mut [u8],
+) -> Outcome
+    requires { ⌜ Unpacks four (length (now circle)) ⌝ }
+    ensures { λ r. ⌜ r ≡ readOutcome state (placesIn four (now (store .entry))) slot terminal (length (now (out .entry))) ⌝ }
+    ensures { λ r. ⌜ now (out .exit) ≡ readOutput state (placesIn four (now (store .entry))) slot terminal (now (out .entry)) ⌝ }
+{
+    let number = read_number(
+        state,
+        packing::places_asked(four, store.len()),
+        slot,
+        terminal,
+        out.len(),
+    );
     if number != 0 {
         return Outcome {
             answer: Answer::Refused(number),
@@ -33,11 +79,11 @@ pub fn read(state: State, slot: usize, terminal: u16, store: &[u8], out: &mut [u
         };
     }
     let head = states::head_at(state, slot);
-    let long = state.blocks * states::PER_BLOCK;
+    let long = state.blocks * packing::bytes_a_block(four);
     let from = slot * long;
     let to = from + long;
     Outcome {
-        answer: room::read_room(head.size, &store[from..to], out),
+        answer: room::read_room(four, head.size, &store[from..to], circle, out),
         state,
     }
 }
@@ -64,6 +110,31 @@ fn streams_number(
     or_else(absent, size < 3 * (block::size_of(s, block) + 4), 5)
 }
 
+// Writes the three runs of code block i of a store over the front of `out`, of streams of d places, the first f being filler: from the
+// store, or where it keeps four places a byte from `circle`, in which the code block is unpacked.
+fn runs_of(
+    four: bool,
+    i: usize,
+    d: usize,
+    f: usize,
+    store: &[u8],
+    circle: &mut [u8],
+    out: &mut [u8],
+)
+    requires { ⌜ Circles four i (now store) (now circle) × (f ≤ d) × (3 * d ≤ length (now out)) × Stretch perBlock d 0 0 d ⌝ }
+    ensures { λ _. ⌜ now (out .exit) ≡ streamsOn (circleAt i (placesIn four (now (store .entry)))) d f ++ drop (3 * d) (now (out .entry)) ⌝ }
+{
+    let long = packing::bytes_a_block(four);
+    let from = i * long;
+    let to = from + long;
+    if four {
+        packing::unpack_places(&store[from..to], circle);
+        circle::three_streams(circle, d, f, out);
+    } else {
+        circle::three_streams(&store[from..to], d, f, out);
+    }
+}
+
 // Writes the three streams of a code block over the front of `out`, for the decoder chip.
 pub fn streams(
     state: State,
@@ -76,7 +147,49 @@ pub fn streams(
     ensures { λ r. ⌜ r ≡ streamsOutcome state (length (now (store .entry))) slot terminal block (length (now (out .entry))) ⌝ }
     ensures { λ r. ⌜ now (out .exit) ≡ streamsOutput state (now (store .entry)) slot terminal block (now (out .entry)) ⌝ }
 {
-    let number = streams_number(state, store.len(), slot, terminal, block, out.len());
+    let mut none = [0u8; 1];
+    streams_form(false, state, slot, terminal, block, store, &mut none, out)
+}
+
+// The same for a store with four places a byte.
+pub fn streams_packed(
+    state: State,
+    slot: usize,
+    terminal: u16,
+    block: usize,
+    store: &[u8],
+    out: &mut [u8],
+) -> Outcome
+    ensures { λ r. ⌜ r ≡ streamsOutcome state (length (placesIn true (now (store .entry)))) slot terminal block (length (now (out .entry))) ⌝ }
+    ensures { λ r. ⌜ now (out .exit) ≡ streamsOutput state (placesIn true (now (store .entry))) slot terminal block (now (out .entry)) ⌝ }
+{
+    let mut circle = [0u8; 18528];
+    streams_form(true, state, slot, terminal, block, store, &mut circle, out)
+}
+
+// The same for a store of either form, with a buffer for one code block's circle where it has to be unpacked.
+fn streams_form(
+    four: bool,
+    state: State,
+    slot: usize,
+    terminal: u16,
+    block: usize,
+    store: &[u8],
+    circle: &mut [u8],
+    out: &mut [u8],
+) -> Outcome
+    requires { ⌜ Unpacks four (length (now circle)) ⌝ }
+    ensures { λ r. ⌜ r ≡ streamsOutcome state (length (placesIn four (now (store .entry)))) slot terminal block (length (now (out .entry))) ⌝ }
+    ensures { λ r. ⌜ now (out .exit) ≡ streamsOutput state (placesIn four (now (store .entry))) slot terminal block (now (out .entry)) ⌝ }
+{
+    let number = streams_number(
+        state,
+        packing::places_asked(four, store.len()),
+        slot,
+        terminal,
+        block,
+        out.len(),
+    );
     if number != 0 {
         return Outcome {
             answer: Answer::Refused(number),
@@ -85,10 +198,9 @@ pub fn streams(
     }
     let head = states::head_at(state, slot);
     let s = segmentation::segments_for(head.size);
-    let from = (slot * state.blocks + block) * states::PER_BLOCK;
-    let to = from + states::PER_BLOCK;
+    let i = slot * state.blocks + block;
     let d = block::size_of(s, block) + 4;
-    circle::three_streams(&store[from..to], d, block::filler_of(s, block), out);
+    runs_of(four, i, d, block::filler_of(s, block), store, circle, out);
     Outcome {
         answer: Answer::Done,
         state,

@@ -4,12 +4,13 @@ use rate_matching::first_places;
 use rate_matching::rows_before;
 use rate_matching::table::columns;
 ghost use mathlib.Core.Path.{_≡_};
+ghost use mathlib.Core.Bool.{cond};
 ghost use mathlib.Core.List.{_++_};
 ghost use Prim.Native.Nat.{ℕ, _+_, _-_, _*_, _≤_, _<_};
 ghost use lib.ListN.{length, drop, replicate};
 ghost use Rattle.laws.specs.Lists.{tab, tabFrom};
 ghost use Rattle.slots.specs.Reading.{sumFrom};
-ghost use Rattle.reading.specs.Circle.{keptOn, missing, missingAt, missingOn, keptBelow, keptBy, shown, shownAt, streamOn, streamsOn, AlongRow, Along, Stretch};
+ghost use Rattle.reading.specs.Circle.{countable, keptOn, missing, missingAt, missingOn, keptBelow, keptBy, shown, shownAt, streamOn, streamsOn, AlongRow, Along, Stretch};
 
 // 1 where a byte of a room has heard no bit.
 fn missing(byte: u8) -> u8
@@ -121,6 +122,22 @@ pub(crate) fn lacking_on(circle: &[u8], k: usize, f: usize) -> usize
         c += 1;
     }
     n
+}
+
+// The same for any numbers: 0 where there is no such code block, or the circle is too short for it.
+pub fn lacking_of(circle: &[u8], k: usize, f: usize) -> usize
+    ensures { λ r. ⌜ r ≡ cond (countable (length (now (circle .entry))) k f) (sumFrom (missingOn (now (circle .entry)) (k + 4)) f (k - f)) 0 ⌝ }
+{
+    if k > 6144 {
+        return 0;
+    }
+    let d = k + 4;
+    let rows = (d + 31) / 32;
+    let there = (40 <= k) & (k % 8 == 0) & (f <= k) & (96 * rows <= circle.len());
+    if there {
+        return lacking_on(circle, k, f);
+    }
+    0
 }
 
 // What Streams shows of a byte: the bit where one was heard, else 2.

@@ -1,5 +1,7 @@
 // What a room keeps, lent by itself.
 use crate::circle;
+use packing::bytes_a_block;
+use packing::unpack_places;
 use segmentation::Segments;
 use segmentation::block;
 use slots::Answer;
@@ -12,6 +14,11 @@ ghost use lib.Dec.{eqb};
 ghost use lib.ListN.{length, take};
 ghost use Rattle.check_bits.specs.CheckBits.{crc, gCRC24B};
 ghost use Rattle.slots.specs.Reading.{lacking, firstWrong, heardSequence, heardAnswer};
+ghost use Rattle.laws.specs.Lists.{tabFrom};
+ghost use Rattle.slots.specs.State.{perBlock};
+ghost use Rattle.packing.specs.Store.{placesIn};
+ghost use Rattle.reading.specs.Circle.{keptOn, Stretch};
+ghost use Rattle.reading.specs.Form.{circleAt, Unpacks, Circles};
 ghost use Rattle.reading.specs.Room.{roomFits, roomOutput};
 
 // How many data places of a block of `a` bits lack a bit; 0 where `a` is out of range or the room is too short for it.
@@ -73,30 +80,52 @@ fn right_after(lacking: usize, check: usize, right: usize, r: usize, bits: &[u8]
     r + 1
 }
 
+// Fills `out` with what the circle of code block r keeps for the places of stream 0 from `f` on, of streams of k + 4 places: from the room,
+// or where it keeps four places a byte from `circle`, in which the code block is unpacked.
+fn read_data(
+    four: bool,
+    r: usize,
+    k: usize,
+    f: usize,
+    room: &[u8],
+    circle: &mut [u8],
+    out: &mut [u8],
+)
+    requires { ⌜ Circles four r (now room) (now circle) × Stretch perBlock (k + 4) 0 f (length (now out)) ⌝ }
+    ensures { λ _. ⌜ now (out .exit) ≡ tabFrom f (length (now (out .entry))) (keptOn (circleAt r (placesIn four (now (room .entry)))) (k + 4) 0) ⌝ }
+{
+    let long = bytes_a_block(four);
+    let from = r * long;
+    let to = from + long;
+    if four {
+        unpack_places(&room[from..to], circle);
+        circle::read_stream(circle, k + 4, 0, f, out);
+    } else {
+        circle::read_stream(&room[from..to], k + 4, 0, f, out);
+    }
+}
+
 // Puts the sequence as it was heard, the block and its transport check, over the front of `b`, and tells what lacks and what is wrong.
 // Each code block's check bits are read, counted and compared too; the next code block is put over them.
-fn collect(a: usize, room: &[u8], b: &mut [u8]) -> Collected
-    requires { ⌜ (roomFits a (length (now room)) ≡ true) × (a + 48 ≤ length (now b)) ⌝ }
-    ensures count { λ r. ⌜ r .lacking ≡ lacking 1 0 a (now (room .entry)) ⌝ }
-    ensures right { λ r. ⌜ (r .lacking ≡ 0 → r .right ≡ firstWrong 1 0 a (now (room .entry))) ⌝ }
-    ensures sequence { λ r. ⌜ take (a + 24) (now (b .exit)) ≡ heardSequence 1 0 a (now (room .entry)) ⌝ }
+fn collect(four: bool, a: usize, room: &[u8], circle: &mut [u8], b: &mut [u8]) -> Collected
+    requires { ⌜ (roomFits a (length (placesIn four (now room))) ≡ true) × (a + 48 ≤ length (now b)) × Unpacks four (length (now circle)) ⌝ }
+    ensures count { λ r. ⌜ r .lacking ≡ lacking 1 0 a (placesIn four (now (room .entry))) ⌝ }
+    ensures right { λ r. ⌜ (r .lacking ≡ 0 → r .right ≡ firstWrong 1 0 a (placesIn four (now (room .entry)))) ⌝ }
+    ensures sequence { λ r. ⌜ take (a + 24) (now (b .exit)) ≡ heardSequence 1 0 a (placesIn four (now (room .entry))) ⌝ }
 {
     let s = segmentation::segments_for(a);
     let check = check_length(s);
     let mut lacking = 0;
     let mut right = 0;
-    let mut from = 0;
     let mut at = 0;
     let mut r = 0;
     while r < s.blocks {
         let k = block::size_of(s, r);
         let f = block::filler_of(s, r);
-        let to = from + PER_BLOCK;
         let end = at + (k - f);
-        circle::read_stream(&room[from..to], k + 4, 0, f, &mut b[at..end]);
+        read_data(four, r, k, f, room, circle, &mut b[at..end]);
         lacking += circle::count_missing(&b[at..end]);
         right = right_after(lacking, check, right, r, &b[at..end]);
-        from = to;
         at = end - check;
         r += 1;
     }
@@ -105,12 +134,19 @@ fn collect(a: usize, room: &[u8], b: &mut [u8]) -> Collected
 
 // What Read answers for a room, and the block of `a` bits over the front of `out` where it is released. The sequence is put together in
 // `b`, so that a wrong one leaves `out` as it was.
-fn release(a: usize, room: &[u8], b: &mut [u8], out: &mut [u8]) -> Answer
-    requires { ⌜ (roomFits a (length (now room)) ≡ true) × (a + 48 ≤ length (now b)) × (a ≤ length (now out)) ⌝ }
-    ensures { λ r. ⌜ r ≡ heardAnswer 1 0 a (now (room .entry)) ⌝ }
-    ensures { λ r. ⌜ now (out .exit) ≡ roomOutput a (now (room .entry)) (now (out .entry)) ⌝ }
+fn release(
+    four: bool,
+    a: usize,
+    room: &[u8],
+    circle: &mut [u8],
+    b: &mut [u8],
+    out: &mut [u8],
+) -> Answer
+    requires { ⌜ (roomFits a (length (placesIn four (now room))) ≡ true) × (a + 48 ≤ length (now b)) × (a ≤ length (now out)) × Unpacks four (length (now circle)) ⌝ }
+    ensures { λ r. ⌜ r ≡ heardAnswer 1 0 a (placesIn four (now (room .entry))) ⌝ }
+    ensures { λ r. ⌜ now (out .exit) ≡ roomOutput a (placesIn four (now (room .entry))) (now (out .entry)) ⌝ }
 {
-    let heard = collect(a, room, b);
+    let heard = collect(four, a, room, circle, b);
     if heard.lacking != 0 {
         return Answer::RefusedWith(11, heard.lacking);
     }
@@ -126,32 +162,38 @@ fn release(a: usize, room: &[u8], b: &mut [u8], out: &mut [u8]) -> Answer
 }
 
 // The same, with an array for the sequence of one code block, or of several.
-pub(crate) fn read_room(a: usize, room: &[u8], out: &mut [u8]) -> Answer
-    requires { ⌜ (roomFits a (length (now room)) ≡ true) × (a ≤ length (now out)) ⌝ }
-    ensures { λ r. ⌜ r ≡ heardAnswer 1 0 a (now (room .entry)) ⌝ }
-    ensures { λ r. ⌜ now (out .exit) ≡ roomOutput a (now (room .entry)) (now (out .entry)) ⌝ }
+pub(crate) fn read_room(
+    four: bool,
+    a: usize,
+    room: &[u8],
+    circle: &mut [u8],
+    out: &mut [u8],
+) -> Answer
+    requires { ⌜ (roomFits a (length (placesIn four (now room))) ≡ true) × (a ≤ length (now out)) × Unpacks four (length (now circle)) ⌝ }
+    ensures { λ r. ⌜ r ≡ heardAnswer 1 0 a (placesIn four (now (room .entry))) ⌝ }
+    ensures { λ r. ⌜ now (out .exit) ≡ roomOutput a (placesIn four (now (room .entry))) (now (out .entry)) ⌝ }
 {
     if a <= 6120 {
-        read_short(a, room, out)
+        read_short(four, a, room, circle, out)
     } else {
-        read_long(a, room, out)
+        read_long(four, a, room, circle, out)
     }
 }
 
-fn read_short(a: usize, room: &[u8], out: &mut [u8]) -> Answer
-    requires { ⌜ (a ≤ 6120) × (roomFits a (length (now room)) ≡ true) × (a ≤ length (now out)) ⌝ }
-    ensures { λ r. ⌜ r ≡ heardAnswer 1 0 a (now (room .entry)) ⌝ }
-    ensures { λ r. ⌜ now (out .exit) ≡ roomOutput a (now (room .entry)) (now (out .entry)) ⌝ }
+fn read_short(four: bool, a: usize, room: &[u8], circle: &mut [u8], out: &mut [u8]) -> Answer
+    requires { ⌜ (a ≤ 6120) × (roomFits a (length (placesIn four (now room))) ≡ true) × (a ≤ length (now out)) × Unpacks four (length (now circle)) ⌝ }
+    ensures { λ r. ⌜ r ≡ heardAnswer 1 0 a (placesIn four (now (room .entry))) ⌝ }
+    ensures { λ r. ⌜ now (out .exit) ≡ roomOutput a (placesIn four (now (room .entry))) (now (out .entry)) ⌝ }
 {
     let mut b = [0u8; 6168];
-    release(a, room, &mut b, out)
+    release(four, a, room, circle, &mut b, out)
 }
 
-fn read_long(a: usize, room: &[u8], out: &mut [u8]) -> Answer
-    requires { ⌜ (roomFits a (length (now room)) ≡ true) × (a ≤ length (now out)) ⌝ }
-    ensures { λ r. ⌜ r ≡ heardAnswer 1 0 a (now (room .entry)) ⌝ }
-    ensures { λ r. ⌜ now (out .exit) ≡ roomOutput a (now (room .entry)) (now (out .entry)) ⌝ }
+fn read_long(four: bool, a: usize, room: &[u8], circle: &mut [u8], out: &mut [u8]) -> Answer
+    requires { ⌜ (roomFits a (length (placesIn four (now room))) ≡ true) × (a ≤ length (now out)) × Unpacks four (length (now circle)) ⌝ }
+    ensures { λ r. ⌜ r ≡ heardAnswer 1 0 a (placesIn four (now (room .entry))) ⌝ }
+    ensures { λ r. ⌜ now (out .exit) ≡ roomOutput a (placesIn four (now (room .entry))) (now (out .entry)) ⌝ }
 {
     let mut b = [0u8; 30624];
-    release(a, room, &mut b, out)
+    release(four, a, room, circle, &mut b, out)
 }

@@ -8,9 +8,8 @@ use native.Mathlib.Nat.{add-zero, sub-zero, add-sub-cancel-left, mul-le-mul-righ
 use native.Mathlib.Numerals.{add-one}
 use native.Mathlib.Omega.{arith}
 use lib.ListN.{length, getD, take, drop}
-use borrow.Author.Tests.{le-ltb}
 use borrow.Rule.Slice.PartMut.{midOf, putMid, put-same}
-use Rattle.laws.proofs.Tab.{length-tab}
+use Rattle.laws.proofs.Tab.{length-tab, getD-tab}
 use Rattle.laws.proofs.Parts.{length-mid, length-put}
 use Rattle.segmentation.specs.declared.Segments.{Segments}
 use Rattle.segmentation.specs.Segmentation.{blocks, sizeOf, fillerOf}
@@ -19,9 +18,10 @@ use Rattle.rate_matching.specs.SubBlocks.{rows}
 use Rattle.rate_matching.specs.Circle.{circleLength, cutAt, startIn}
 use Rattle.rate_matching.specs.Walk.{sentPlaces, turn, turnAfterTurn}
 use Rattle.rate_matching.specs.Shape.{shape}
+use Rattle.rate_matching.proofs.Cut.{sent-before}
 use Rattle.codeword.specs.Shares.{share, sharesBefore}
 use Rattle.codeword.specs.Codeword.{blockRows, blockCut}
-use Rattle.codeword.specs.Build.{badVersion, shareOf}
+use Rattle.codeword.specs.Build.{shareOf}
 use Rattle.codeword.proofs.Accepted.{allocated, share-told}
 use Rattle.codeword.proofs.Shares.{stretch-within}
 use Rattle.codeword.proofs.Segmented.{sized-in}
@@ -29,7 +29,7 @@ use Rattle.slots.specs.State.{perBlock, roomLength, roomStart}
 use Rattle.slots.specs.Room.{byteOf}
 use Rattle.slots.specs.Reception.{blockPlaces, putBits, putBlocks, received}
 use Rattle.slots.proofs.Buffers.{Wide}
-use Rattle.slots.proofs.PlaceBounds.{block-cut, sent-below}
+use Rattle.slots.proofs.PlaceBounds.{block-cut}
 use Rattle.reading.proofs.Blocks.{streams, filler-below}
 use Rattle.reception.specs.Parts.{putFrom, partAfter, roomAfter, Accepted}
 use Rattle.reception.specs.Along.{Sends}
@@ -56,6 +56,15 @@ module _ (A : ℕ) (admitted : badSize A ≡ false) where
   -- and their number
   pub count-is : {s : Segments} → s ≡ segmentsFor A → s .blocks ≡ blocks (A + 24)
   count-is {s} told = sized-in A s admitted told .count
+
+-- what is sent lies on the circle
+sent-on : {D F soft v long : ℕ} → Sends D F soft v long → (E i : ℕ) → (let js = sentPlaces (take (cutAt soft (rows D)) (shape D F)) (startIn (cutAt soft (rows D)) (rows D) v) E in i < length js → getD js i 0 < circleLength (rows D))
+unfolding sentPlaces
+sent-on {D} {F} {soft} {v} w E i l =
+    rw (getD-tab E places i 0 (rw (length-tab E places) at l)) (omega (arith, sent-before (w .walked .least) (w .walked .filler) (w .cut) (w .version) i, w .cut .most))
+  where
+    places : ℕ → ℕ
+    places = turnAfterTurn (turn (take (cutAt soft (rows D)) (shape D F)) (startIn (cutAt soft (rows D)) (rows D) v))
 
 -- ---- the loop
 
@@ -98,15 +107,17 @@ module _ {A soft Q N v : ℕ} {bits room₀ : List ℕ} where
     pub bits-within : {E : ℕ} → E ≡ shareOf (blocks (A + 24)) Q N (length bits) r → at + E ≤ length bits
     bits-within {E} e = omega (arith, b .starts, share-is e, stretch-within (blocks (A + 24)) Q N (length bits) r h (allocated _ Q N (length bits) (ok .allocation) .multiple))
 
-    pub blocks-next : {E D F : ℕ} {part : List ℕ} → E ≡ shareOf (blocks (A + 24)) Q N (length bits) r → D ≡ sizeOf (A + 24) r + 4 → F ≡ fillerOf (A + 24) r
-        → part ≡ partAfter D F (cutAt soft (rows D)) v (midOf at (at + E - at) bits) (midOf from (from + perBlock - from) room)
-        → Blocks A soft Q N v bits room₀ (putMid from (from + perBlock - from) room part) (at + E) (from + perBlock) (r + 1)
-    unfolding putBlocks partAfter blockPlaces blockCut blockRows byteOf roomStart roomLength sharesBefore sentPlaces badVersion
-    blocks-next {E} {D} {F} {part} e d f s = record {
+    -- the places that are lent for it, all or as many as its circle has
+    pub blocks-next : {E D F L : ℕ} {part : List ℕ} → E ≡ shareOf (blocks (A + 24)) Q N (length bits) r → D ≡ sizeOf (A + 24) r + 4 → F ≡ fillerOf (A + 24) r
+        → circleLength (rows D) ≤ L → L ≤ perBlock
+        → part ≡ partAfter D F (cutAt soft (rows D)) v (midOf at (at + E - at) bits) (midOf from (from + L - from) room)
+        → Blocks A soft Q N v bits room₀ (putMid from (from + L - from) room part) (at + E) (from + perBlock) (r + 1)
+    unfolding putBlocks partAfter blockPlaces blockCut blockRows byteOf roomStart roomLength sharesBefore sentPlaces
+    blocks-next {E} {D} {F} {L} {part} e d f enough most s = record {
       passed = omega arith;
       starts = ap₂ (λ (x y : ℕ). x + y) (b .starts) (share-is e) ∙ ap (sharesBefore C Q N G) (sym (add-one r));
       begins = omega (arith, b .begins);
-      long = length-put from (from + perBlock) room part part-within as-long ∙ b .long;
+      long = length-put from (from + L) room part within as-long ∙ b .long;
       told =
           ap₂ (λ (q : ℕ) (l : List ℕ). putBlocks soft 1 0 (A + 24) Q N v bits q (C - (r + 1)) l) (add-one r)
           (put ∙ ap (λ (n : ℕ). putBits 1 0 r js (drop n bits) room) (b .starts))
@@ -121,7 +132,10 @@ module _ {A soft Q N v : ℕ} {bits room₀ : List ℕ} where
         G = length bits
 
         k : ℕ
-        k = from + perBlock - from
+        k = from + L - from
+
+        within : from + L ≤ length room
+        within = omega (arith, part-within)
 
         mid : List ℕ
         mid = midOf from k room
@@ -135,8 +149,8 @@ module _ {A soft Q N v : ℕ} {bits room₀ : List ℕ} where
         one : suc (C - (r + 1)) ≡ C - r
         one = omega arith
 
-        mid-long : length mid ≡ perBlock
-        mid-long = length-mid from (from + perBlock) room part-within ∙ add-sub-cancel-left from perBlock
+        mid-long : length mid ≡ L
+        mid-long = length-mid from (from + L) room within ∙ add-sub-cancel-left from L
 
         lent-long : length (midOf at (at + E - at) bits) ≡ share C Q N G r
         lent-long = length-mid at (at + E) bits (bits-within e) ∙ add-sub-cancel-left at E ∙ share-is e
@@ -160,11 +174,11 @@ module _ {A soft Q N v : ℕ} {bits room₀ : List ℕ} where
             ∙ ap (λ (l : List ℕ). putFrom 0 l (midOf at (at + E - at) bits) mid) places
             ∙ putFrom-front 0 js (at + E - at) (drop at bits) mid few
 
-        as-long : length part ≡ from + perBlock - from
-        as-long = ap length part-is ∙ length-putFrom 0 js (drop at bits) mid ∙ length-mid from (from + perBlock) room part-within
+        as-long : length part ≡ from + L - from
+        as-long = ap length part-is ∙ length-putFrom 0 js (drop at bits) mid ∙ length-mid from (from + L) room within
 
         below : (i : ℕ) → i < length js → 0 + getD js i 0 < length mid
-        below i l = rw mid-long (omega (arith, sent-below A (ok .size) (ok .wide) Q N v G r (le-ltb 3 v (ok .version)) i l))
+        below i l = rw mid-long (omega (arith, sent-on (block-sends A (ok .size) (ok .wide) (ok .version) r) (share C Q N G r) i l, ap (λ (x : ℕ). circleLength (rows x)) d))
 
         there : from ≡ 0 * (1 * perBlock) + (r * perBlock + 0)
         there = omega (arith, b .begins)
@@ -172,6 +186,6 @@ module _ {A soft Q N v : ℕ} {bits room₀ : List ℕ} where
         put : putMid from k room part ≡ putBits 1 0 r js (drop at bits) room
         put =
             ap (putMid from k room) part-is
-            ∙ sym (put-in from k room (omega (arith, part-within)) 0 js (drop at bits) mid below)
+            ∙ sym (put-in from k room (omega (arith, within)) 0 js (drop at bits) mid below)
             ∙ ap₂ (λ (n : ℕ) (l : List ℕ). putFrom n js (drop at bits) l) (add-zero from) (put-same from k room)
             ∙ sym (putBits-is 1 0 r js (drop at bits) room there)

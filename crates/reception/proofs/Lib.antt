@@ -6,3 +6,5 @@ pub mod Rounds
 pub mod Blocks
 pub mod Slot
 pub mod Accepts
+pub mod Fours
+pub mod FourStore

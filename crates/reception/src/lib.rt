@@ -1,7 +1,9 @@
 // The call Receive of 01, for an uplink and, with a circle that is cut, for a downlink (02).
 mod circle;
+mod packed;
 mod parts;
 
+pub use packed::receive_packed;
 use refusals::or_else;
 use slots::Answer;
 use slots::Outcome;
@@ -48,7 +50,7 @@ pub fn receive(
 }
 
 // Receive's refusals in 01's order, for a store of `room` bytes. All are looked for before a bit is put.
-fn receive_number(
+pub(crate) fn receive_number(
     state: State,
     room: usize,
     slot: usize,

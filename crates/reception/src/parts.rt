@@ -68,7 +68,14 @@ fn put_long(
 
 // Puts the bits that redundancy version `version` sent of a code block with streams of d places, of which `filler` are filler, and a share `soft` of the
 // soft buffer. The first turn tells how long a turn is.
-fn put_block(d: usize, filler: usize, soft: usize, version: usize, bits: &[u8], part: &mut [u8])
+pub(crate) fn put_block(
+    d: usize,
+    filler: usize,
+    soft: usize,
+    version: usize,
+    bits: &[u8],
+    part: &mut [u8],
+)
     requires { ⌜ Sends d filler soft version (length (now part)) × AreBits (now bits) ⌝ }
     ensures { λ _. ⌜ now (part .exit) ≡ partAfter d filler (cutAt soft (rows d)) version (now (bits .entry)) (now (part .entry)) ⌝ }
 {

@@ -13,3 +13,4 @@ pub mod Meeting
 pub mod SameKept
 pub mod HeardBits
 pub mod Checks
+pub mod Done

@@ -47,14 +47,18 @@ openRules state room slot A =
     storeRules state room slot
     ++ (rule (headAt state slot .opened) 7 ∷ rule (badSize A) 1 ∷ rule (tooMany (state .blocks) A) 10 ∷ [])
 
+-- the slot opened: its head holds the terminal, A and the share
+abbrev pub openedFor : State → ℕ → ℕ → ℕ → ℕ → Outcome
+openedFor state slot terminal A soft =
+    record { answer = Done; state = withHead state slot (openHead terminal A soft) }
+
 -- Open: the head of an uplink holds the whole share
 unfoldable pub openNumber : State → ℕ → ℕ → ℕ → ℕ
 openNumber state room slot A = firstOf (openRules state room slot A)
 
 unfoldable pub openOutcome : State → ℕ → ℕ → ℕ → ℕ → Outcome
 openOutcome state room slot terminal A =
-    unlessRefused (openNumber state room slot A) state
-    (record { answer = Done; state = withHead state slot (openHead terminal A wholeShare) })
+    unlessRefused (openNumber state room slot A) state (openedFor state slot terminal A wholeShare)
 
 unfoldable pub openStore : State → ℕ → ℕ → List ℕ → List ℕ
 openStore state slot A store =
@@ -68,10 +72,7 @@ openDownNumber state room slot A release kMIMO processes Nsoft layers =
 unfoldable pub openDownOutcome : State → ℕ → ℕ → ℕ → ℕ → ℕ → ℕ → ℕ → ℕ → ℕ → Outcome
 openDownOutcome state room slot terminal A release kMIMO processes Nsoft layers =
     unlessRefused (openDownNumber state room slot A release kMIMO processes Nsoft layers) state
-    (record {
-      answer = Done;
-      state = withHead state slot (openHead terminal A (softShare (blocks (A + 24)) release kMIMO processes Nsoft layers));
-    })
+    (openedFor state slot terminal A (softShare (blocks (A + 24)) release kMIMO processes Nsoft layers))
 
 unfoldable pub openDownStore : State → ℕ → ℕ → ℕ → ℕ → ℕ → ℕ → ℕ → List ℕ → List ℕ
 openDownStore state slot A release kMIMO processes Nsoft layers store =

@@ -7,14 +7,15 @@ use crate::states;
 use refusals::or_else;
 ghost use mathlib.Core.Path.{_≡_};
 ghost use mathlib.Core.List.{[], _∷_, _++_};
-ghost use Prim.Native.Nat.{ℕ, _+_, _≤_};
+ghost use Prim.Native.Nat.{ℕ, _+_, _≤_, _<_};
 ghost use lib.ListN.{length, replicate};
 ghost use Rattle.codeword.specs.Downlink.{tooShort};
 ghost use Rattle.refusals.specs.Refusals.{rule, firstOf};
 ghost use Rattle.segmentation.specs.Segmentation.{blocks};
 ghost use Rattle.slots.specs.State.{roomLength, roomStart, newState};
 ghost use Rattle.slots.specs.Room.{unheard, cleared};
-ghost use Rattle.slots.specs.Calls.{newOutcome, openRules, openNumber, openOutcome, openStore, openDownOutcome, openDownStore, closeNumber, closeOutcome};
+ghost use Rattle.slots.specs.Answers.{isDone, unlessRefused};
+ghost use Rattle.slots.specs.Calls.{newOutcome, openedFor, openRules, openNumber, openOutcome, openStore, openDownOutcome, openDownStore, closeNumber, closeOutcome};
 
 // The share of the soft buffer that an uplink's code block has: the places of the largest circle.
 const WHOLE_SHARE: usize = 18528;
@@ -52,24 +53,21 @@ pub fn open(state: State, slot: usize, terminal: u16, size: usize, store: &mut [
     ensures { λ r. ⌜ r ≡ openOutcome state (length (now (store .entry))) slot terminal size ⌝ }
     ensures { λ r. ⌜ now (store .exit) ≡ openStore state slot size (now (store .entry)) ⌝ }
 {
-    let number = open_number(state, store.len(), slot, size);
-    if number != 0 {
-        return Outcome {
-            answer: Answer::Refused(number),
-            state,
-        };
+    let after = open_outcome(state, store.len(), slot, terminal, size);
+    let answer = after.answer;
+    if !is_done(answer) {
+        return after;
     }
     clear_room(state.blocks, slot, store);
-    let head = Head {
-        opened: true,
-        terminal,
-        size,
-        share: WHOLE_SHARE,
-    };
-    Outcome {
-        answer: Answer::Done,
-        state: states::with_head(state, slot, head),
-    }
+    after
+}
+
+// Its answer and the state, for a store that keeps `room` places: a store in another form is cleared by another call.
+pub fn open_outcome(state: State, room: usize, slot: usize, terminal: u16, size: usize) -> Outcome
+    ensures { λ r. ⌜ r ≡ openOutcome state room slot terminal size ⌝ }
+{
+    let number = open_number(state, room, slot, size);
+    opened(number, state, slot, terminal, size, WHOLE_SHARE)
 }
 
 // Opens a slot for a downlink: the same, and each code block has its share of the soft buffer. `release` is 8 or 11, `mimo` is K_MIMO, `soft`
@@ -89,16 +87,65 @@ pub fn open_down(
     ensures { λ r. ⌜ r ≡ openDownOutcome state (length (now (store .entry))) slot terminal size release mimo processes soft layers ⌝ }
     ensures { λ r. ⌜ now (store .exit) ≡ openDownStore state slot size release mimo processes soft layers (now (store .entry)) ⌝ }
 {
+    let after = open_down_outcome(
+        state,
+        store.len(),
+        slot,
+        terminal,
+        size,
+        release,
+        mimo,
+        processes,
+        soft,
+        layers,
+    );
+    let answer = after.answer;
+    if !is_done(answer) {
+        return after;
+    }
+    clear_room(state.blocks, slot, store);
+    after
+}
+
+// Its answer and the state, for a store that keeps `room` places.
+pub fn open_down_outcome(
+    state: State,
+    room: usize,
+    slot: usize,
+    terminal: u16,
+    size: usize,
+    release: usize,
+    mimo: usize,
+    processes: usize,
+    soft: usize,
+    layers: usize,
+) -> Outcome
+    ensures { λ r. ⌜ r ≡ openDownOutcome state room slot terminal size release mimo processes soft layers ⌝ }
+{
     let count = states::block_count(size);
     let share = codeword::share_for(count, release, mimo, processes, soft, layers);
-    let number = down_number(state, store.len(), slot, size, share);
+    let number = down_number(state, room, slot, size, share);
+    opened(number, state, slot, terminal, size, share)
+}
+
+// A refusal by its number, or the slot opened: its head holds the terminal, A and the share.
+fn opened(
+    number: u8,
+    state: State,
+    slot: usize,
+    terminal: u16,
+    size: usize,
+    share: usize,
+) -> Outcome
+    requires { ⌜ (number ≡ 0 → slot < 8) ⌝ }
+    ensures { λ r. ⌜ r ≡ unlessRefused number state (openedFor state slot terminal size share) ⌝ }
+{
     if number != 0 {
         return Outcome {
             answer: Answer::Refused(number),
             state,
         };
     }
-    clear_room(state.blocks, slot, store);
     let head = Head {
         opened: true,
         terminal,
@@ -108,6 +155,18 @@ pub fn open_down(
     Outcome {
         answer: Answer::Done,
         state: states::with_head(state, slot, head),
+    }
+}
+
+// Accepted, with nothing to tell.
+pub fn is_done(answer: Answer) -> bool
+    ensures { λ r. ⌜ r ≡ isDone answer ⌝ }
+{
+    match answer {
+        Answer::Done => true,
+        Answer::Heard(_) => false,
+        Answer::Refused(_) => false,
+        Answer::RefusedWith(_, _) => false,
     }
 }
 

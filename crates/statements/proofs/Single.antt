@@ -5,7 +5,7 @@ use mathlib.Core.List.{List, [], append-nil}
 use Prim.Native.Nat.{ℕ}
 use Rattle.slots.specs.declared.State.{State}
 use Rattle.statements.specs.Outcome.{Given, Gives, SingleOutcome}
-use Rattle.statements.specs.Calls.{SizesStatement, BuildStatement, BuildTwoStatement, BuildDownStatement, SizesToCStatement, ReportBuildStatement, ReportPartStatement, DataPartStatement, ControlStatement, WhoseStatement, WhoseToCStatement, WorstStatement, PackStatement, UnpackStatement, NewStatement, OpenStatement, OpenDownStatement, ReceiveStatement, ReadStatement, StreamsStatement, CloseStatement}
+use Rattle.statements.specs.Calls.{SizesStatement, BuildStatement, BuildTwoStatement, BuildDownStatement, SizesToCStatement, ReportBuildStatement, ReportPartStatement, DataPartStatement, ControlStatement, WhoseStatement, WhoseToCStatement, WorstStatement, PackStatement, UnpackStatement, NewStatement, OpenStatement, OpenDownStatement, ReceiveStatement, ReadStatement, StreamsStatement, CloseStatement, OpenPackedStatement, OpenDownPackedStatement, ReceivePackedStatement, ReadPackedStatement, StreamsPackedStatement}
 
 -- the law: what an answer and the bytes afterwards are said to be, they are
 pub single : {A B : Type 0} (answer : A) (after : B) → SingleOutcome (Gives answer after)
@@ -79,3 +79,19 @@ streams-single state slot terminal r store out = single _ _
 
 pub close-single : (state : State) (slot terminal : ℕ) → SingleOutcome (CloseStatement state slot terminal)
 close-single state slot terminal = single _ _
+
+pub open-packed-single : (state : State) (slot terminal A : ℕ) (store : List ℕ) → SingleOutcome (OpenPackedStatement state slot terminal A store)
+open-packed-single state slot terminal A store = single _ _
+
+pub open-down-packed-single : (state : State) (slot terminal A release kMIMO processes Nsoft layers : ℕ) (store : List ℕ)
+    → SingleOutcome (OpenDownPackedStatement state slot terminal A release kMIMO processes Nsoft layers store)
+open-down-packed-single state slot terminal A release kMIMO processes Nsoft layers store = single _ _
+
+pub receive-packed-single : (state : State) (slot terminal Q N v : ℕ) (bits store : List ℕ) → SingleOutcome (ReceivePackedStatement state slot terminal Q N v bits store)
+receive-packed-single state slot terminal Q N v bits store = single _ _
+
+pub read-packed-single : (state : State) (slot terminal : ℕ) (store out : List ℕ) → SingleOutcome (ReadPackedStatement state slot terminal store out)
+read-packed-single state slot terminal store out = single _ _
+
+pub streams-packed-single : (state : State) (slot terminal r : ℕ) (store out : List ℕ) → SingleOutcome (StreamsPackedStatement state slot terminal r store out)
+streams-packed-single state slot terminal r store out = single _ _

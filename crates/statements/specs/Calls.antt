@@ -1,5 +1,6 @@
 -- The statements of the public calls, as their contracts put them: the answer, and every lent byte afterwards.
 -- Assumes nothing.
+use mathlib.Core.Bool.{true}
 use mathlib.Core.List.{List, _++_}
 use Prim.Native.Nat.{ℕ}
 use lib.ListN.{length}
@@ -17,6 +18,7 @@ use Rattle.slots.specs.declared.State.{State}
 use Rattle.slots.specs.declared.Outcome.{Outcome}
 use Rattle.slots.specs.Calls.{newOutcome, openOutcome, openStore, openDownOutcome, openDownStore, receiveOutcome, receiveStore, readOutcome, readOutput, streamsOutcome, streamsOutput, closeOutcome}
 use Rattle.packing.specs.Change.{packNumber, packOutput, unpackNumber, unpackOutput}
+use Rattle.packing.specs.Store.{placesIn, inForm}
 use Rattle.statements.specs.Outcome.{Given, Gives}
 
 -- Sizes and New lend nothing
@@ -99,3 +101,26 @@ StreamsStatement state slot terminal r store out =
 
 abbrev pub CloseStatement : State → ℕ → ℕ → Given Outcome (Unit {0}) → Type 0
 CloseStatement state slot terminal = Gives (closeOutcome state slot terminal) tt
+
+-- ---- a store with four places a byte: the same calls on the places that it keeps, and it keeps the places that they leave
+
+abbrev pub OpenPackedStatement : State → ℕ → ℕ → ℕ → List ℕ → Given Outcome (List ℕ) → Type 0
+OpenPackedStatement state slot terminal A store =
+    Gives (openOutcome state (length (placesIn true store)) slot terminal A) (inForm true (openStore state slot A (placesIn true store)))
+
+abbrev pub OpenDownPackedStatement : State → ℕ → ℕ → ℕ → ℕ → ℕ → ℕ → ℕ → ℕ → List ℕ → Given Outcome (List ℕ) → Type 0
+OpenDownPackedStatement state slot terminal A release kMIMO processes Nsoft layers store =
+    Gives (openDownOutcome state (length (placesIn true store)) slot terminal A release kMIMO processes Nsoft layers)
+    (inForm true (openDownStore state slot A release kMIMO processes Nsoft layers (placesIn true store)))
+
+abbrev pub ReceivePackedStatement : State → ℕ → ℕ → ℕ → ℕ → ℕ → List ℕ → List ℕ → Given Outcome (List ℕ) → Type 0
+ReceivePackedStatement state slot terminal Q N v bits store =
+    Gives (receiveOutcome state slot terminal Q N v bits (placesIn true store))
+    (inForm true (receiveStore state slot terminal Q N v bits (placesIn true store)))
+
+-- Read and Streams do not write the store
+abbrev pub ReadPackedStatement : State → ℕ → ℕ → List ℕ → List ℕ → Given Outcome (List ℕ) → Type 0
+ReadPackedStatement state slot terminal store out = ReadStatement state slot terminal (placesIn true store) out
+
+abbrev pub StreamsPackedStatement : State → ℕ → ℕ → ℕ → List ℕ → List ℕ → Given Outcome (List ℕ) → Type 0
+StreamsPackedStatement state slot terminal r store out = StreamsStatement state slot terminal r (placesIn true store) out

@@ -1,26 +1,33 @@
 -- `room::collect` meets its contract: the bits of the code blocks before r are written, and their data places counted (`Sequence`).
 -- Assumes nothing.
-use Prim.Native.Nat.{_-_}
+use Prim.Native.Nat.{_-_, _*_}
 use native.Mathlib.Omega.{arith}
+use Rattle.slots.specs.State.{perBlock}
+use Rattle.packing.specs.Store.{placesIn}
+use lib.ListN.{length}
+use mathlib.Core.Path.{_≡_, refl, _∙_}
+use Rattle.reading.specs.Form.{Unpacks}
 use Rattle.reading.proofs.Blocks.{blocks-few}
+use Rattle.reading.proofs.Form.{next-block, circle-mid, stretch-on}
 use Rattle.reading.proofs.Sequence.{Hearing, fit, hearing-start, Turn, turn, part-back, sum-fits, hearing-next, hearing-finish}
 use Rattle.reading.proofs.room.collect.Statement.{statement}
 use Rattle.reading.proofs.room.collect.Tie as tie
 
 abbrev Inv-loop : tie.InvT-loop
-Inv-loop a room b₀ s check lacking₀ right₀ from₀ at₀ r₀ b lacking right from at r = Hearing a room b₀ b lacking right from at r
+Inv-loop four a room circle₀ b₀ s check lacking₀ right₀ at₀ r₀ circle b lacking right at r =
+    Hearing a (placesIn four room) b₀ b lacking right (r * perBlock) at r × Unpacks four (length circle) × (length circle ≡ length circle₀)
 
 abbrev μ-loop : tie.MeasureT-loop
-μ-loop a room b₀ s check lacking₀ right₀ from₀ at₀ r₀ b lacking right from at r = s .blocks - r
+μ-loop four a room circle₀ b₀ s check lacking₀ right₀ at₀ r₀ circle b lacking right at r = s .blocks - r
 
 -- what the turn needs
 parts : (c : tie.After-filler-of Inv-loop μ-loop) → let turns = c .before .before .before .before in
-    Turn (turns .before .before .before .before .before .args .room .now) (turns .loop .b) (turns .loop .from) (turns .loop .at) (c .before .size-of .result)
+    Turn (placesIn (turns .before .before .before .before .before .before .args .four) (turns .before .before .before .before .before .before .args .room .now)) (turns .loop .b) (turns .loop .r * perBlock) (turns .loop .at) (c .before .size-of .result)
     (turns .before .check-length .result) (c .filler-of .result)
 parts c =
     let turns = c .before .before .before .before in
     turn (turns .before .before .segments-for .ensures) (turns .before .check-length .ensures) (c .before .before .if1 .taken) (c .before .size-of .ensures)
-    (c .filler-of .ensures) (turns .loop .inv)
+    (c .filler-of .ensures) (turns .loop .inv .0)
 
 segments-for-requires : tie.Need-segments-for-requires Inv-loop μ-loop
 segments-for-requires c κs = tt
@@ -29,7 +36,7 @@ check-length-requires : tie.Need-check-length-requires Inv-loop μ-loop
 check-length-requires c κs = tt
 
 loop-holds : tie.Need-loop-holds Inv-loop μ-loop
-loop-holds c = let entry = c .before .before .before .before in hearing-start _ _ _ (fit _ _ (entry .pre .0)) (entry .pre .1)
+loop-holds c = let entry = c .before .before .before .before .before in (hearing-start _ _ _ (fit _ _ (entry .pre .0)) (entry .pre .1), entry .pre .2, refl)
 
 size-of-requires : tie.Need-size-of-requires Inv-loop μ-loop
 size-of-requires c κs = tt
@@ -37,38 +44,31 @@ size-of-requires c κs = tt
 filler-of-requires : tie.Need-filler-of-requires Inv-loop μ-loop
 filler-of-requires c κs = tt
 
-add-to : tie.Need-add-to Inv-loop μ-loop
-add-to c = omega (arith, parts c .circle)
-
 sub-end : tie.Need-sub-end Inv-loop μ-loop
 sub-end c = parts c .filled
 
 add-end : tie.Need-add-end Inv-loop μ-loop
 add-end c = omega (arith, parts c .ends)
 
-sub-read-stream : tie.Need-sub-read-stream Inv-loop μ-loop
-sub-read-stream c = omega arith
+sub-read-data : tie.Need-sub-read-data Inv-loop μ-loop
+sub-read-data c = omega arith
 
-part-read-stream-start : tie.Need-part-read-stream-start Inv-loop μ-loop
-part-read-stream-start c = omega arith
+part-read-data-start : tie.Need-part-read-data-start Inv-loop μ-loop
+part-read-data-start c = omega arith
 
-part-read-stream-end : tie.Need-part-read-stream-end Inv-loop μ-loop
-part-read-stream-end c = parts c .circle
+part-read-data-end : tie.Need-part-read-data-end Inv-loop μ-loop
+part-read-data-end c = parts (c .before) .ends
 
-add-read-stream : tie.Need-add-read-stream Inv-loop μ-loop
-add-read-stream c = omega (arith, parts (c .before) .stretch .sized .most)
-
-sub-read-stream-2 : tie.Need-sub-read-stream-2 Inv-loop μ-loop
-sub-read-stream-2 c = omega arith
-
-part-read-stream-start-2 : tie.Need-part-read-stream-start-2 Inv-loop μ-loop
-part-read-stream-start-2 c = omega arith
-
-part-read-stream-end-2 : tie.Need-part-read-stream-end-2 Inv-loop μ-loop
-part-read-stream-end-2 c = parts (c .before) .ends
-
-read-stream-requires : tie.Need-read-stream-requires Inv-loop μ-loop
-read-stream-requires c κs = parts (c .before .before) .stretch
+read-data-requires : tie.Need-read-data-requires Inv-loop μ-loop
+read-data-requires c κs =
+    let filled = c .before .before in
+    let turns = filled .before .before .before .before in (
+      record {
+        enough = parts filled .circle;
+        unpacks = turns .loop .inv .1;
+      },
+      stretch-on (parts filled .stretch) (omega arith),
+    )
 
 sub-count-missing : tie.Need-sub-count-missing Inv-loop μ-loop
 sub-count-missing c = omega arith
@@ -78,21 +78,21 @@ part-count-missing-start c = omega arith
 
 part-count-missing-end : tie.Need-part-count-missing-end Inv-loop μ-loop
 part-count-missing-end c =
-    let lent = c .before .before .before in
-    part-back (parts (lent .before .before .before)) (lent .read-stream .last .1 .1 .1 .1 .0) (lent .read-stream .kept .1 .1 .1 .1 .0)
+    let lent = c .before .before .before .before .before in
+    part-back (parts (c .before .before .before .before .before .before .before .before)) (lent .read-data .last .1 .1 .1 .1 .1 .1 .0) (lent .read-data .kept .1 .1 .1 .1 .1 .1 .0)
 
 count-missing-requires : tie.Need-count-missing-requires Inv-loop μ-loop
 count-missing-requires c κs = tt
 
 add-lacking : tie.Need-add-lacking Inv-loop μ-loop
 add-lacking c =
-    let filled = c .before .before .before .before .before .before .before .before in
+    let filled = c .before .before .before .before .before .before .before .before .before .before in
     let sized = filled .before in
     let turns = sized .before .before .before in
     record {
       fits =
           sum-fits (turns .before .before .segments-for .ensures) (turns .before .check-length .ensures) (sized .before .if1 .taken) (sized .size-of .ensures)
-          (filled .filler-of .ensures) (turns .loop .inv) (c .before .before .before .before .before .read-stream .ensures) (c .count-missing .ensures);
+          (filled .filler-of .ensures) (turns .loop .inv .0) (rw circle-mid at (c .before .before .before .before .before .before .before .read-data .ensures)) (c .count-missing .ensures);
     }
 
 sub-right-after : tie.Need-sub-right-after Inv-loop μ-loop
@@ -103,16 +103,16 @@ part-right-after-start c = omega arith
 
 part-right-after-end : tie.Need-part-right-after-end Inv-loop μ-loop
 part-right-after-end c =
-    let lent = c .before .before .before .before .before .before in
-    part-back (parts (lent .before .before .before)) (lent .read-stream .last .1 .1 .1 .1 .0) (lent .read-stream .kept .1 .1 .1 .1 .0)
+    let lent = c .before .before .before .before .before .before .before .before in
+    part-back (parts (c .before .before .before .before .before .before .before .before .before .before .before)) (lent .read-data .last .1 .1 .1 .1 .1 .1 .0) (lent .read-data .kept .1 .1 .1 .1 .1 .1 .0)
 
 right-after-requires : tie.Need-right-after-requires Inv-loop μ-loop
 right-after-requires c κs =
-    let sized = c .before .before .before .before .before .before .before .before .before .before .before in
-    omega (arith, sized .before .if1 .taken, blocks-few _ (sized .before .before .before .before .before .segments-for .ensures))
+    let filled = c .before .before .before .before .before .before .before .before .before .before .before .before in
+    omega (arith, filled .before .before .if1 .taken, blocks-few _ (filled .before .before .before .before .before .before .segments-for .ensures))
 
 sub-at : tie.Need-sub-at Inv-loop μ-loop
-sub-at c = parts (c .before .before .before .before .before .before .before .before .before .before .before) .checked
+sub-at c = parts (c .before .before .before .before .before .before .before .before .before .before .before .before .before) .checked
 
 add-r : tie.Need-add-r Inv-loop μ-loop
 add-r c = omega arith
@@ -122,20 +122,25 @@ loop-less c = omega arith
 
 loop-again : tie.Need-loop-again Inv-loop μ-loop
 loop-again c =
-    let counted = c .before .before .before in
-    let filled = counted .before .before .before .before .before .before .before .before in
+    let filled = c .before .before .before .before .before .before .before .before .before .before .before .before .before in
     let sized = filled .before in
     let turns = sized .before .before .before in
-    hearing-next (turns .before .before .segments-for .ensures) (turns .before .check-length .ensures) (sized .before .if1 .taken) (sized .size-of .ensures)
-    (filled .filler-of .ensures) (turns .loop .inv) (counted .before .before .before .before .before .read-stream .ensures) (counted .count-missing .ensures)
-    (c .right-after .ensures)
+    let lent = c .before .before .before .before .before .before .before .before .before .before in
+    let heard = hearing-next (turns .before .before .segments-for .ensures) (turns .before .check-length .ensures) (sized .before .if1 .taken) (sized .size-of .ensures)
+    (filled .filler-of .ensures) (turns .loop .inv .0) (rw circle-mid at (lent .read-data .ensures)) (c .before .before .before .count-missing .ensures)
+    (c .right-after .ensures) in
+    let kept = lent .read-data .kept .1 .1 .1 .1 .1 .0 in
+    (rw next-block heard, λ f. kept ∙ turns .loop .inv .1 f, kept ∙ turns .loop .inv .2)
 
 same-length : tie.Need-same-length Inv-loop μ-loop
-same-length c = c .before .before .loop .inv .long
+same-length c = c .before .before .loop .inv .2
+
+same-length-2 : tie.Need-same-length-2 Inv-loop μ-loop
+same-length-2 c = c .before .before .loop .inv .0 .long
 
 returns : tie.Need-returns Inv-loop μ-loop
 returns c =
-    let all = hearing-finish (c .before .before .before .before .segments-for .ensures) (c .if1 .left) (c .before .before .loop .inv) in
+    let all = hearing-finish (c .before .before .before .before .segments-for .ensures) (c .if1 .left) (c .before .before .loop .inv .0) in
     (all .0, (all .1, all .2))
 
 pub collect-spec : {M : Type 1} → statement M
@@ -149,17 +154,12 @@ collect-spec =
     loop-holds
     size-of-requires
     filler-of-requires
-    add-to
     sub-end
     add-end
-    sub-read-stream
-    part-read-stream-start
-    part-read-stream-end
-    add-read-stream
-    sub-read-stream-2
-    part-read-stream-start-2
-    part-read-stream-end-2
-    read-stream-requires
+    sub-read-data
+    part-read-data-start
+    part-read-data-end
+    read-data-requires
     sub-count-missing
     part-count-missing-start
     part-count-missing-end
@@ -174,4 +174,5 @@ collect-spec =
     loop-less
     loop-again
     same-length
+    same-length-2
     returns)

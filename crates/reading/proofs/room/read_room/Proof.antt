@@ -5,24 +5,30 @@ use Rattle.reading.proofs.room.read_room.Statement.{statement}
 use Rattle.reading.proofs.room.read_room.Tie as tie
 
 read-short-requires : tie.Need-read-short-requires
-read-short-requires c κs = (c .before .if1 .taken, c .before .before .before .before .pre .0, c .before .before .before .before .pre .1)
+read-short-requires c κs = let e = c .before .before .before .before .before .before in (c .before .before .if1 .taken, e .pre .0, e .pre .1, e .pre .2)
 
 read-long-requires : tie.Need-read-long-requires
-read-long-requires c κs = c .before .before .before .before .pre
+read-long-requires c κs = c .before .before .before .before .before .before .pre
 
 same-length : tie.Need-same-length
 same-length c = search needs
 
-returns : tie.Need-returns
-returns c = c .before .before .read-short .ensures
-
 same-length-2 : tie.Need-same-length-2
 same-length-2 c = search needs
 
+returns : tie.Need-returns
+returns c = c .before .before .before .before .read-short .ensures
+
+same-length-3 : tie.Need-same-length-3
+same-length-3 c = search needs
+
+same-length-4 : tie.Need-same-length-4
+same-length-4 c = search needs
+
 returns-2 : tie.Need-returns-2
-returns-2 c = c .before .before .read-long .ensures
+returns-2 c = c .before .before .before .before .read-long .ensures
 
 pub read-room-spec : {M : Type 1} → statement M
 read-room-spec =
     tie.close
-    (tie.spec read-short-requires read-long-requires same-length returns same-length-2 returns-2)
+    (tie.spec read-short-requires read-long-requires same-length same-length-2 returns same-length-3 same-length-4 returns-2)

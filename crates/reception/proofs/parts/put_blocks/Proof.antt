@@ -116,7 +116,7 @@ loop-again c =
     let sized = filled .before in
     let i = sized .before in
     blocks-next (entry i .pre) (below i) (i .before .loop .inv) (share-of shared) (ap (λ (k : ℕ). k + 4) (size sized))
-    (filled .filler-of .ensures ∙ block i .filled) (c .before .before .put-block .ensures)
+    (filled .filler-of .ensures ∙ block i .filled) (rw (size sized) (block-sends _ (entry i .pre .size) (entry i .pre .wide) (entry i .pre .version) (i .before .loop .r) .walked .fits)) (omega arith) (c .before .before .put-block .ensures)
 
 same-length : tie.Need-same-length Inv-loop μ-loop
 same-length c = c .before .loop .inv .long

@@ -1,86 +1,63 @@
--- `opening::open_down` meets its contract: the number decides, and number 0 says that the room lies within the store and that the share is the standard's.
+-- `opening::open_down` meets its contract: the answer tells whether the number is 0, and number 0 says that the room lies within the store.
 -- Assumes nothing.
-use mathlib.Core.Path.{_≡_, refl, sym, _∙_}
-use Prim.Native.Nat.{_+_}
+use mathlib.Core.Path.{_≡_, sym, _∙_, ap}
 use native.Mathlib.Omega.{arith}
 use denote.Ref.{now}
 use borrow.Author.Needs.{needs}
-use borrow.Author.Tests.{ne-eqb}
+use borrow.Author.Tests.{eqb-true, not-true, not-false}
+use lib.Dec.{eqb}
 use lib.ListN.{length}
-use Rattle.segmentation.specs.Segmentation.{blocks}
-use Rattle.rate_matching.specs.SoftBuffer.{softShare}
-use Rattle.slots.specs.Answers.{unlessRefused}
-use Rattle.slots.specs.Calls.{openNumber, openDownNumber, openDownOutcome, openDownStore}
-use Rattle.slots.proofs.Accepted.{Stored, openable, open-admitted, down-found, down-open, down-buffer}
-use Rattle.slots.proofs.Buffers.{share-found}
+use Rattle.slots.specs.declared.Outcome.{Outcome}
+use Rattle.slots.specs.Answers.{isDone}
+use Rattle.slots.specs.Calls.{openDownNumber, openDownStore}
+use Rattle.slots.proofs.Accepted.{Stored}
+use Rattle.slots.proofs.Done.{down-told, down-stored, eight}
 use Rattle.slots.proofs.opening.open_down.Statement.{statement}
 use Rattle.slots.proofs.opening.open_down.Tie as tie
 
--- the number is the definition's
-told : (c : tie.After-down-number) → let entry = c .before .before .before .before .args in
-    c .down-number .result
-    ≡ openDownNumber (entry .state) (length (now (entry .store))) (entry .slot) (entry .size) (entry .release) (entry .mimo) (entry .processes) (entry .soft) (entry .layers)
-told c = c .down-number .ensures ∙ rw (c .before .share-for .ensures, c .before .before .block-count .ensures) (down-found _ _ _ _ _ _ _ _ _)
+-- the answer is done where the number is 0
+told : (c : tie.After-is-done) → let entry = c .before .before .before .args in
+    c .is-done .result ≡ eqb (openDownNumber (entry .state) (length (now (entry .store))) (entry .slot) (entry .size) (entry .release) (entry .mimo) (entry .processes) (entry .soft) (entry .layers)) 0
+told c = c .is-done .ensures ∙ ap (λ (o : Outcome). isDone (o .answer)) (c .before .open-down-outcome .ensures) ∙ down-told _ _ _ _ _ _ _ _ _ _
 
--- number 0
-accepted : (c : tie.Else1) → let entry = c .before .before .before .before .before .args in
-    openDownNumber (entry .state) (length (now (entry .store))) (entry .slot) (entry .size) (entry .release) (entry .mimo) (entry .processes) (entry .soft) (entry .layers) ≡ 0
-accepted c = sym (told (c .before)) ∙ c .if1 .left
+-- what number 0 says
+accepted : (c : tie.Else1) → let entry = c .before .before .before .before .args in Stored (entry .state) (length (now (entry .store))) (entry .slot)
+accepted c =
+    let entry = c .before .before .before .before .args in
+    down-stored _ _ _ (entry .terminal) (entry .size) (entry .release) (entry .mimo) (entry .processes) (entry .soft) (entry .layers) (eqb-true _ 0 (sym (told (c .before)) ∙ not-false (c .before .is-done .result) (c .if1 .left)))
 
-opened : (c : tie.Else1) → let entry = c .before .before .before .before .before .args in openNumber (entry .state) (length (now (entry .store))) (entry .slot) (entry .size) ≡ 0
-opened c = down-open _ _ _ _ _ _ _ _ _ (accepted c)
+open-down-outcome-requires : tie.Need-open-down-outcome-requires
+open-down-outcome-requires c κs = search needs
 
-there : (c : tie.Else1) → let entry = c .before .before .before .before .before .args in Stored (entry .state) (length (now (entry .store))) (entry .slot)
-there c = openable _ _ _ _ refl (opened c) .slot-stored
-
--- the share is the standard's
-share-is : (c : tie.Else1) → let entry = c .before .before .before .before .before .args in
-    c .before .before .share-for .result ≡ softShare (blocks (entry .size + 24)) (entry .release) (entry .mimo) (entry .processes) (entry .soft) (entry .layers)
-share-is c =
-    c .before .before .share-for .ensures
-    ∙ rw (c .before .before .before .block-count .ensures) (share-found _ (open-admitted _ _ _ _ refl (opened c)) _ _ _ _ _ (down-buffer _ _ _ _ _ _ _ _ _ (accepted c)))
-
-block-count-requires : tie.Need-block-count-requires
-block-count-requires c κs = search needs
-
-share-for-requires : tie.Need-share-for-requires
-share-for-requires c κs = search needs
-
-down-number-requires : tie.Need-down-number-requires
-down-number-requires c κs = search needs
+is-done-requires : tie.Need-is-done-requires
+is-done-requires c κs = search needs
 
 returns : tie.Need-returns
-unfolding openDownOutcome openDownStore unlessRefused
-returns c = let found = told (c .before) in (rw (← found, ne-eqb _ 0 (c .if1 .taken)), rw (← found, ne-eqb _ 0 (c .if1 .taken)))
+unfolding openDownStore
+returns c = (c .before .before .open-down-outcome .ensures, rw (← told (c .before), not-true (c .before .is-done .result) (c .if1 .taken)))
 
 clear-room-requires : tie.Need-clear-room-requires
 clear-room-requires c κs =
-    let lies = there (c .before) in
-    ((lies .state-good .shape .blocks-most, omega (arith, lies .present, lies .state-good .shape .slots-most)), lies .within)
-
-with-head-requires : tie.Need-with-head-requires
-with-head-requires c κs = let lies = there (c .before .before .before .before) in omega (arith, lies .present, lies .state-good .shape .slots-most)
+    let there = accepted (c .before) in ((there .state-good .shape .blocks-most, omega (arith, eight there)), there .within)
 
 same-length : tie.Need-same-length
 same-length c = search needs
 
 returns-2 : tie.Need-returns-2
-unfolding openDownOutcome openDownStore unlessRefused
+unfolding openDownStore
 returns-2 c =
-    let chosen = c .before .before .before .before .before in (
-      rw (c .with-head .ensures, accepted chosen, share-is chosen),
-      rw (accepted chosen) (c .before .before .before .clear-room .ensures),
+    let chosen = c .before .before .before .before in (
+      chosen .before .before .open-down-outcome .ensures,
+      rw (← told (chosen .before), not-false (chosen .before .is-done .result) (chosen .if1 .left)) (c .before .before .clear-room .ensures),
     )
 
 pub open-down-spec : {M : Type 1} → statement M
 open-down-spec =
     tie.close
     (tie.spec
-    block-count-requires
-    share-for-requires
-    down-number-requires
+    open-down-outcome-requires
+    is-done-requires
     returns
     clear-room-requires
-    with-head-requires
     same-length
     returns-2)

@@ -1,0 +1,11 @@
+pub mod Lists
+pub mod TwoBits
+pub mod Readings
+pub mod Writings
+pub mod Calls
+pub mod Places
+pub mod Rooms
+pub mod Past
+pub mod Follows
+pub mod Held
+pub mod Promises

@@ -1,0 +1,4 @@
+pub mod Calls
+pub mod Change
+pub mod Run
+pub mod After

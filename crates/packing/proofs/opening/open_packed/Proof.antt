@@ -1,0 +1,85 @@
+-- `opening::open_packed` meets its contract: the answer tells whether the number is 0, and number 0 says that the room lies within the store.
+-- Assumes nothing.
+use mathlib.Core.Path.{_≡_, sym, _∙_, ap}
+use mathlib.Core.Bool.{true}
+use Prim.Native.Nat.{ℕ}
+use native.Mathlib.Omega.{arith}
+use denote.Ref.{now}
+use borrow.Author.Needs.{needs}
+use borrow.Author.Tests.{eqb-true, not-true, not-false}
+use lib.Dec.{eqb}
+use lib.ListN.{length}
+use Rattle.slots.specs.declared.Outcome.{Outcome}
+use Rattle.slots.specs.Answers.{isDone}
+use Rattle.slots.specs.Calls.{openNumber, openOutcome, openStore}
+use Rattle.slots.proofs.Accepted.{Stored}
+use Rattle.slots.proofs.Done.{open-told, open-stored, eight}
+use Rattle.packing.specs.Store.{placesIn, inForm}
+use Rattle.packing.proofs.Stores.{form-back}
+use Rattle.packing.proofs.Opened.{asked-open}
+use Rattle.packing.proofs.opening.open_packed.Statement.{statement}
+use Rattle.packing.proofs.opening.open_packed.Tie as tie
+
+-- the outcome is that of the places that the store keeps
+outcome-is : (c : tie.After-open-outcome) → let entry = c .before .before .before .args in
+    c .open-outcome .result ≡ openOutcome (entry .state) (length (placesIn true (now (entry .store)))) (entry .slot) (entry .terminal) (entry .size)
+outcome-is c =
+    let entry = c .before .before .before .args in
+    c .open-outcome .ensures
+    ∙ ap (λ (n : ℕ). openOutcome (entry .state) n (entry .slot) (entry .terminal) (entry .size)) (c .before .places-asked .ensures)
+    ∙ asked-open (entry .state) (now (entry .store)) (entry .slot) (entry .terminal) (entry .size)
+
+-- its answer is done where the number is 0
+told : (c : tie.After-is-done) → let entry = c .before .before .before .before .args in
+    c .is-done .result ≡ eqb (openNumber (entry .state) (length (placesIn true (now (entry .store)))) (entry .slot) (entry .size)) 0
+told c = c .is-done .ensures ∙ ap (λ (o : Outcome). isDone (o .answer)) (outcome-is (c .before)) ∙ open-told _ _ _ _ _
+
+-- what number 0 says
+accepted : (c : tie.Else1) → let entry = c .before .before .before .before .before .args in Stored (entry .state) (length (placesIn true (now (entry .store)))) (entry .slot)
+accepted c =
+    let entry = c .before .before .before .before .before .args in
+    open-stored _ _ _ (entry .terminal) (entry .size) (eqb-true _ 0 (sym (told (c .before)) ∙ not-false (c .before .is-done .result) (c .if1 .left)))
+
+places-asked-requires : tie.Need-places-asked-requires
+places-asked-requires c κs = search needs
+
+open-outcome-requires : tie.Need-open-outcome-requires
+open-outcome-requires c κs = search needs
+
+is-done-requires : tie.Need-is-done-requires
+is-done-requires c κs = search needs
+
+returns : tie.Need-returns
+unfolding openStore
+returns c = (
+  outcome-is (c .before .before),
+  rw (← told (c .before), not-true (c .before .is-done .result) (c .if1 .taken))
+      (sym (form-back true (now (c .before .before .before .before .before .args .store)) (λ i. omega (arith, c .before .before .before .before .slice-known .given i)))),
+)
+
+clear-room-requires : tie.Need-clear-room-requires
+clear-room-requires c κs =
+    let there = accepted (c .before) in ((there .state-good .shape .blocks-most, omega (arith, eight there)), there .within)
+
+same-length : tie.Need-same-length
+same-length c = search needs
+
+returns-2 : tie.Need-returns-2
+unfolding openStore
+returns-2 c =
+    let chosen = c .before .before .before .before in (
+      outcome-is (chosen .before .before),
+      rw (← told (chosen .before), not-false (chosen .before .is-done .result) (chosen .if1 .left)) (c .before .before .clear-room .ensures),
+    )
+
+pub open-packed-spec : {M : Type 1} → statement M
+open-packed-spec =
+    tie.close
+    (tie.spec
+    places-asked-requires
+    open-outcome-requires
+    is-done-requires
+    returns
+    clear-room-requires
+    same-length
+    returns-2)

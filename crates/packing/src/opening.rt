@@ -1,0 +1,94 @@
+// Open on a store with four places a byte.
+use crate::PACKED_PER_BLOCK;
+use crate::places_asked;
+use slots::Outcome;
+use slots::State;
+ghost use mathlib.Core.Path.{_≡_};
+ghost use mathlib.Core.Bool.{true};
+ghost use Prim.Native.Nat.{ℕ, _+_, _≤_};
+ghost use lib.ListN.{length, replicate};
+ghost use Rattle.slots.specs.State.{roomLength, roomStart};
+ghost use Rattle.slots.specs.Room.{cleared};
+ghost use Rattle.slots.specs.Calls.{openOutcome, openStore, openDownOutcome, openDownStore};
+ghost use Rattle.packing.specs.Store.{unheardByte, placesIn, inForm};
+
+// Opens a slot for a terminal with a block of `size` bits: 2 for every place of the room, then the head.
+pub fn open_packed(
+    state: State,
+    slot: usize,
+    terminal: u16,
+    size: usize,
+    store: &mut [u8],
+) -> Outcome
+    ensures { λ r. ⌜ r ≡ openOutcome state (length (placesIn true (now (store .entry)))) slot terminal size ⌝ }
+    ensures { λ r. ⌜ now (store .exit) ≡ inForm true (openStore state slot size (placesIn true (now (store .entry)))) ⌝ }
+{
+    let room = places_asked(true, store.len());
+    let after = slots::open_outcome(state, room, slot, terminal, size);
+    let answer = after.answer;
+    if !slots::is_done(answer) {
+        return after;
+    }
+    clear_room(state.blocks, slot, store);
+    after
+}
+
+// Opens a slot for a downlink, as `slots::open_down` does.
+pub fn open_down_packed(
+    state: State,
+    slot: usize,
+    terminal: u16,
+    size: usize,
+    release: usize,
+    mimo: usize,
+    processes: usize,
+    soft: usize,
+    layers: usize,
+    store: &mut [u8],
+) -> Outcome
+    ensures { λ r. ⌜ r ≡ openDownOutcome state (length (placesIn true (now (store .entry)))) slot terminal size release mimo processes soft layers ⌝ }
+    ensures { λ r. ⌜ now (store .exit) ≡ inForm true (openDownStore state slot size release mimo processes soft layers (placesIn true (now (store .entry)))) ⌝ }
+{
+    let room = places_asked(true, store.len());
+    let after = slots::open_down_outcome(
+        state,
+        room,
+        slot,
+        terminal,
+        size,
+        release,
+        mimo,
+        processes,
+        soft,
+        layers,
+    );
+    let answer = after.answer;
+    if !slots::is_done(answer) {
+        return after;
+    }
+    clear_room(state.blocks, slot, store);
+    after
+}
+
+// Unheard over a slot's whole room.
+fn clear_room(m: usize, slot: usize, store: &mut [u8])
+    requires { ⌜ (m ≤ 5) × (slot ≤ 8) ⌝ }
+    requires { ⌜ roomStart m slot + roomLength m ≤ length (placesIn true (now store)) ⌝ }
+    ensures { λ r. ⌜ now (store .exit) ≡ inForm true (cleared m slot (placesIn true (now (store .entry)))) ⌝ }
+{
+    let long = m * PACKED_PER_BLOCK;
+    let from = slot * long;
+    let to = from + long;
+    fill(&mut store[from..to]);
+}
+
+// Writes four times unheard into each byte of a room.
+fn fill(room: &mut [u8])
+    ensures { λ r. ⌜ now (room .exit) ≡ replicate {A = ℕ} (length (now (room .entry))) unheardByte ⌝ }
+{
+    let mut i: usize = 0;
+    while i < room.len() {
+        room[i] = 170;
+        i += 1;
+    }
+}

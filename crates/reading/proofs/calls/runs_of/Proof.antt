@@ -1,0 +1,105 @@
+-- `calls::runs_of` meets its contract: the circle is lent from the room, or unpacked first (`Form`).
+-- Assumes nothing.
+use mathlib.Core.Path.{_≡_, _∙_, ap}
+use mathlib.Core.List.{List, _++_}
+use Prim.Native.Nat.{ℕ, _+_, _*_, _≤_}
+use native.Mathlib.Omega.{arith}
+use lib.ListN.{length, drop}
+use Rattle.reading.specs.Circle.{streamsOn}
+use Rattle.reading.proofs.Form.{part-within, part-long, plain-long, plain-circle, packed-circle, stretch-on}
+use borrow.Author.Needs.{needs}
+use Rattle.reading.proofs.calls.runs_of.Statement.{statement}
+use Rattle.reading.proofs.calls.runs_of.Tie as tie
+
+-- the code block's bytes
+within : (c : tie.After-bytes-a-block) → let e = c .before .before .before .before .args in
+    e .i * c .bytes-a-block .result + c .bytes-a-block .result ≤ length (e .store .now)
+within c = part-within (c .before .before .before .before .pre .0) (c .bytes-a-block .ensures)
+
+bytes-a-block-requires : tie.Need-bytes-a-block-requires
+bytes-a-block-requires c κs = search needs
+
+mul-from : tie.Need-mul-from
+mul-from c = omega (arith, within c)
+
+add-to : tie.Need-add-to
+add-to c = omega (arith, within c)
+
+sub-unpack-places : tie.Need-sub-unpack-places
+sub-unpack-places c = search needs
+
+part-unpack-places-start : tie.Need-part-unpack-places-start
+part-unpack-places-start c = search needs
+
+part-unpack-places-end : tie.Need-part-unpack-places-end
+part-unpack-places-end c = within (c .before)
+
+unpack-places-requires : tie.Need-unpack-places-requires
+unpack-places-requires c κs = search needs
+
+three-streams-requires : tie.Need-three-streams-requires
+three-streams-requires c κs =
+    let then = c .before .before .before .before .before .before .before in
+    let e = c .before .before .before .before .before .before .before .before .before .before .before .before in
+    (e .pre .1, e .pre .2, stretch-on (e .pre .3) (omega (arith, c .before .before .before .before .unpack-places .kept .1 .0, e .pre .0 .unpacks (then .if1 .taken))))
+
+sub-three-streams : tie.Need-sub-three-streams
+sub-three-streams c = search needs
+
+part-three-streams-start : tie.Need-part-three-streams-start
+part-three-streams-start c = search needs
+
+part-three-streams-end : tie.Need-part-three-streams-end
+part-three-streams-end c = within (c .before)
+
+three-streams-requires-2 : tie.Need-three-streams-requires-2
+three-streams-requires-2 c κs =
+    let e = c .before .before .before .before .before .before .before in
+    (e .pre .1, e .pre .2, stretch-on (e .pre .3) (omega (arith, part-long (e .pre .0) (c .before .before .before .bytes-a-block .ensures), plain-long (c .before .before .if1 .left))))
+
+same-length : tie.Need-same-length
+same-length c = search needs
+
+same-length-2 : tie.Need-same-length-2
+same-length-2 c = search needs
+
+returns : tie.Need-returns
+returns c =
+    let asked = c .before .before .before in
+    let e = asked .before .before .before .before .before .before .before .before .before .before .before .before in
+    c .before .before .three-streams .ensures
+    ∙ ap (λ (l : List ℕ). streamsOn l (e .args .d) (e .args .f) ++ drop (3 * e .args .d) (e .args .out .now))
+    (packed-circle (e .pre .0) (asked .before .before .before .before .before .before .before .before .bytes-a-block .ensures) (asked .before .before .before .before .before .before .before .if1 .taken) (asked .before .before .before .before .unpack-places .ensures))
+
+same-length-3 : tie.Need-same-length-3
+same-length-3 c = search needs
+
+returns-2 : tie.Need-returns-2
+returns-2 c =
+    let asked = c .before .before .before in
+    let e = asked .before .before .before .before .before .before .before in
+    c .before .before .three-streams2 .ensures
+    ∙ ap (λ (l : List ℕ). streamsOn l (e .args .d) (e .args .f) ++ drop (3 * e .args .d) (e .args .out .now))
+    (plain-circle (e .pre .0) (asked .before .before .before .bytes-a-block .ensures) (asked .before .before .if1 .left))
+
+pub runs-of-spec : {M : Type 1} → statement M
+runs-of-spec =
+    tie.close
+    (tie.spec
+    bytes-a-block-requires
+    mul-from
+    add-to
+    sub-unpack-places
+    part-unpack-places-start
+    part-unpack-places-end
+    unpack-places-requires
+    three-streams-requires
+    sub-three-streams
+    part-three-streams-start
+    part-three-streams-end
+    three-streams-requires-2
+    same-length
+    same-length-2
+    returns
+    same-length-3
+    returns-2)

@@ -1,0 +1,96 @@
+-- `calls::streams_form` meets its contract: the number decides, and number 0 says that the code block's circle lies within the store (`Answering`, `Form`).
+-- Assumes nothing.
+use mathlib.Core.Path.{_≡_}
+use Prim.Native.Nat.{_+_, _*_, _≤_}
+use native.Mathlib.Omega.{arith}
+use lib.ListN.{length}
+use denote.Ref.{now}
+use borrow.Author.Needs.{needs}
+use Rattle.slots.specs.Calls.{streamsNumber}
+use Rattle.packing.specs.Store.{placesIn}
+use Rattle.reading.proofs.Form.{index-fits, circle-mid, stretch-on, streams-asked}
+use Rattle.reading.proofs.Answering.{streams-refused, Streaming, circle-within, size-most, three-needs, streams-told}
+use Rattle.reading.proofs.calls.streams_form.Statement.{statement}
+use Rattle.reading.proofs.calls.streams_form.Tie as tie
+
+-- the number is the places' own
+number : (c : tie.After-streams-number) → let e = c .before .before .before .before .before .args in
+    c .streams-number .result ≡ streamsNumber (e .state) (length (placesIn (e .four) (now (e .store)))) (e .slot) (e .terminal) (e .block) (length (now (e .out)))
+number c = let e = c .before .before .before .before .before .args in streams-asked (e .four) (e .state) (now (e .store)) (e .slot) (e .terminal) (e .block) _ (c .before .places-asked .ensures) (c .streams-number .ensures)
+
+-- the call comes to the room
+asked : (c : tie.After-segments-for) → let e = c .before .before .before .before .before .before .before .before .args in
+    Streaming (e .state) (placesIn (e .four) (now (e .store))) (e .slot) (e .terminal) (e .block) (now (e .out))
+    (c .before .before .before .streams-number .result) (c .before .head-at .result) (c .segments-for .result)
+asked c = record { number = number (c .before .before .before); zero = c .before .before .if1 .left; found = c .before .head-at .ensures; told = c .segments-for .ensures }
+
+places-asked-requires : tie.Need-places-asked-requires
+places-asked-requires c κs = search needs
+
+streams-number-requires : tie.Need-streams-number-requires
+streams-number-requires c κs = search needs
+
+returns : tie.Need-returns
+returns c = streams-refused _ _ _ _ _ _ (number (c .before)) (c .if1 .taken)
+
+head-at-requires : tie.Need-head-at-requires
+head-at-requires c κs = search needs
+
+segments-for-requires : tie.Need-segments-for-requires
+segments-for-requires c κs = search needs
+
+fits : (c : tie.After-segments-for) → let e = c .before .before .before .before .before .before .before .before .args in e .slot * e .state .blocks + e .block ≤ length (e .store .now)
+fits c = index-fits _ _ _ (circle-within (asked c))
+
+mul-i : tie.Need-mul-i
+mul-i c = omega (arith, fits (c .before))
+
+add-i : tie.Need-add-i
+add-i c = omega (arith, fits (c .before))
+
+size-of-requires : tie.Need-size-of-requires
+size-of-requires c κs = search needs
+
+add-d : tie.Need-add-d
+add-d c = omega (arith, size-most (asked (c .before .before)) (c .size-of .ensures))
+
+filler-of-requires : tie.Need-filler-of-requires
+filler-of-requires c κs = search needs
+
+runs-of-requires : tie.Need-runs-of-requires
+runs-of-requires c κs =
+    let found = asked (c .before .before .before .before .before) in
+    let w = three-needs found (c .before .before .before .size-of .ensures) (c .before .before .filler-of .ensures) in
+    (record { enough = circle-within found; unpacks = c .before .before .before .before .before .before .before .before .before .before .before .before .before .pre }, w .0, w .1, stretch-on (w .2) (omega arith))
+
+same-length : tie.Need-same-length
+same-length c = search needs
+
+same-length-2 : tie.Need-same-length-2
+same-length-2 c = search needs
+
+returns-2 : tie.Need-returns-2
+returns-2 c =
+    let given = c .before .before .before .before in
+    let filled = given .before .before .before in
+    let sized = filled .before in
+    streams-told (asked (sized .before .before)) (sized .size-of .ensures) (filled .filler-of .ensures) (rw circle-mid at (given .runs-of .ensures))
+
+pub streams-form-spec : {M : Type 1} → statement M
+streams-form-spec =
+    tie.close
+    (tie.spec
+    places-asked-requires
+    streams-number-requires
+    returns
+    head-at-requires
+    segments-for-requires
+    mul-i
+    add-i
+    size-of-requires
+    add-d
+    filler-of-requires
+    runs-of-requires
+    same-length
+    same-length-2
+    returns-2)

@@ -1,0 +1,114 @@
+-- `room::read_data` meets its contract: the circle is lent from the room, or unpacked first (`Form`).
+-- Assumes nothing.
+use mathlib.Core.Path.{_≡_, _∙_, ap}
+use mathlib.Core.List.{List}
+use Prim.Native.Nat.{ℕ, _+_, _*_, _≤_}
+use native.Mathlib.Omega.{arith}
+use lib.ListN.{length}
+use Rattle.laws.specs.Lists.{tabFrom}
+use Rattle.reading.specs.Circle.{keptOn}
+use Rattle.reading.proofs.Form.{part-within, part-long, plain-long, plain-circle, packed-circle, stretch-on}
+use borrow.Author.Needs.{needs}
+use Rattle.reading.proofs.room.read_data.Statement.{statement}
+use Rattle.reading.proofs.room.read_data.Tie as tie
+
+-- the code block's bytes
+within : (c : tie.After-bytes-a-block) → let e = c .before .before .before .before .args in
+    e .r * c .bytes-a-block .result + c .bytes-a-block .result ≤ length (e .room .now)
+within c = part-within (c .before .before .before .before .pre .0) (c .bytes-a-block .ensures)
+
+bytes-a-block-requires : tie.Need-bytes-a-block-requires
+bytes-a-block-requires c κs = search needs
+
+mul-from : tie.Need-mul-from
+mul-from c = omega (arith, within c)
+
+add-to : tie.Need-add-to
+add-to c = omega (arith, within c)
+
+sub-unpack-places : tie.Need-sub-unpack-places
+sub-unpack-places c = search needs
+
+part-unpack-places-start : tie.Need-part-unpack-places-start
+part-unpack-places-start c = search needs
+
+part-unpack-places-end : tie.Need-part-unpack-places-end
+part-unpack-places-end c = within (c .before)
+
+unpack-places-requires : tie.Need-unpack-places-requires
+unpack-places-requires c κs = search needs
+
+add-read-stream : tie.Need-add-read-stream
+add-read-stream c = search needs
+
+read-stream-requires : tie.Need-read-stream-requires
+read-stream-requires c κs =
+    let then = c .before .before .before .before .before .before .before in
+    let e = c .before .before .before .before .before .before .before .before .before .before .before .before in
+    stretch-on (e .pre .1) (omega (arith, c .before .before .before .before .unpack-places .kept .1 .0, e .pre .0 .unpacks (then .if1 .taken)))
+
+sub-read-stream : tie.Need-sub-read-stream
+sub-read-stream c = search needs
+
+part-read-stream-start : tie.Need-part-read-stream-start
+part-read-stream-start c = search needs
+
+part-read-stream-end : tie.Need-part-read-stream-end
+part-read-stream-end c = within (c .before)
+
+add-read-stream-2 : tie.Need-add-read-stream-2
+add-read-stream-2 c = search needs
+
+read-stream-requires-2 : tie.Need-read-stream-requires-2
+read-stream-requires-2 c κs =
+    let e = c .before .before .before .before .before .before .before in
+    stretch-on (e .pre .1) (omega (arith, part-long (e .pre .0) (c .before .before .before .bytes-a-block .ensures), plain-long (c .before .before .if1 .left)))
+
+same-length : tie.Need-same-length
+same-length c = search needs
+
+same-length-2 : tie.Need-same-length-2
+same-length-2 c = search needs
+
+returns : tie.Need-returns
+returns c =
+    let asked = c .before .before .before in
+    let e = asked .before .before .before .before .before .before .before .before .before .before .before .before in
+    c .before .before .read-stream .ensures
+    ∙ ap (λ (l : List ℕ). tabFrom (e .args .f) (length (e .args .out .now)) (keptOn l (e .args .k + 4) 0))
+    (packed-circle (e .pre .0) (asked .before .before .before .before .before .before .before .before .bytes-a-block .ensures) (asked .before .before .before .before .before .before .before .if1 .taken) (asked .before .before .before .before .unpack-places .ensures))
+
+same-length-3 : tie.Need-same-length-3
+same-length-3 c = search needs
+
+returns-2 : tie.Need-returns-2
+returns-2 c =
+    let asked = c .before .before .before in
+    let e = asked .before .before .before .before .before .before .before in
+    c .before .before .read-stream2 .ensures
+    ∙ ap (λ (l : List ℕ). tabFrom (e .args .f) (length (e .args .out .now)) (keptOn l (e .args .k + 4) 0))
+    (plain-circle (e .pre .0) (asked .before .before .before .bytes-a-block .ensures) (asked .before .before .if1 .left))
+
+pub read-data-spec : {M : Type 1} → statement M
+read-data-spec =
+    tie.close
+    (tie.spec
+    bytes-a-block-requires
+    mul-from
+    add-to
+    sub-unpack-places
+    part-unpack-places-start
+    part-unpack-places-end
+    unpack-places-requires
+    add-read-stream
+    read-stream-requires
+    sub-read-stream
+    part-read-stream-start
+    part-read-stream-end
+    add-read-stream-2
+    read-stream-requires-2
+    same-length
+    same-length-2
+    returns
+    same-length-3
+    returns-2)

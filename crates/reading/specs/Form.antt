@@ -1,0 +1,22 @@
+-- A code block's circle in a room that keeps a place a byte, or four, 02 E7, and what the parts of Read and Streams may take for granted of it.
+-- Assumes nothing.
+use mathlib.Core.Path.{_≡_}
+use mathlib.Core.Bool.{Bool, true}
+use mathlib.Core.List.{List}
+use Prim.Native.Nat.{ℕ, _+_, _*_, _≤_}
+use lib.ListN.{length, take, drop}
+use Rattle.slots.specs.State.{perBlock}
+use Rattle.packing.specs.Store.{placesIn}
+
+-- the circle of code block r of a room, or of code block r of all those of a store
+unfoldable pub circleAt : ℕ → List ℕ → List ℕ
+circleAt r places = take perBlock (drop (r * perBlock) places)
+
+-- where four places stand in a byte, one code block can be unpacked in a buffer of so many bytes
+abbrev pub Unpacks : Bool → ℕ → Type 0
+Unpacks four long = four ≡ true → long ≡ perBlock
+
+-- a room, or a store, that has a code block r, and the buffer
+pub record Circles (four : Bool) (r : ℕ) (room circle : List ℕ) : Type 0 where
+  pub enough : r * perBlock + perBlock ≤ length (placesIn four room)
+  pub unpacks : Unpacks four (length circle)
