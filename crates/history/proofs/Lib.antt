@@ -17,6 +17,7 @@ pub mod ReleaseAnswers
 pub mod Release
 pub mod DataPlaces
 pub mod Opening
+pub mod Restarts
 pub mod June
 pub mod Disputes
 pub mod Parity

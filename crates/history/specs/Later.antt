@@ -1,7 +1,7 @@
 -- The calls after an opening, demand 3: whether one of them ends what it began, the receptions that they had accepted, and a read that gives nothing out.
 -- Assumes nothing.
 use mathlib.Core.Path.{_≡_}
-use mathlib.Core.Bool.{Bool, false, _&&_}
+use mathlib.Core.Bool.{Bool, true, false, _&&_}
 use mathlib.Core.List.{List, [], _∷_, _++_}
 use Prim.Native.Nat.{ℕ}
 use lib.Dec.{eqb}
@@ -12,6 +12,14 @@ use Rattle.slots.specs.Calls.{readOutcome, readOutput, closeNumber}
 use Rattle.history.specs.Links.{openingNumber}
 use Rattle.history.specs.Calls.{Reception, Call, opening, receiving, reading, streaming, closing, History}
 use Rattle.history.specs.Accepted.{lentLength, headsAfter, sinceCall}
+
+-- an Open or a Close
+unfoldable pub opensOrCloses : Call → Bool
+opensOrCloses (opening link slot terminal A) = true
+opensOrCloses (receiving slot terminal r) = false
+opensOrCloses (reading slot terminal size) = false
+opensOrCloses (streaming slot terminal block size) = false
+opensOrCloses (closing slot terminal) = true
 
 -- an accepted opening or closing of the slot
 unfoldable pub restarts : State → ℕ → ℕ → Call → Bool

@@ -14,3 +14,5 @@ pub mod SameKept
 pub mod HeardBits
 pub mod Checks
 pub mod Done
+pub mod Refused
+pub mod Admitted

@@ -1,0 +1,77 @@
+-- Demand 1: every call answers on every input; a refused call gives its number, returns the state as it came and writes no lent byte; and no call is refused where no rule of 01 applies.
+-- That every call answers is that its code is proved to return, with no duty on the caller: no public function has a premise.
+-- Assumes nothing.
+use mathlib.Core.Path.{_≡_, sym}
+use mathlib.Core.List.{List}
+use Prim.Native.Nat.{ℕ, _+_, _≤_}
+use lib.ListN.{length}
+use borrow.Author.Tests.{ne-eqb}
+use Rattle.laws.specs.Bits.{AreBits}
+use Rattle.segmentation.specs.declared.SizesAnswer.the-variants.{Given}
+use Rattle.segmentation.specs.Segmentation.{blocks}
+use Rattle.segmentation.specs.Sizes.{sizesOf, sizesAnswer}
+use Rattle.codeword.specs.Build.{buildNumber, buildOutput}
+use Rattle.codeword.specs.Downlink.{buildDownNumber, buildDownOutput}
+use Rattle.codeword.proofs.Numbers.{accepted-is}
+use Rattle.slots.specs.declared.State.{State}
+use Rattle.slots.specs.State.{newState}
+use Rattle.slots.specs.Answers.{numberOf}
+use Rattle.slots.specs.Calls.{newOutcome, openOutcome, openStore, openDownOutcome, openDownStore, receiveOutcome, receiveStore, readOutcome, readOutput, streamsOutcome, streamsOutput, closeOutcome}
+use Rattle.slots.proofs.Refused as refusing
+use Rattle.demands.specs.Ranges.{Size, Grant}
+use Rattle.demands.proofs.Ranges.{size-good, bits-good, version-good, allocation-good}
+
+-- ---- Build and Sizes
+
+-- A refused Build writes nothing.
+pub build-refused : (a : List ℕ) (Q N v G : ℕ) (out : List ℕ) → (buildNumber a Q N v G (length out) ≡ 0 → ⊥) → buildOutput a Q N v G out ≡ out
+unfolding buildOutput
+build-refused a Q N v G out h = rw (ne-eqb (buildNumber a Q N v G (length out)) 0 h)
+
+pub build-down-refused : (a : List ℕ) (release kMIMO processes Nsoft layers Q N v G : ℕ) (out : List ℕ)
+    → (buildDownNumber a release kMIMO processes Nsoft layers Q N v G (length out) ≡ 0 → ⊥)
+    → buildDownOutput a release kMIMO processes Nsoft layers Q N v G out ≡ out
+unfolding buildDownOutput
+build-down-refused a release kMIMO processes Nsoft layers Q N v G out h = rw (ne-eqb (buildDownNumber a release kMIMO processes Nsoft layers Q N v G (length out)) 0 h)
+
+-- A Build in range, of bits, into an output of at least G bytes, is accepted.
+pub build-accepted : (a : List ℕ) (Q N v G room : ℕ) → Size (length a) → Grant (blocks (length a + 24)) Q N v G → AreBits a → G ≤ room → buildNumber a Q N v G room ≡ 0
+build-accepted a Q N v G room size grant bits fits = sym (accepted-is a Q N v G room (size-good (length a) size) (allocation-good grant) (grant .version) fits (bits-good a bits))
+
+-- A Sizes in range is answered with the six numbers.
+pub sizes-accepted : (A : ℕ) → Size A → sizesAnswer A ≡ Given (sizesOf A)
+unfolding sizesAnswer
+sizes-accepted A size = rw (size-good A size)
+
+-- ---- the slots: where the number given back is not 0, 11, 16 and 12 among them, the state is the one given and no byte is written
+
+-- New, refused, gives a state of S = 0 and M = 0 with all heads closed; it is lent nothing.
+pub new-refused : (S M : ℕ) → (numberOf (newOutcome S M .answer) ≡ 0 → ⊥) → newOutcome S M .state ≡ newState 0 0
+new-refused = refusing.new-refused
+
+pub open-refused : (state : State) (slot terminal A : ℕ) (store : List ℕ) → (numberOf (openOutcome state (length store) slot terminal A .answer) ≡ 0 → ⊥)
+    → (openOutcome state (length store) slot terminal A .state ≡ state) × (openStore state slot A store ≡ store)
+open-refused = refusing.open-refused
+
+pub open-down-refused : (state : State) (slot terminal A release kMIMO processes Nsoft layers : ℕ) (store : List ℕ)
+    → (numberOf (openDownOutcome state (length store) slot terminal A release kMIMO processes Nsoft layers .answer) ≡ 0 → ⊥)
+    → (openDownOutcome state (length store) slot terminal A release kMIMO processes Nsoft layers .state ≡ state)
+    × (openDownStore state slot A release kMIMO processes Nsoft layers store ≡ store)
+open-down-refused = refusing.open-down-refused
+
+pub receive-refused : (state : State) (slot terminal Q N v : ℕ) (bits store : List ℕ) → (numberOf (receiveOutcome state slot terminal Q N v bits store .answer) ≡ 0 → ⊥)
+    → (receiveOutcome state slot terminal Q N v bits store .state ≡ state) × (receiveStore state slot terminal Q N v bits store ≡ store)
+receive-refused = refusing.receive-refused
+
+-- Read and Streams do not write the store.
+pub read-refused : (state : State) (slot terminal : ℕ) (store out : List ℕ) → (numberOf (readOutcome state store slot terminal (length out) .answer) ≡ 0 → ⊥)
+    → (readOutcome state store slot terminal (length out) .state ≡ state) × (readOutput state store slot terminal out ≡ out)
+read-refused = refusing.read-refused
+
+pub streams-refused : (state : State) (slot terminal r : ℕ) (store out : List ℕ) → (numberOf (streamsOutcome state (length store) slot terminal r (length out) .answer) ≡ 0 → ⊥)
+    → (streamsOutcome state (length store) slot terminal r (length out) .state ≡ state) × (streamsOutput state store slot terminal r out ≡ out)
+streams-refused = refusing.streams-refused
+
+-- Close is lent nothing.
+pub close-refused : (state : State) (slot terminal : ℕ) → (numberOf (closeOutcome state slot terminal .answer) ≡ 0 → ⊥) → closeOutcome state slot terminal .state ≡ state
+close-refused = refusing.close-refused

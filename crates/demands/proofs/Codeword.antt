@@ -1,0 +1,86 @@
+-- Demand 2: the codeword is, bit for bit, what TS 36.212 gives; each promise with all its premises. Where a definition of the code puts a wording of the standard otherwise,
+-- the two are equal: bit selection here, and `matrix-read`, `minimum-rows` (5.1.4.1.1), `loop-fills` (5.1.2), `transfer-function` (5.1.3.2.1).
+-- Assumes nothing.
+use mathlib.Core.Path.{_≡_, _∙_, ap, ap₂}
+use mathlib.Core.List.{List, map}
+use Prim.Native.Nat.{ℕ, _+_, _*_, _≤_, _<_}
+use native.Mathlib.Omega.{arith}
+use lib.ListN.{length, take, drop}
+use lib.Seq.{take-all}
+use Rattle.segmentation.specs.Segmentation.{blocks}
+use Rattle.segmentation.specs.CodeBlocks.{withCheck}
+use Rattle.rate_matching.specs.Circle.{circleLength, cutAt, startIn, startOf}
+use Rattle.rate_matching.specs.SoftBuffer.{softShare, wholeShare}
+use Rattle.rate_matching.specs.Walk.{onCircle, loop}
+use Rattle.codeword.specs.Shares.{share, sharesBefore}
+use Rattle.codeword.specs.Codeword.{blockCircle, blockRows, blockCut, codewordIn, codeword}
+use Rattle.codeword.specs.Build.{buildNumber}
+use Rattle.codeword.specs.Downlink.{buildDownNumber}
+use Rattle.codeword.specs.Sending.{Accepted}
+use Rattle.codeword.proofs.Numbers.{accepted}
+use Rattle.codeword.proofs.SoftShares.{accepted-down, share-told}
+use Rattle.slots.specs.Reception.{blockPlaces}
+use Rattle.demands.proofs.Stretch.{high, circle-long, stretch-by-loop, stretch-by-places, uncut}
+
+-- ---- the two builds
+
+-- For every accepted Build and every code block: the bits of the block's stretch of the codeword are those of the loop over its whole circle, N_cb = 96·R.
+pub build-is-the-loop : (a : List ℕ) (Q N v G room : ℕ) → buildNumber a Q N v G room ≡ 0 → (r : ℕ) → r < blocks (length a + 24)
+    → let B : ℕ = length a + 24 in
+    let E : ℕ = share (blocks B) Q N G r in
+    (fuel : ℕ) → E * circleLength (blockRows B r) ≤ fuel
+    → take E (drop (sharesBefore (blocks B) Q N G r) (codeword a Q N v G)) ≡ loop fuel (blockCircle (withCheck a) r) (startOf (blockRows B r) v) 0 E
+unfolding codeword startOf
+build-is-the-loop a Q N v G room number r below fuel turns =
+    let ok = accepted a Q N v G room number .0 in
+    let whole = uncut (length a + 24) (high wholeShare a Q N v G ok r below) r in
+    stretch-by-loop wholeShare a Q N v G ok r below fuel (rw whole turns)
+    ∙ ap₂ (λ (w : List ℕ) (n : ℕ). loop fuel w (startIn n (blockRows (length a + 24) r) v) 0 (share (blocks (length a + 24)) Q N G r))
+    (take-all (blockCut wholeShare (length a + 24) r) (blockCircle (withCheck a) r) (omega (arith, whole, circle-long wholeShare a Q N v G ok r below)))
+    whole
+
+-- For every accepted Build for a downlink likewise, the circle cut at N_cb = min(⌊N_IR / C⌋, K_w).
+pub build-down-is-the-loop : (a : List ℕ) (release kMIMO processes Nsoft layers Q N v G room : ℕ)
+    → buildDownNumber a release kMIMO processes Nsoft layers Q N v G room ≡ 0 → (r : ℕ) → r < blocks (length a + 24)
+    → let B : ℕ = length a + 24 in
+    let soft : ℕ = softShare (blocks B) release kMIMO processes Nsoft layers in
+    let Ncb : ℕ = cutAt soft (blockRows B r) in
+    let E : ℕ = share (blocks B) Q N G r in
+    (fuel : ℕ) → E * Ncb ≤ fuel
+    → take E (drop (sharesBefore (blocks B) Q N G r) (codewordIn soft a Q N v G)) ≡ loop fuel (take Ncb (blockCircle (withCheck a) r)) (startIn Ncb (blockRows B r) v) 0 E
+unfolding blockCut
+build-down-is-the-loop a release kMIMO processes Nsoft layers Q N v G room number r below fuel turns =
+    let soft : ℕ = softShare (blocks (length a + 24)) release kMIMO processes Nsoft layers in
+    let ok : Accepted soft a Q N v G =
+    rw (share-told a release kMIMO processes Nsoft layers Q N v G room number) at (accepted-down a release kMIMO processes Nsoft layers Q N v G room number .0) in
+    stretch-by-loop soft a Q N v G ok r below fuel turns
+
+-- ---- received bits go back to the places that the same rules name
+
+-- Bit k of a code block's stretch of an accepted Build is what the circle holds at place k of those where a Receive with that Q, N, version and G, of a slot that is open for an
+-- uplink, puts the bits of its stretch.
+pub receive-takes-back : (a : List ℕ) (Q N v G room : ℕ) → buildNumber a Q N v G room ≡ 0 → (r : ℕ) → r < blocks (length a + 24)
+    → let B : ℕ = length a + 24 in
+    take (share (blocks B) Q N G r) (drop (sharesBefore (blocks B) Q N G r) (codeword a Q N v G))
+    ≡ map (onCircle (blockCircle (withCheck a) r)) (blockPlaces wholeShare B Q N v G r)
+unfolding codeword
+receive-takes-back a Q N v G room number r below =
+    let ok = accepted a Q N v G room number .0 in
+    let whole = uncut (length a + 24) (high wholeShare a Q N v G ok r below) r in
+    stretch-by-places wholeShare a Q N v G ok r below
+    ∙ ap (λ (w : List ℕ). map (onCircle w) (blockPlaces wholeShare (length a + 24) Q N v G r))
+    (take-all (blockCut wholeShare (length a + 24) r) (blockCircle (withCheck a) r) (omega (arith, whole, circle-long wholeShare a Q N v G ok r below)))
+
+-- The same of a downlink, with the share that Build for it and the head have.
+pub receive-down-takes-back : (a : List ℕ) (release kMIMO processes Nsoft layers Q N v G room : ℕ)
+    → buildDownNumber a release kMIMO processes Nsoft layers Q N v G room ≡ 0 → (r : ℕ) → r < blocks (length a + 24)
+    → let B : ℕ = length a + 24 in
+    let soft : ℕ = softShare (blocks B) release kMIMO processes Nsoft layers in
+    take (share (blocks B) Q N G r) (drop (sharesBefore (blocks B) Q N G r) (codewordIn soft a Q N v G))
+    ≡ map (onCircle (take (cutAt soft (blockRows B r)) (blockCircle (withCheck a) r))) (blockPlaces soft B Q N v G r)
+unfolding blockCut
+receive-down-takes-back a release kMIMO processes Nsoft layers Q N v G room number r below =
+    let soft : ℕ = softShare (blocks (length a + 24)) release kMIMO processes Nsoft layers in
+    let ok : Accepted soft a Q N v G =
+    rw (share-told a release kMIMO processes Nsoft layers Q N v G room number) at (accepted-down a release kMIMO processes Nsoft layers Q N v G room number .0) in
+    stretch-by-places soft a Q N v G ok r below

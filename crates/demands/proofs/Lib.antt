@@ -1,0 +1,12 @@
+pub mod Wordings
+pub mod Matrix
+pub mod Filling
+pub mod Encoder
+pub mod Stretch
+pub mod Codeword
+pub mod Ranges
+pub mod Answers
+pub mod PastRooms
+pub mod Opened
+pub mod Accepted
+pub mod Release

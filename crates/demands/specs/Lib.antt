@@ -1,0 +1,5 @@
+pub mod Matrix
+pub mod Filling
+pub mod Encoder
+pub mod Ranges
+pub mod Lent
