@@ -10,8 +10,8 @@
 use crate::segmentation::Segmentation;
 use crate::slots::{self, Refusal, State, ROOM_OF_BLOCK};
 use crate::soft_buffer::Receiver;
+use crate::older::black_box;
 use crate::{codeword, control, fast, fast_control, fast_report, fast_slots, report, xorshift};
-use std::hint::black_box;
 use std::time::{Duration, Instant};
 
 /// What is timed, as `--only` names it and in the order of the table.
@@ -604,7 +604,8 @@ pub fn report_tables(rounds: u32) -> Result<String, String> {
 fn least_times(name: &str, mut runners: [Runner; 3], rounds: u32) -> Result<[f64; 3], String> {
     let failed = |why: String| format!("{name}: {why}");
     called_alike(&mut runners).map_err(failed)?;
-    let calls = runners.each_mut().map(calls_in_a_batch);
+    let [first, second, third] = &mut runners;
+    let calls = [first, second, third].map(calls_in_a_batch);
     let mut least = [f64::INFINITY; 3];
     for round in 0..rounds as usize {
         for turn in 0..3 {

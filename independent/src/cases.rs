@@ -566,7 +566,10 @@ impl Maker {
                 ];
                 let damaged = self.random.below(2) == 0;
                 let case = self.last();
-                let Asked::ReportPart(asked) = &mut case.asked else { continue };
+                let asked = match &mut case.asked {
+                    Asked::ReportPart(asked) => asked,
+                    _ => continue,
+                };
                 if has(0) {
                     asked.a = size;
                 }

@@ -33,7 +33,7 @@ pub fn allocation_fits(q: usize, n: usize, g: usize, blocks: usize) -> bool {
     [2, 4, 6].contains(&q)
         && (1..=4).contains(&n)
         && g <= G_MAX
-        && g.is_multiple_of(n * q)
+        && g % (n * q) == 0
         && g / (n * q) >= blocks
 }
 

@@ -9,7 +9,8 @@ use crate::rate;
 use crate::report;
 use crate::sizes;
 use crate::protocol::{Answer, Call, Request, GUARD};
-use std::io::{BufReader, BufWriter, ErrorKind, IsTerminal, Write};
+use std::io::{BufReader, BufWriter, ErrorKind, Write};
+use std::os::unix::fs::FileTypeExt;
 use std::process::{Child, ChildStdin, Command, Stdio};
 use std::thread;
 use std::time::{Duration, Instant};
@@ -19,7 +20,8 @@ pub const RANDOM_BUILDS: usize = 20_000;
 
 /// How long a progress line stands before the next: a log gets few of them.
 fn between_progress() -> Duration {
-    Duration::from_millis(if std::io::stderr().is_terminal() { 100 } else { 5_000 })
+    let on_terminal = std::fs::metadata("/dev/stderr").map_or(false, |of| of.file_type().is_char_device());
+    Duration::from_millis(if on_terminal { 100 } else { 5_000 })
 }
 
 
@@ -92,7 +94,7 @@ fn receive(bridge: &mut Child, cases: &[Case], chosen: &[usize], report: &mut Re
             }
         }
     }
-    if std::io::Read::read(&mut output, &mut [0]).is_ok_and(|count| count > 0) {
+    if std::io::Read::read(&mut output, &mut [0]).map_or(false, |count| count > 0) {
         report.fail("the bridge wrote more than its answers");
     }
 }

@@ -10,6 +10,7 @@
 
 use crate::codeword::{self, allocation_fits, A_MAX};
 use crate::codeword::{BAD_A, BAD_ALLOCATION, BAD_BIT, BAD_VERSION, SHORT_OUTPUT};
+use crate::older::{Arrays, Upwards};
 use crate::rate::{rows, COLUMNS, P};
 use crate::segmentation::Z;
 use crate::soft_buffer::{n_cb, Receiver};
@@ -178,7 +179,8 @@ impl Workspace {
     /// streams 1 and 2 by turns.
     fn unit(&mut self, layout: &Layout, unit: usize, at: usize) -> usize {
         let full = COLUMNS * layout.rows;
-        let [y0, y1, y2] = self.y.each_ref().map(|y| y[..full].as_chunks::<COLUMNS>().0);
+        let [y0, y1, y2] = &self.y;
+        let [y0, y1, y2] = [y0, y1, y2].map(|y| y[..full].arrays::<COLUMNS>().0);
         let turn = &mut self.turn[at..];
         let column = P[unit % COLUMNS];
         let first = first_row(layout.dummies + layout.filler, column);
@@ -189,7 +191,7 @@ impl Workspace {
         let first_of_2 = first_row(layout.dummies - 1, column);
         let alone = first - first_of_2;
         column_bits(turn, &y2[first_of_2..first], column);
-        let pairs = turn[alone..].as_chunks_mut::<2>().0;
+        let pairs = turn[alone..].arrays_mut::<2>().0;
         for (pair, (row1, row2)) in pairs.iter_mut().zip(y1[first..].iter().zip(&y2[first..])) {
             *pair = [row1[column], row2[column]];
         }
@@ -201,7 +203,7 @@ impl Workspace {
 
 /// The unit that k_0 of a circle cut at N_cb is the head of.
 fn start_unit(n_cb: usize, rows: usize, version: usize) -> usize {
-    let columns = 2 * n_cb.div_ceil(8 * rows) * version + 2;
+    let columns = 2 * n_cb.div_up(8 * rows) * version + 2;
     if columns < COLUMNS {
         columns
     } else {
@@ -215,7 +217,7 @@ pub(crate) const START: [usize; 4] = [2, 26, 32 + 9, 32 + 21];
 
 /// The first row of a column that lies behind the first `absent` places.
 pub(crate) fn first_row(absent: usize, column: usize) -> usize {
-    absent.saturating_sub(column).div_ceil(COLUMNS)
+    absent.saturating_sub(column).div_up(COLUMNS)
 }
 
 fn column_bits(turn: &mut [u8], rows: &[[u8; COLUMNS]], column: usize) {
@@ -238,7 +240,7 @@ pub(crate) struct Plan {
 
 impl Plan {
     pub(crate) fn of(b: usize) -> Plan {
-        let blocks = if b <= Z { 1 } else { b.div_ceil(Z - PARITY) };
+        let blocks = if b <= Z { 1 } else { b.div_up(Z - PARITY) };
         let b_prime = if blocks == 1 { b } else { b + PARITY * blocks };
         let above = ROWS.partition_point(|row| blocks * row.k < b_prime);
         let long = &ROWS[above];
@@ -285,7 +287,7 @@ impl Layout {
 
     /// How many of the first `places` of a column of streams 1 and 2 are kept, not all of them.
     fn kept_before(&self, column: usize, places: usize) -> usize {
-        let of_1 = places.div_ceil(2).saturating_sub(first_row(self.dummies + self.filler, column));
+        let of_1 = places.div_up(2).saturating_sub(first_row(self.dummies + self.filler, column));
         let of_2 = (places / 2).saturating_sub(first_row(self.dummies - 1, column));
         of_1 + of_2
     }
@@ -321,7 +323,7 @@ const WORD: usize = 64;
 /// 64 bytes of 0 or 1 as one word. The factor moves the lowest bit of byte i to place
 /// 56 + i, and no two of its products meet.
 fn pack(bits: &[u8; WORD]) -> u64 {
-    let eights = bits.as_chunks::<8>().0.iter().rev();
+    let eights = bits.arrays::<8>().0.iter().rev();
     eights.fold(0, |word, eight| {
         word << 8 | u64::from_le_bytes(*eight).wrapping_mul(0x0102_0408_1020_4080) >> 56
     })
@@ -336,7 +338,7 @@ fn pack_some(bits: &[u8]) -> u64 {
 
 /// The word as 64 bytes: in byte i of each eight only bit i is let stand, then made 1.
 fn unpack(word: u64, bits: &mut [u8; WORD]) {
-    for (eight, byte) in bits.as_chunks_mut::<8>().0.iter_mut().zip(word.to_le_bytes()) {
+    for (eight, byte) in bits.arrays_mut::<8>().0.iter_mut().zip(word.to_le_bytes()) {
         let chosen = (u64::from(byte) * 0x0101_0101_0101_0101) & 0x8040_2010_0804_0201;
         let ones = (chosen + 0x7F7F_7F7F_7F7F_7F7F) >> 7 & 0x0101_0101_0101_0101;
         *eight = ones.to_le_bytes();
@@ -396,7 +398,7 @@ pub(crate) fn crc(tables: &CrcTables, bits: &[u8]) -> u64 {
         u64::from(parts.fold(0, |sum, (byte, table)| sum ^ table[usize::from(*byte)]))
     };
     let start = if odd.is_empty() { 0 } else { step(0, pack_some(odd) << (WORD - odd.len())) };
-    words.as_chunks::<WORD>().0.iter().fold(start, |remainder, word| step(remainder, pack(word)))
+    words.arrays::<WORD>().0.iter().fold(start, |remainder, word| step(remainder, pack(word)))
 }
 
 // The turbo code.
@@ -414,7 +416,7 @@ fn interleave(c: &[u8], row: &Row, swapped: &mut [u8]) {
     let mut step: [u32; LANES] =
         std::array::from_fn(|i| modulo_k(8 * row.f1 + (16 * i + 64) * row.f2));
     let growth = modulo_k(128 * row.f2);
-    for eight in swapped.as_chunks_mut::<LANES>().0 {
+    for eight in swapped.arrays_mut::<LANES>().0 {
         for lane in 0..LANES {
             eight[lane] = c[place[lane] as usize];
             place[lane] = sum(place[lane], step[lane]);
@@ -430,8 +432,8 @@ fn interleave(c: &[u8], row: &Row, swapped: &mut [u8]) {
 /// places g_0 has the inverse g_0^(1 + 2 + 4 + 8 + 16), as g_0^32 = 1 + D^64 + D^96.
 fn parity_stream(c: &[u8], z: &mut [u8]) -> u64 {
     let mut before = 0;
-    let (words, odd) = c.as_chunks::<WORD>();
-    let (z_words, z_odd) = z.as_chunks_mut::<WORD>();
+    let (words, odd) = c.arrays::<WORD>();
+    let (z_words, z_odd) = z.arrays_mut::<WORD>();
     for (c, z) in words.iter().zip(z_words) {
         let a = entering(pack(c), before);
         unpack(parity(a, before), z);

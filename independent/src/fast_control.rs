@@ -3,6 +3,7 @@
 //! the columns by places found once a call.
 
 use crate::control::{BAD_BIT, BAD_LENGTH, BAD_PAYLOAD, E_MAX, P, PAYLOAD_MAX, SHORT_OUTPUT};
+use crate::older::{Arrays, Upwards};
 
 const GENERATOR: u16 = 0x1021;
 
@@ -37,7 +38,7 @@ fn check(word: u64) -> u16 {
 fn word(bits: &[u8]) -> Option<u64> {
     let mut padded = [0u8; 64];
     padded[64 - bits.len()..].copy_from_slice(bits);
-    let eights = padded.as_chunks::<8>().0;
+    let eights = padded.arrays::<8>().0;
     if eights.iter().any(|eight| u64::from_le_bytes(*eight) & 0xFEFE_FEFE_FEFE_FEFE != 0) {
         return None;
     }
@@ -76,7 +77,7 @@ fn encode(c: u128, d: usize) -> [u128; 3] {
 
 /// Stream after stream in the order of the columns.
 fn put_turn(streams: &[u128; 3], d: usize, turn: &mut [u8; 240]) {
-    let rows = d.div_ceil(32);
+    let rows = d.div_up(32);
     let dummies = 32 * rows - d;
     let [d0, d1, d2] = streams;
     let mut at = 0;

@@ -3,6 +3,7 @@
 
 use crate::codeword::BAD_BIT;
 use crate::fast::Workspace;
+use crate::older::{Arrays, Upwards};
 use crate::report::{self, M, TIED};
 
 /// The rows of the table as masks: bit n is M_i,n.
@@ -72,7 +73,7 @@ fn plane(counts: &[u16; 32], p: u32) -> u32 {
 /// The nearest message, or 19.
 fn nearest(o: usize, control: &[u8]) -> Result<u32, u8> {
     let (mut ones, mut zeros) = ([0u16; 32], [0u16; 32]);
-    let (turns, rest) = control.as_chunks::<32>();
+    let (turns, rest) = control.arrays::<32>();
     for turn in turns {
         for i in 0..32 {
             ones[i] += u16::from(turn[i]);
@@ -83,7 +84,7 @@ fn nearest(o: usize, control: &[u8]) -> Result<u32, u8> {
         ones[i] += u16::from(*bit);
         zeros[i] += 1 - u16::from(*bit);
     }
-    let count = usize::BITS - control.len().div_ceil(32).leading_zeros();
+    let count = usize::BITS - control.len().div_up(32).leading_zeros();
     let planes: Vec<(u32, u32)> = (0..count).map(|p| (plane(&ones, p), plane(&zeros, p))).collect();
     let distance = |word: u32| {
         let heard = planes.iter().rev();

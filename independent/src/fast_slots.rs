@@ -11,6 +11,7 @@
 use crate::codeword::{allocation_fits, A_MAX};
 use crate::codeword::{BAD_ALLOCATION, BAD_BIT, BAD_VERSION, SHORT_OUTPUT};
 use crate::fast::{crc, first_row, Layout, Plan, CRC24A, CRC24B, PARITY, START};
+use crate::older::Arrays;
 use crate::rate::{COLUMNS, P};
 use crate::slots::{Answer, Refusal, State, BLOCKS_MAX, DISPUTED, ROOM_OF_BLOCK, SLOTS_MAX, UNHEARD};
 use crate::slots::{BAD_SLOT, BAD_STATE, CHECK_WRONG, CLOSED, OTHER_TERMINAL, SHORT_STORE};
@@ -216,7 +217,7 @@ fn gather(layout: &Layout, part: &[u8], out: &mut [u8]) {
         gather_row(&heads[column..], &part[row..], first);
         (row, rest) = (row + 1, later);
     }
-    let (whole, last) = rest.as_chunks_mut::<COLUMNS>();
+    let (whole, last) = rest.arrays_mut::<COLUMNS>();
     for bits in whole {
         gather_row(&heads, &part[row..], bits);
         row += 1;

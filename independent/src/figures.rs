@@ -4,6 +4,7 @@
 //!
 //! Every line begins with the name of its table; the first of a table names the columns.
 
+use crate::older::Upwards;
 use crate::rate;
 use crate::worst;
 
@@ -91,7 +92,7 @@ impl Circle {
         let (mut count, mut last_step) = (0, None);
         for (bits, (stream, place)) in sent.iter().enumerate() {
             let fresh = *stream == 0 && *place < self.k && !std::mem::replace(&mut heard[*place], true);
-            if last_step.is_some_and(|step| step != fresh) {
+            if last_step.map_or(false, |step| step != fresh) {
                 corners.push((bits, count));
             }
             last_step = Some(fresh);
@@ -193,7 +194,7 @@ fn needed(c: &Circle) -> Vec<String> {
 /// The corners, each with the versions that have been sent or begun by then.
 fn together(c: &Circle) -> Vec<String> {
     let row = |(bits, heard): (usize, usize)| {
-        let begun = bits.div_ceil(c.quarter()).clamp(1, ORDER.len());
+        let begun = bits.div_up(c.quarter()).clamp(1, ORDER.len());
         let versions = ORDER[..begun].iter().map(|version| version.to_string()).collect::<Vec<String>>();
         format!("{}\t{bits}\t{heard}", versions.join(" "))
     };

@@ -95,7 +95,7 @@ fn receive(other: &mut Child, chosen: &[Numbered], report: &mut Report) {
             eprintln!("histories: {done} of {}", report.all);
         }
     }
-    if output.read(&mut [0]).is_ok_and(|count| count > 0) {
+    if output.read(&mut [0]).map_or(false, |count| count > 0) {
         report.fail("the program wrote more than its answers");
     }
     report.reached();
@@ -116,7 +116,10 @@ fn hold(
         if at > 0 && lines[at - 1] == RELEASED.as_bytes() {
             tally.promise(answer.as_deref());
         }
-        let Some(expected) = answer else { continue };
+        let expected = match answer {
+            Some(expected) => expected,
+            None => continue,
+        };
         let mut given = Vec::new();
         output.read_until(b'\n', &mut given).map_err(|error| format!("the program's output: {error}"))?;
         if given.is_empty() {
@@ -176,13 +179,16 @@ impl Tally {
     /// A read that must give the block.
     fn promise(&mut self, answer: Option<&str>) {
         self.promised += 1;
-        self.late += usize::from(!answer.is_some_and(|answer| answer.starts_with("ok\t")));
+        self.late += usize::from(!answer.map_or(false, |answer| answer.starts_with("ok\t")));
     }
 
     fn note(&mut self, line: &[u8], answer: Option<&str>) {
-        let Some(answer) = answer else {
-            self.silent += 1;
-            return;
+        let answer = match answer {
+            Some(answer) => answer,
+            None => {
+                self.silent += 1;
+                return;
+            }
         };
         let mut fields = answer.split('\t');
         if fields.next() == Some("ok") {

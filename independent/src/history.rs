@@ -6,6 +6,7 @@
 
 use crate::codeword::{self, segmentation_of, A_MAX, G_MAX};
 use crate::crc;
+use crate::older::Upwards;
 use crate::rate;
 use crate::replay::{is_silent, run, LINE_MAX};
 use crate::segmentation::{self, Segmentation};
@@ -56,7 +57,7 @@ fn history(number: usize, seed: u64) -> History {
         _ => maker.small(),
     }
     // The last line of a comparison lacks its newline, and must show whether it counts.
-    if maker.lines.last().is_some_and(|line| is_silent(line)) {
+    if maker.lines.last().map_or(false, |line| is_silent(line)) {
         maker.sizes();
     }
     maker.lines
@@ -88,7 +89,7 @@ impl Car {
     /// A G that gives each code block a whole turn.
     fn whole(&self, symbol: usize) -> usize {
         let s = self.segmentation();
-        s.blocks * (3 * (s.long + 4)).next_multiple_of(symbol)
+        s.blocks * (3 * (s.long + 4)).up_to_multiple(symbol)
     }
 
     /// A G that gives each code block a quarter of its circle's places at least, 24 * R: the
@@ -600,7 +601,7 @@ impl Maker {
     fn refused_reception(&mut self, slot: usize) {
         let (mut q, mut n) = self.allocation();
         let mut version = self.random.below(4);
-        let mut bits = vec![1; self.some_length(slot, q * n).min(600).next_multiple_of(q * n)];
+        let mut bits = vec![1; self.some_length(slot, q * n).min(600).up_to_multiple(q * n)];
         let faults = 1 + self.random.below(7);
         if faults & 1 > 0 {
             match self.random.below(4) {
@@ -627,8 +628,9 @@ impl Maker {
     /// The last reception again, as it was or contradicted, sometimes within one reception
     /// that comes round to its own places.
     fn again(&mut self, slot: usize) {
-        let Some((q, n, version, mut bits)) = self.car(slot).last.clone() else {
-            return self.transmit(slot);
+        let (q, n, version, mut bits) = match self.car(slot).last.clone() {
+            Some(last) => last,
+            None => return self.transmit(slot),
         };
         let contradiction = self.random.below(3);
         bits.iter_mut().for_each(|bit| match contradiction {

@@ -10,6 +10,7 @@
 //! A bit is one byte, 0 or 1. A place that carries no bit (`<NULL>` in the standard:
 //! filler and dummies) is `None`.
 
+pub mod older; // for the compiler of Debian 12
 pub mod crc; // 5.1.1
 pub mod segmentation; // 5.1.2
 pub mod table; // 5.1.3, table 5.1.3-3

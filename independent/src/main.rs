@@ -4,7 +4,7 @@ use independent::compare::{self, Options};
 use independent::{figures, histories, replay_faults, sizes, stage, stub, xorshift};
 use std::fs::File;
 use std::io::{self, Read, Write};
-use std::os::fd::AsFd;
+use std::os::unix::io::AsFd;
 use std::process::ExitCode;
 
 const HELP: &str = "\
@@ -225,8 +225,9 @@ fn print(output: &[u8]) -> Result<(), String> {
 }
 
 fn stage_text(name: &str, bits: &str, numbers: &[&str]) -> Result<Vec<u8>, String> {
-    let &[q, n, version, g] = numbers else {
-        return Err("stage takes NAME BITS Q N VERSION G".into());
+    let [q, n, version, g] = match *numbers {
+        [q, n, version, g] => [q, n, version, g],
+        _ => return Err("stage takes NAME BITS Q N VERSION G".into()),
     };
     let call = stage::Call {
         block: block(bits)?,

@@ -2,6 +2,7 @@
 //! bits; and the change of form of one room, both ways.
 
 use crate::codeword::SHORT_OUTPUT;
+use crate::older::Arrays;
 use crate::slots::{BAD_STATE, BLOCKS_MAX, ROOM_OF_BLOCK, UNHEARD};
 
 /// Bytes of a packed room for each code block.
@@ -21,7 +22,7 @@ pub fn unpacked(byte: u8) -> [u8; 4] {
 /// From a room of M code blocks to its packed form.
 pub fn pack(m: usize, from: &[u8], to: &mut [u8]) -> Result<(), u8> {
     let (from, to) = lent(m, from, to, ROOM_OF_BLOCK, PACKED_OF_BLOCK)?;
-    for (byte, places) in to.iter_mut().zip(from.as_chunks::<4>().0) {
+    for (byte, places) in to.iter_mut().zip(from.arrays::<4>().0) {
         *byte = packed(*places);
     }
     Ok(())
@@ -30,7 +31,7 @@ pub fn pack(m: usize, from: &[u8], to: &mut [u8]) -> Result<(), u8> {
 /// From a packed room of M code blocks to the room.
 pub fn unpack(m: usize, from: &[u8], to: &mut [u8]) -> Result<(), u8> {
     let (from, to) = lent(m, from, to, PACKED_OF_BLOCK, ROOM_OF_BLOCK)?;
-    for (byte, places) in from.iter().zip(to.as_chunks_mut::<4>().0) {
+    for (byte, places) in from.iter().zip(to.arrays_mut::<4>().0) {
         *places = unpacked(*byte);
     }
     Ok(())

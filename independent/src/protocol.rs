@@ -129,12 +129,11 @@ impl Request {
             return Ok(None);
         }
         from.read_exact(&mut head[1..])?;
-        let numbers = head[8..].as_chunks::<8>().0;
-        let number = |place: usize| u64::from_le_bytes(numbers[place]) as usize;
+        let number = |place: usize| number_at(&head[8 + 8 * place..]);
         let output_length = limited(number(5), OUTPUT_MAX)?;
-        let mut told = [[0; 8]; 5];
+        let mut told = [0; 5 * 8];
         if head[0] == BUILD_DOWN {
-            from.read_exact(told.as_flattened_mut())?;
+            from.read_exact(&mut told)?;
         }
         let mut block = Vec::new();
         if [BUILD, BUILD_TWO, BUILD_DOWN, CONTROL, WHOSE, PACK, UNPACK].contains(&head[0]) {
@@ -146,12 +145,12 @@ impl Request {
         let call = match head[0] {
             BUILD => Call::Build { block, q, n, version, g },
             BUILD_TWO => {
-                let [.., c0, c1, c2, c3] = *head.first_chunk::<8>().expect("a head is longer");
+                let [_, _, _, _, c0, c1, c2, c3, ..] = head;
                 let cut = limited(u32::from_le_bytes([c0, c1, c2, c3]) as usize, block.len())?;
                 Call::BuildTwo { block, cut, q, n, version, g }
             }
             BUILD_DOWN => {
-                let [release, mimo, processes, soft, layers] = told.map(|bytes| u64::from_le_bytes(bytes) as usize);
+                let [release, mimo, processes, soft, layers] = [0, 1, 2, 3, 4].map(|place| number_at(&told[8 * place..]));
                 let receiver = Receiver { release, mimo, processes, soft, layers };
                 Call::BuildDown { block, receiver, q, n, version, g }
             }
@@ -161,8 +160,7 @@ impl Request {
             REPORT_BUILD | REPORT_PART => {
                 let mut further = [0; 16];
                 from.read_exact(&mut further)?;
-                let further = further.as_chunks::<8>().0;
-                let [length, control] = [0, 1].map(|place: usize| u64::from_le_bytes(further[place]) as usize);
+                let [length, control] = [0, 1].map(|place| number_at(&further[8 * place..]));
                 let most = if head[0] == REPORT_BUILD { BLOCK_MAX } else { RUN_MAX };
                 let mut block = vec![0; limited(number(0), most)?];
                 from.read_exact(&mut block)?;
@@ -207,6 +205,11 @@ impl Answer {
         }
         Ok(Answer { number: u32::from_le_bytes([n0, n1, n2, n3]), block_kept: kept == 1, output })
     }
+}
+
+/// The number that eight bytes hold, the lowest first.
+fn number_at(bytes: &[u8]) -> usize {
+    u64::from_le_bytes(bytes[..8].try_into().expect("eight bytes")) as usize
 }
 
 fn limited(length: usize, most: usize) -> io::Result<usize> {

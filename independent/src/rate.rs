@@ -3,6 +3,8 @@
 //! What travels is of any type `T`, `None` being `<NULL>`: with bits it is the rate
 //! matcher, with labels of places the same code tells where each bit comes from.
 
+use crate::older::Upwards;
+
 /// C_subblock^TC, number of columns of the sub-block interleaver's matrix.
 pub const COLUMNS: usize = 32;
 
@@ -14,7 +16,7 @@ pub const P: [usize; COLUMNS] = [
 
 /// R_subblock^TC: the least number of rows that hold D places.
 pub fn rows(d: usize) -> usize {
-    d.div_ceil(COLUMNS)
+    d.div_up(COLUMNS)
 }
 
 /// y of step (3): dummies in front until the matrix is full.
@@ -66,7 +68,7 @@ pub fn start(n_cb: usize, version: usize) -> usize {
 
 /// k_0 on a circle of R rows that is cut at N_cb places.
 pub fn start_in(n_cb: usize, r: usize, version: usize) -> usize {
-    r * (2 * n_cb.div_ceil(8 * r) * version + 2)
+    r * (2 * n_cb.div_up(8 * r) * version + 2)
 }
 
 /// e_0 .. e_{E-1}: round the circle from k_0, NULL places passed over.
@@ -106,7 +108,7 @@ pub fn shares(g: usize, per_symbol: usize, blocks: usize) -> Vec<usize> {
         if r + gamma < blocks {
             per_symbol * (g_prime / blocks)
         } else {
-            per_symbol * g_prime.div_ceil(blocks)
+            per_symbol * g_prime.div_up(blocks)
         }
     };
     (0..blocks).map(share).collect()

@@ -2,6 +2,7 @@
 //! fault planted that the comparison of histories must find.
 
 use crate::crc;
+use crate::older::Upwards;
 use crate::replay::{is_silent, next_line, text, Call, End, Outcome, Replay, LINE_MAX};
 use crate::sizes::{sizes, UNREADABLE};
 use crate::slots::{self, Head, Refusal, State, ROOM_OF_BLOCK, SLOTS_MAX};
@@ -116,7 +117,10 @@ pub fn run(input: impl Read, mut output: impl Write, fault: Option<Fault>) -> io
             None => replay.answer(&line),
             Some(spoiled) => spoiled.answer(&line),
         };
-        let Some(mut answer) = answer else { continue };
+        let mut answer = match answer {
+            Some(answer) => answer,
+            None => continue,
+        };
         if fault == Some(Garbles) && answers >= 1_000 {
             answer = answer.replacen('\t', " ", 1);
         }
@@ -248,7 +252,10 @@ impl Spoiled {
     }
 
     fn after_open(&mut self, call: &Call, store: &[u8], outcome: Outcome) -> Outcome {
-        let &Call::Open { slot, a, .. } = call else { return outcome };
+        let (slot, a) = match *call {
+            Call::Open { slot, a, .. } => (slot, a),
+            _ => return outcome,
+        };
         if self.fault == Reopens && outcome == Err(Refusal::Number(slots::ALREADY_OPEN)) {
             self.sound.state.heads[slot] = Head::default();
             return self.sound.call(call);
@@ -266,7 +273,10 @@ impl Spoiled {
     }
 
     fn after_receive(&mut self, call: &Call, store: &[u8], outcome: Outcome) -> Outcome {
-        let Call::Receive { slot, terminal, version, bits, .. } = call else { return outcome };
+        let (slot, terminal, version, bits) = match call {
+            Call::Receive { slot, terminal, version, bits, .. } => (slot, terminal, version, bits),
+            _ => return outcome,
+        };
         match (self.fault, &outcome) {
             (FirstBitStays, Ok(_)) => {
                 let bytes = self.sound.store.iter_mut().zip(store);
@@ -365,8 +375,11 @@ impl Spoiled {
     /// Leaves the first turn of a longer reception for a slot of one code block.
     fn cut_to_a_turn(&self, slot: usize, symbol: usize, bits: &mut Vec<u8>) {
         let head = self.sound.state.heads.get(slot).filter(|head| head.open);
-        let Some(Ok(s)) = head.map(|head| sizes(head.a)) else { return };
-        let turn = (3 * (s.long + 4) - 2 * s.filler).next_multiple_of(symbol.max(1));
+        let s = match head.map(|head| sizes(head.a)) {
+            Some(Ok(s)) => s,
+            _ => return,
+        };
+        let turn = (3 * (s.long + 4) - 2 * s.filler).up_to_multiple(symbol.max(1));
         if s.blocks == 1 && bits.len() % symbol.max(1) == 0 && bits.iter().all(|bit| *bit < 2) {
             bits.truncate(turn);
         }
@@ -487,8 +500,8 @@ fn without_leading_zeros(words: &[&[u8]]) -> Vec<u8> {
 fn by_longest(a: usize, q: usize, n: usize, outcome: Outcome) -> Outcome {
     outcome?;
     let s = sizes(a)?;
-    let equal = |need: usize| (s.blocks * need.next_multiple_of(q * n)).to_string();
-    Ok(vec![equal(24 * (s.long + 4).div_ceil(32)), equal(3 * (s.long + 4) - 2 * s.filler_in(s.blocks - 1))])
+    let equal = |need: usize| (s.blocks * need.up_to_multiple(q * n)).to_string();
+    Ok(vec![equal(24 * (s.long + 4).div_up(32)), equal(3 * (s.long + 4) - 2 * s.filler_in(s.blocks - 1))])
 }
 
 /// Sizes with 0 for K- where C- is 0.

@@ -74,7 +74,7 @@ pub fn check(a: usize, q: usize, n: usize, o: usize, control: usize, g: impl Fn(
     if !(1..=O_MAX).contains(&o) {
         return Err(BAD_REPORT);
     }
-    if control == 0 || control > CONTROL_MAX || !control.is_multiple_of(q) {
+    if control == 0 || control > CONTROL_MAX || control % q != 0 {
         return Err(BAD_CONTROL);
     }
     if !codeword::allocation_fits(q, n, g(), blocks) {

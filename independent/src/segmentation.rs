@@ -1,6 +1,7 @@
 //! Clause 5.1.2: code block segmentation and code block CRC attachment.
 
 use crate::crc;
+use crate::older::Upwards;
 use crate::table::TABLE;
 
 /// Z, the maximum code block size.
@@ -28,7 +29,7 @@ pub struct Segmentation {
 impl Segmentation {
     /// The segmentation of B bits, B from 1 to what the largest C of this project takes.
     pub fn of(b: usize) -> Segmentation {
-        let (parity, blocks) = if b <= Z { (0, 1) } else { (24, b.div_ceil(Z - 24)) };
+        let (parity, blocks) = if b <= Z { (0, 1) } else { (24, b.div_up(Z - 24)) };
         let b_prime = b + blocks * parity;
         let long = first_size(blocks, b_prime);
         let (short, shorts) = if blocks == 1 {

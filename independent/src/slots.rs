@@ -290,7 +290,7 @@ impl State {
     }
 
     fn is_broken(&self, head: &Head) -> bool {
-        let fits = segmentation_of(head.a).is_ok_and(|segmentation| segmentation.blocks <= self.m);
+        let fits = segmentation_of(head.a).map_or(false, |segmentation| segmentation.blocks <= self.m);
         head.open && !fits
     }
 

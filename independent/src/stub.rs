@@ -174,7 +174,7 @@ impl Stub {
             from.iter_mut().for_each(|value| *value = if *value == 3 { 2 } else { *value });
         }
         if self.has(LowFirst) {
-            from.as_chunks_mut::<4>().0.iter_mut().for_each(|places| places.reverse());
+            from.chunks_exact_mut(4).for_each(|places| places.reverse());
         }
         let last = output.get(m.wrapping_mul(packing::PACKED_OF_BLOCK).wrapping_sub(1)).copied();
         packing::pack(m, &from, output)?;
@@ -312,8 +312,9 @@ impl Stub {
         g: usize,
         output: &mut [u8],
     ) -> Result<(), u8> {
-        let Some(fault) = self.fault else {
-            return self.workspace.build_into(block, q, n, version, g, output);
+        let fault = match self.fault {
+            Some(fault) => fault,
+            None => return self.workspace.build_into(block, q, n, version, g, output),
         };
         let version = if fault == VersionWraps { version & 0xFF } else { version };
         let mut checked = block.to_vec();

@@ -3,6 +3,7 @@
 
 use independent::codeword::{build, code_blocks, streams};
 use independent::crc::{self, CRC24A, CRC24B};
+use independent::older::Upwards;
 use independent::rate;
 use independent::table::TABLE;
 use independent::turbo::{encode, interleaver};
@@ -63,7 +64,7 @@ fn the_start_is_the_whole_circles() {
 #[test]
 fn only_streams_0_and_1_lack_the_filler() {
     let d = &streams(&[1])[0];
-    let absent = d.each_ref().map(|s| s.iter().filter(|place| place.is_none()).count());
+    let absent = [0, 1, 2].map(|stream: usize| d[stream].iter().filter(|place| place.is_none()).count());
     assert_eq!(absent, [15, 15, 0]);
     assert!(d[0][..15].iter().chain(&d[1][..15]).all(Option::is_none));
     let several = streams(&xorshift::block(12_217, 5));
@@ -147,7 +148,7 @@ fn other_blocks(a: &[u8], sizes: &[usize]) -> Vec<Vec<u8>> {
 /// reversal of five bits.
 fn at(d: &[Vec<u8>; 3], filler: usize, p: usize) -> Option<u8> {
     let length = d[0].len();
-    let r = length.div_ceil(32);
+    let r = length.div_up(32);
     let full = 32 * r;
     let (stream, k) = if p < full { (0, p) } else { (1 + (p - full) % 2, (p - full) / 2) };
     let column = ((k / r) as u32).reverse_bits() as usize >> 27;
@@ -193,7 +194,7 @@ fn other_codeword(blocks: &[Vec<u8>], case: &Case, version: usize) -> Vec<u8> {
     let mut codeword = Vec::new();
     for (r, c) in blocks.iter().enumerate() {
         let d = other_streams(c);
-        let rows = (c.len() + 4).div_ceil(32);
+        let rows = (c.len() + 4).div_up(32);
         let filler = if r == 0 { case.filler } else { 0 };
         let round = (rows * (24 * version + 2)..).map(|p| at(&d, filler, p % (96 * rows)));
         codeword.extend(round.flatten().take(case.shares[r]));

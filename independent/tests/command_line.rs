@@ -1,6 +1,7 @@
 //! The commands as a user runs them.
 
-use std::io::{pipe, Read, Write};
+use std::io::{Read, Write};
+use std::os::unix::{io::OwnedFd, net::UnixStream};
 use std::process::{Command, Output, Stdio};
 use std::thread::sleep;
 use std::time::Duration;
@@ -27,11 +28,11 @@ fn sizes_of_no_input() {
     assert_eq!(printed(&["sizes"]), "size\tblocks\tlongs\tlong\tshorts\tshort\tfiller\n");
 }
 
-/// On a pipe, as a short first read is what would tempt a buffering reader past the limit.
+/// On a socket, as a short first read is what would tempt a buffering reader past the limit.
 #[test]
 fn sizes_leaves_what_lies_past_the_limit_unread() {
-    let (mut reader, mut writer) = pipe().unwrap();
-    let child = command(&["sizes"], reader.try_clone().unwrap().into()).spawn().unwrap();
+    let (mut reader, mut writer) = UnixStream::pair().unwrap();
+    let child = command(&["sizes"], OwnedFd::from(reader.try_clone().unwrap()).into()).spawn().unwrap();
     writer.write_all(b"1\n").unwrap();
     sleep(Duration::from_millis(200));
     writer.write_all("1\n".repeat(33_000).as_bytes()).unwrap();

@@ -96,7 +96,10 @@ fn the_fast_program_is_the_literal_one() {
     let mut workspace = Workspace::default();
     let mut compared = 0;
     for case in all(2, 0).iter().filter(|case| matches!(case.asked, Asked::BuildDown(..))).step_by(5) {
-        let Asked::BuildDown(build, receiver) = &case.asked else { unreachable!() };
+        let (build, receiver) = match &case.asked {
+            Asked::BuildDown(build, receiver) => (build, receiver),
+            _ => unreachable!(),
+        };
         let block = build.block.bytes();
         let mut outs = [vec![case.fill; case.output_length], vec![case.fill; case.output_length]];
         let [literal, fast] = &mut outs;

@@ -148,7 +148,10 @@ fn met() -> HashMap<(String, usize), usize> {
     for history in &all(1, HISTORIES)[1..] {
         for line in history {
             let call = Call::parse(line);
-            let Some(answer) = replay.answer(line) else { continue };
+            let answer = match replay.answer(line) {
+                Some(answer) => answer,
+                None => continue,
+            };
             let slot = match call {
                 Some(Call::Open { slot, .. } | Call::Receive { slot, .. } | Call::Read { slot, .. }) => slot,
                 Some(Call::Streams { slot, .. }) => slot,

@@ -363,7 +363,7 @@ struct Trickle<'a>(&'a [u8], usize);
 impl Read for Trickle<'_> {
     fn read(&mut self, room: &mut [u8]) -> std::io::Result<usize> {
         let few = self.1.min(room.len());
-        (&mut self.0).take(few as u64).read(room)
+        Read::take(&mut self.0, few as u64).read(room)
     }
 }
 

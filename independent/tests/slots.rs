@@ -2,6 +2,7 @@
 //! no call made, and seeded histories against a list of what was sent.
 
 use independent::codeword::{build, streams as built_streams, G_MAX};
+use independent::older::Upwards;
 use independent::sizes::sizes;
 use independent::slots::{close, new, open, read, receive, streams};
 use independent::slots::{Answer, Head, Refusal, State, DISPUTED, ROOM_OF_BLOCK};
@@ -435,7 +436,7 @@ fn sent_places(a: usize, symbol: usize, version: usize, g: usize) -> Vec<(usize,
     for r in 0..s.blocks {
         let share = symbol * ((symbols + r) / s.blocks);
         let (d, filler) = (s.size(r) + 4, s.filler_in(r));
-        let rows = d.div_ceil(32);
+        let rows = d.div_up(32);
         let full = 32 * rows;
         let at = |p: usize| {
             let (stream, k) = if p < full { (0, p) } else { (1 + (p - full) % 2, (p - full) / 2) };
@@ -526,10 +527,13 @@ fn step_receive(
 ) {
     let (q, n, version) = (random.choose(&[2, 4, 6]), 1 + random.below(4), random.below(4));
     let owned = ownership(known, terminal);
-    let Some(own) = known.as_mut().filter(|_| owned.is_ok()) else {
-        let (after, answer) = receive(state, store, slot, terminal, q, n, version, &[0; 48]);
-        assert_eq!((after, answer.map(|_| ())), (state, owned));
-        return;
+    let own = match known.as_mut().filter(|_| owned.is_ok()) {
+        Some(own) => own,
+        None => {
+            let (after, answer) = receive(state, store, slot, terminal, q, n, version, &[0; 48]);
+            assert_eq!((after, answer.map(|_| ())), (state, owned));
+            return;
+        }
     };
     let s = sizes(own.block.len()).unwrap();
     let g = q * n * (s.blocks + random.below(4 * own.block.len() / (q * n) + 30));
@@ -547,9 +551,12 @@ fn step_read(state: State, store: &[u8], slot: usize, terminal: u16, known: &Opt
     let mut output = vec![FILL; length + 1];
     let (after, answer) = read(state, store, slot, terminal, &mut output);
     assert_eq!(after, state);
-    let Some(own) = known.as_ref().filter(|_| ownership(known, terminal).is_ok()) else {
-        assert_eq!(answer, ownership(known, terminal));
-        return 0;
+    let own = match known.as_ref().filter(|_| ownership(known, terminal).is_ok()) {
+        Some(own) => own,
+        None => {
+            assert_eq!(answer, ownership(known, terminal));
+            return 0;
+        }
     };
     check_streams(state, store, slot, own);
     match own.lacking() {

@@ -2,6 +2,7 @@
 //! bounds are to what is needed.
 
 use independent::codeword::{segmentation_of, A_MAX};
+use independent::older::Upwards;
 use independent::rate;
 use independent::replay::{run, Replay};
 use independent::worst::{heard, tight, worst, worst_order, Worst, THREE};
@@ -40,7 +41,7 @@ fn the_least_by_a_formula() {
     for a in sizes() {
         let s = segmentation_of(a).unwrap();
         let asked = |unit: usize, need: &dyn Fn(usize) -> usize| {
-            (0..s.blocks).map(|r| s.blocks * need(r).div_ceil(unit) - r).max().unwrap() * unit
+            (0..s.blocks).map(|r| s.blocks * need(r).div_up(unit) - r).max().unwrap() * unit
         };
         for (q, n) in QS.into_iter().flat_map(|q| NS.map(|n| (q, n))) {
             let three = asked(q * n, &|r| 24 * rate::rows(s.size(r) + 4));
