@@ -47,8 +47,8 @@ impl<T> Arrays<T> for [T] {
 /// The value, as one that the compiler knows nothing of.
 #[cfg(feature = "linked")]
 #[inline(always)]
-pub fn black_box<T>(value: T) -> T {
-    let value = std::mem::ManuallyDrop::new(value);
-    // Sound: the original is neither used nor dropped after this.
-    unsafe { std::ptr::read_volatile(&*value) }
+pub fn black_box<T>(mut value: T) -> T {
+    // Sound: no instruction at all, but for all that the compiler knows it may write to the value.
+    unsafe { std::arch::asm!("/* {0} */", in(reg) &mut value, options(nostack, preserves_flags)) }
+    value
 }
