@@ -15,7 +15,7 @@ use Rattle.rate_matching.specs.Places.{longest}
 use Rattle.rate_matching.specs.Walk.{onCircle, turn, turnAfterTurn, sentPlaces, selected}
 use Rattle.rate_matching.specs.Shape.{shape}
 use Rattle.rate_matching.specs.Units.{unitsFrom, unitStart, startUnit, wholeUnits, restPlaces, restBits, Fitting, Holds, ringRoom, PutTo}
-use Rattle.rate_matching.specs.Matcher.{matchable, sentOf, matchedInto}
+use Rattle.rate_matching.specs.Matcher.{matchable, sentOf, matchedInto, TurnIn}
 use Rattle.rate_matching.proofs.Walk.{sent-map}
 use Rattle.rate_matching.proofs.Alike.{Filled, shape-filled, same-cut}
 use Rattle.rate_matching.proofs.Units.{low-start, high-next, starts-rise, unit-last}
@@ -143,7 +143,7 @@ module _ {D D1 D2 F Ncb v : ℕ} (m : Matchable D D1 D2 F Ncb v) where
 
 -- ---- the stages put together
 
-module _ (d0 d1 d2 : List ℕ) (F Ncb v : ℕ) (out : List ℕ) (t : matchable (length d0) (length d1) (length d2) F Ncb v ≡ true) {s : ℕ} (e : s ≡ startUnit Ncb (rows (length d0)) v) where
+module _ (d0 d1 d2 : List ℕ) (F Ncb v E : ℕ) (t : matchable (length d0) (length d1) (length d2) F Ncb v ≡ true) {s : ℕ} (e : s ≡ startUnit Ncb (rows (length d0)) v) where
   m : Matchable (length d0) (length d1) (length d2) F Ncb v
   m = matchable-told t
 
@@ -161,20 +161,25 @@ module _ (d0 d1 d2 : List ℕ) (F Ncb v : ℕ) (out : List ℕ) (t : matchable (
   turned = units-turn (length d0) F d0 d1 d2 refl (m .fits .first) (m .fits .second) (m .fits .some) (m .fits .filler) (m .cut) v (m .version) e
 
   module _ {size₁ size₂ size₃ : ℕ} {ring₀ ring₁ ring₂ ring₃ : List ℕ} {n k r : ℕ}
-      (p : PutTo (length out) (unitsFrom (length d0) d0 d1 d2 F s (whole - s)) size₁ ring₀ 0 ring₁ n)
-      (q : PutTo (length out) (restBits (length d0) d1 d2 F whole rest) size₂ ring₁ n ring₂ k)
-      (o : PutTo (length out) (unitsFrom (length d0) d0 d1 d2 F 0 (s - 0)) size₃ ring₂ k ring₃ r) where
-    pub bits-some : 0 < length out → 0 < r
-    bits-some h = ring-some (putTo-join p q) o h (rw turned (rw length-map some))
+      (p : PutTo E (unitsFrom (length d0) d0 d1 d2 F s (whole - s)) size₁ ring₀ 0 ring₁ n)
+      (q : PutTo E (restBits (length d0) d1 d2 F whole rest) size₂ ring₁ n ring₂ k)
+      (o : PutTo E (unitsFrom (length d0) d0 d1 d2 F 0 (s - 0)) size₃ ring₂ k ring₃ r) where
+    pub turn-in : 0 < E → TurnIn d0 d1 d2 F Ncb v E ring₃ r
+    unfolding sentOf sentPlaces
+    turn-in h = record {
+      some = ring-some (putTo-join p q) o h (rw turned (rw length-map some));
+      inside = o .inside;
+      told = ring-turn (putTo-join p q) o
+          ∙ ap (λ (l : List ℕ). tab E (turnAfterTurn l)) turned
+          ∙ sym (sent-map (onCircle (circle d0 d1 d2)) (turn (take Ncb (shape (length d0) F)) (startIn Ncb (rows (length d0)) v)) E some);
+    }
 
-    pub matched-is : {sent : List ℕ} → sent ≡ tab (length out) (turnAfterTurn (take r ring₃)) → sent ≡ matchedInto d0 d1 d2 F Ncb v out
-    unfolding matchedInto sentOf sentPlaces
-    matched-is h =
-        h
-        ∙ ring-turn (putTo-join p q) o
-        ∙ ap (λ (l : List ℕ). tab (length out) (turnAfterTurn l)) turned
-        ∙ sym (sent-map (onCircle (circle d0 d1 d2)) (turn (take Ncb (shape (length d0) F)) (startIn Ncb (rows (length d0)) v)) (length out) some)
-        ∙ ap (λ (b : Bool). cond b (sentOf d0 d1 d2 F Ncb v (length out)) out) (sym t)
+-- the ring repeated
+pub matched-is : (d0 d1 d2 : List ℕ) (F Ncb v : ℕ) (out : List ℕ) → matchable (length d0) (length d1) (length d2) F Ncb v ≡ true
+    → {ring : List ℕ} {r : ℕ} → TurnIn d0 d1 d2 F Ncb v (length out) ring r
+    → {sent : List ℕ} → sent ≡ tab (length out) (turnAfterTurn (take r ring)) → sent ≡ matchedInto d0 d1 d2 F Ncb v out
+unfolding matchedInto
+matched-is d0 d1 d2 F Ncb v out t p h = h ∙ p .told ∙ ap (λ (b : Bool). cond b (sentOf d0 d1 d2 F Ncb v (length out)) out) (sym t)
 
 -- ---- of streams that hold bits behind their filler it is the standard's walk
 

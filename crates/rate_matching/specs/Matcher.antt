@@ -1,8 +1,9 @@
 -- The rate matcher of one code block, clause 5.1.4.1: what it writes.
 -- Assumes nothing.
+use mathlib.Core.Path.{_≡_}
 use mathlib.Core.Bool.{Bool, cond, _&&_}
 use mathlib.Core.List.{List, map}
-use Prim.Native.Nat.{ℕ, _*_, _%_}
+use Prim.Native.Nat.{ℕ, _*_, _%_, _≤_, _<_}
 use lib.Dec.{leb, ltb, eqb}
 use lib.ListN.{length, take}
 use Rattle.laws.specs.Lists.{tab}
@@ -27,6 +28,12 @@ sentOf d0 d1 d2 F Ncb v E =
 unfoldable pub matchedInto : List ℕ → List ℕ → List ℕ → ℕ → ℕ → ℕ → List ℕ → List ℕ
 matchedInto d0 d1 d2 F Ncb v out =
     cond (matchable (length d0) (length d1) (length d2) F Ncb v) (sentOf d0 d1 d2 F Ncb v (length out)) out
+
+-- the first r entries of a ring, of which there is one at least, give turn after turn the first E that are sent
+pub record TurnIn (d0 d1 d2 : List ℕ) (F Ncb v E : ℕ) (ring : List ℕ) (r : ℕ) : Type 0 where
+  pub some : 0 < r
+  pub inside : r ≤ length ring
+  pub told : tab E (turnAfterTurn (take r ring)) ≡ sentOf d0 d1 d2 F Ncb v E
 
 -- what stands in `out` afterwards: the entries of one turn over and over; an empty turn leaves it as it is
 unfoldable pub repeatedInto : List ℕ → List ℕ → List ℕ

@@ -14,7 +14,7 @@ ghost use Rattle.rate_matching.specs.Circle.{circleLength, Cut};
 ghost use Rattle.rate_matching.specs.Walk.{turnAfterTurn};
 ghost use Rattle.rate_matching.specs.Columns.{column};
 ghost use Rattle.rate_matching.specs.Units.{everyRow, pairRow, columnBits, pairBits, unitBits, unitsFrom, unitStart, startUnit, bitsBefore, restBits, Laid, Fitting, Holds, ringRoom, Put, PutTo};
-ghost use Rattle.rate_matching.specs.Matcher.{matchable, matchedInto, repeatedInto};
+ghost use Rattle.rate_matching.specs.Matcher.{matchable, matchedInto, repeatedInto, TurnIn};
 
 // The room for a turn is filled when it is made, so there are three: for the circle of a short block, with R up to 5, or few bits of any block;
 // for that of a block of a middle size, with R up to 33; for the largest circle, with R = 193.
@@ -272,8 +272,8 @@ pub(crate) fn matchable(
         & (version <= 3)
 }
 
-// Rate matching of one code block with a room for the bits of a turn, or for as many as are sent. The cut shortens one unit and nothing else.
-fn match_in(
+// Puts the bits of a turn into the ring, or as many of them as are sent, and tells where they end. The cut shortens one unit and nothing else.
+fn put_turn(
     d0: &[u8],
     d1: &[u8],
     d2: &[u8],
@@ -281,21 +281,19 @@ fn match_in(
     ncb: usize,
     version: usize,
     ring: &mut [u8],
-    out: &mut [u8],
-)
+    most: usize,
+) -> usize
     requires { ⌜ (matchable (length (now d0)) (length (now d1)) (length (now d2)) filler ncb version ≡ true)
-        × Holds (rows (length (now d0))) (length (now out)) (circleLength (rows (length (now d0)))) (length (now ring)) × (0 < length (now out)) ⌝ }
-    ensures { λ _. ⌜ now (out .exit) ≡ matchedInto (now (d0 .entry)) (now (d1 .entry)) (now (d2 .entry)) filler ncb version (now (out .entry)) ⌝ }
+        × Holds (rows (length (now d0))) most (circleLength (rows (length (now d0)))) (length (now ring)) × (0 < most) ⌝ }
+    ensures { λ r. ⌜ TurnIn (now (d0 .entry)) (now (d1 .entry)) (now (d2 .entry)) filler ncb version most (now (ring .exit)) r ⌝ }
 {
     let rows = (d0.len() + 31) / 32;
     let start = start_unit(ncb, rows, version);
     let pairs = ncb - 32 * rows;
     let whole = 32 + pairs / (2 * rows);
-    let most = out.len();
     let n = put_units(d0, d1, d2, filler, start, whole, ring, 0, most);
     let m = put_rest(d1, d2, filler, whole, pairs % (2 * rows), ring, n, most);
-    let end = put_units(d0, d1, d2, filler, 0, start, ring, m, most);
-    fill(&ring[..end], out);
+    put_units(d0, d1, d2, filler, 0, start, ring, m, most)
 }
 
 // The places that a ring of streams of `d` places needs for `e` bits: those of the circle, or fewer where the bits end before.
@@ -309,7 +307,8 @@ fn ring_room(d: usize, e: usize) -> usize
     if some < all { some } else { all }
 }
 
-// The same with the short room.
+// Rate matching of one code block with the short room. The ring is repeated where it was made: there the compiler knows that `out` lies elsewhere, and
+// copies many bytes at once.
 fn match_short(
     d0: &[u8],
     d1: &[u8],
@@ -323,7 +322,8 @@ fn match_short(
     ensures { λ _. ⌜ now (out .exit) ≡ matchedInto (now (d0 .entry)) (now (d1 .entry)) (now (d2 .entry)) filler ncb version (now (out .entry)) ⌝ }
 {
     let mut ring = [0u8; SHORT_RING];
-    match_in(d0, d1, d2, filler, ncb, version, &mut ring, out);
+    let end = put_turn(d0, d1, d2, filler, ncb, version, &mut ring, out.len());
+    fill(&ring[..end], out);
 }
 
 // The same with the middle room.
@@ -340,7 +340,8 @@ fn match_middle(
     ensures { λ _. ⌜ now (out .exit) ≡ matchedInto (now (d0 .entry)) (now (d1 .entry)) (now (d2 .entry)) filler ncb version (now (out .entry)) ⌝ }
 {
     let mut ring = [0u8; MIDDLE_RING];
-    match_in(d0, d1, d2, filler, ncb, version, &mut ring, out);
+    let end = put_turn(d0, d1, d2, filler, ncb, version, &mut ring, out.len());
+    fill(&ring[..end], out);
 }
 
 // The same with the longest room.
@@ -357,7 +358,8 @@ fn match_long(
     ensures { λ _. ⌜ now (out .exit) ≡ matchedInto (now (d0 .entry)) (now (d1 .entry)) (now (d2 .entry)) filler ncb version (now (out .entry)) ⌝ }
 {
     let mut ring = [0u8; LONG_RING];
-    match_in(d0, d1, d2, filler, ncb, version, &mut ring, out);
+    let end = put_turn(d0, d1, d2, filler, ncb, version, &mut ring, out.len());
+    fill(&ring[..end], out);
 }
 
 // Rate matching of one code block: fills `out` with the bits that redundancy version `version` sends of the streams d(0), d(1) and d(2),
