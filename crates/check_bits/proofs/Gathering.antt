@@ -20,7 +20,7 @@ use Rattle.laws.proofs.Computed.{all-below-at}
 use Rattle.check_bits.specs.Stride.{wordOf, lowest}
 
 -- a byte below what is already there
-below : (j w : ℕ) {a b : ℕ} → a < 2 ^ j → j + 8 ≤ w → b < 2 ^ 8 → bitOr (a * 2 ^ 8 % 2 ^ w) b ≡ a * 2 ^ 8 + b
+pub below : (j w : ℕ) {a b : ℕ} → a < 2 ^ j → j + 8 ≤ w → b < 2 ^ 8 → bitOr (a * 2 ^ 8 % 2 ^ w) b ≡ a * 2 ^ 8 + b
 below j w {a} {b} ha h hb = rw (shl-exact j 8 w ha h) (or-shifted a 8 b hb)
 
 -- each entry is a byte
@@ -73,7 +73,7 @@ one-byte bits from h = rw (drop-cons bits from 0 h) (sym (zero-add (getD bits fr
 abbrev pub above-one : ℕ → ℕ
 above-one w = bitAnd w 0xFEFEFEFEFEFEFEFE
 
-none : (a b : ℕ) → bitOr a b ≡ 0 → (a ≡ 0) × (b ≡ 0)
+pub none : (a b : ℕ) → bitOr a b ≡ 0 → (a ≡ 0) × (b ≡ 0)
 none a b e = omega (arith, or-add-and a b, and-le-l a b, and-le-r a b)
 
 low-bit : {b : ℕ} → b < 2 ^ 8 → bitAnd b 254 ≡ 0 → b < 2
@@ -131,7 +131,7 @@ eight-bits bs l h e =
 -- ---- three times eight bits
 
 module _ (bits : List ℕ) (h : AreBytes bits) where
-  part : (at : ℕ) {w p : ℕ} → at + 8 ≤ length bits → w ≡ wordOf (take 8 (drop at bits)) → above-one w ≡ 0 → p ≡ lowest w
+  pub part : (at : ℕ) {w p : ℕ} → at + 8 ≤ length bits → w ≡ wordOf (take 8 (drop at bits)) → above-one w ≡ 0 → p ≡ lowest w
       → bitsOf 8 p ≡ take 8 (drop at bits)
   part at l e z q =
       ap (λ (n : ℕ). bitsOf 8 n) (q ∙ ap (λ (n : ℕ). lowest n) e)

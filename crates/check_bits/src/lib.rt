@@ -2,7 +2,7 @@
 mod table;
 
 ghost use mathlib.Core.Path.{_≡_};
-ghost use Prim.Native.Nat.{_+_, _%_, _^_, _≤_, _<_};
+ghost use Prim.Native.Nat.{_+_, _*_, _%_, _^_, _≤_, _<_};
 ghost use lib.ListN.{length, getD, take, drop};
 ghost use Rattle.laws.specs.Bits.{bitsOf};
 ghost use Rattle.check_bits.specs.CheckBits.{crcFrom, gCRC24A, gCRC24B, gCRC16};
@@ -74,10 +74,10 @@ fn leading(generator: u32, near: &[u32; 96], from: u32, k: usize, bits: &[u8]) -
     short_stride(generator, near, from, k, x >> (24 - k))
 }
 
-// The register after fewer than 24 bits, from the register `from` on.
+// The register after 8 to 23 bits, from the register `from` on.
 fn few_bits(generator: u32, near: &[u32; 96], from: u32, bits: &[u8]) -> u32
     requires { ⌜ IsTable 24 generator (now near) ⌝ }
-    requires { ⌜ (length (now bits) < 24) × (from < 2 ^ 24) ⌝ }
+    requires { ⌜ (8 ≤ length (now bits)) × (length (now bits) < 24) × (from < 2 ^ 24) ⌝ }
     ensures { λ r. ⌜ r ≡ crcFrom 24 generator from (now (bits .entry)) ⌝ }
 {
     let x = gathered_few(bits);
@@ -176,22 +176,36 @@ fn gathered(bits: &[u8], from: usize) -> u32
     (((packed(a) << 8) | packed(b)) << 8) | packed(c)
 }
 
-// Fewer than 24 bits as a number, the first highest; 2 to the 24 where a byte is neither 0 nor 1.
+// From 8 to 23 bits as a number, the first highest; 2 to the 24 where a byte is neither 0 nor 1. The last eight are looked at as one word too, and of
+// them those that no word before has are put behind the others, so that no bit costs a branch.
 fn gathered_few(bits: &[u8]) -> u32
-    requires { ⌜ length (now bits) < 24 ⌝ }
+    requires { ⌜ (8 ≤ length (now bits)) × (length (now bits) < 24) ⌝ }
     ensures { λ r. ⌜ (r < 2 ^ 24 → FewBits (now (bits .entry)) r) ⌝ }
 {
-    let mut x: u32 = 0;
-    let mut i = 0;
-    while i < bits.len() {
-        let b = bits[i];
-        if b > 1 {
-            return 0x100_0000;
-        }
-        x = x * 2 + (b as u32);
-        i += 1;
+    let above_one: u64 = 0xFEFE_FEFE_FEFE_FEFE;
+    let k = bits.len();
+    let a = eight(bits, 0);
+    let z = eight(bits, k - 8);
+    let found = (a & above_one) | (z & above_one);
+    if found != 0 {
+        return 0x100_0000;
     }
-    x
+    if k < 16 {
+        return with_last(packed(a), packed(z), k - 8);
+    }
+    let b = eight(bits, 8);
+    if (b & above_one) != 0 {
+        return 0x100_0000;
+    }
+    with_last((packed(a) << 8) | packed(b), packed(z), k - 16)
+}
+
+// The bits of `x`, and behind them the last `m` bits of `p`.
+fn with_last(x: u32, p: u32, m: usize) -> u32
+    requires { ⌜ (x < 2 ^ 16) × (m < 8) ⌝ }
+    ensures { λ r. ⌜ r ≡ x * 2 ^ m + p % 2 ^ m ⌝ }
+{
+    (x << m) | (p % (1u32 << m))
 }
 
 // The eight bytes from `from` on as one number, the first lowest. By halves of halves, so that the compiler makes one load of them.

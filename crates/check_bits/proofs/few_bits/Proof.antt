@@ -19,7 +19,7 @@ returns c = search needs
 short-stride-requires : tie.Need-short-stride-requires
 short-stride-requires c κs =
     let start = c .before .before .before in
-    (start .pre .0, (start .pre .1 .0, start .pre .1 .1, c .before .gathered-few .ensures (omega arith) .small))
+    (start .pre .0, (start .pre .1 .1, start .pre .1 .2, c .before .gathered-few .ensures (omega arith) .small))
 
 returns-2 : tie.Need-returns-2
 returns-2 c =

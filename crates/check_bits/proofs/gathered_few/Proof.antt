@@ -1,66 +1,104 @@
--- `check_bits::gathered_few` meets its contract. The loop's invariant: the number has the bits passed (`Few`).
+-- `check_bits::gathered_few` meets its contract: the words' bits, and behind them those of the last word that they lack (`Few`).
 -- Assumes nothing.
-use Prim.Native.Nat.{_-_, _^_, _<_}
+use Prim.Native.Nat.{_^_}
 use native.Mathlib.Nat.{lt-irrefl}
-use native.Mathlib.Omega.{arith}
-use lib.ListN.{length}
-use Rattle.check_bits.proofs.Few.{Gathering, start, fits, next, finish}
+use Rattle.check_bits.proofs.Few.{word-lt, below-16, two-small, from-16}
+use borrow.Author.Needs.{needs}
 use Rattle.check_bits.proofs.gathered_few.Statement.{statement}
 use Rattle.check_bits.proofs.gathered_few.Tie as tie
 
-abbrev Inv-loop : tie.InvT-loop
-Inv-loop bits x₀ i₀ x i = Gathering bits x i
+eight-requires : tie.Need-eight-requires
+eight-requires c κs = search needs
 
-abbrev μ-loop : tie.MeasureT-loop
-μ-loop bits x₀ i₀ x i = length bits - i
+sub-eight : tie.Need-sub-eight
+sub-eight c = search needs
 
-loop-holds : tie.Need-loop-holds Inv-loop μ-loop
-loop-holds c = start
+eight-requires-2 : tie.Need-eight-requires-2
+eight-requires-2 c κs = search needs
 
-shared-slice-read-b : tie.Need-shared-slice-read-b Inv-loop μ-loop
-shared-slice-read-b c = omega arith
+returns : tie.Need-returns
+returns c l = absurd (lt-irrefl (2 ^ 24) l)
 
-returns : tie.Need-returns Inv-loop μ-loop
-returns c = λ l. absurd (lt-irrefl (2 ^ 24) l)
+packed-requires : tie.Need-packed-requires
+packed-requires c κs = search needs
 
--- the bits so far are few
-below : (c : tie.Else1 Inv-loop μ-loop) → c .before .before .before .loop .x < 2 ^ 23
-below c = fits (c .before .before .before .before .pre) (omega arith) (c .before .before .before .loop .inv)
+packed-requires-2 : tie.Need-packed-requires-2
+packed-requires-2 c κs = search needs
 
-mul-x : tie.Need-mul-x Inv-loop μ-loop
-mul-x c = omega (arith, below c)
+sub-with-last : tie.Need-sub-with-last
+sub-with-last c = search needs
 
-cast-x : tie.Need-cast-x Inv-loop μ-loop
-cast-x c = omega (arith, c .if1 .left)
+with-last-requires : tie.Need-with-last-requires
+with-last-requires c κs = search needs
 
-add-x : tie.Need-add-x Inv-loop μ-loop
-add-x c = omega (arith, below c, c .if1 .left)
+returns-2 : tie.Need-returns-2
+returns-2 c l =
+    let tested = c .before .before .before .before in
+    let known = tested .before .before .before in
+    below-16 (known .before .args .bits .now) (λ i. known .shared-slice-known .given i .fits)
+    (tested .before .before .eight .ensures)
+    (tested .before .eight2 .ensures)
+    (tested .if1 .left)
+    (c .before .before .packed .ensures)
+    (c .before .packed2 .ensures)
+    (known .before .pre .0)
+    (c .before .before .before .if2 .taken)
+    (c .with-last .ensures)
 
-add-i : tie.Need-add-i Inv-loop μ-loop
-add-i c = omega arith
+eight-requires-3 : tie.Need-eight-requires-3
+eight-requires-3 c κs = search needs
 
-loop-less : tie.Need-loop-less Inv-loop μ-loop
-loop-less c = omega arith
+returns-3 : tie.Need-returns-3
+returns-3 c l = absurd (lt-irrefl (2 ^ 24) l)
 
-loop-again : tie.Need-loop-again Inv-loop μ-loop
-loop-again c = next (omega arith) (c .if1 .left) (c .before .before .before .loop .inv)
+packed-requires-3 : tie.Need-packed-requires-3
+packed-requires-3 c κs = search needs
 
-returns-2 : tie.Need-returns-2 Inv-loop μ-loop
-returns-2 c = λ l. finish (omega arith) (c .before .loop .inv)
+packed-requires-4 : tie.Need-packed-requires-4
+packed-requires-4 c κs = search needs
+
+packed-requires-5 : tie.Need-packed-requires-5
+packed-requires-5 c κs = search needs
+
+with-last-requires-2 : tie.Need-with-last-requires-2
+with-last-requires-2 c κs =
+    let third = c .before .before .before .before in
+    (two-small (word-lt (third .before .before .before .before .eight .result) (c .before .before .packed3 .ensures)) (word-lt (third .eight3 .result) (c .before .packed4 .ensures)), search needs)
+
+returns-4 : tie.Need-returns-4
+returns-4 c l =
+    let tested = c .before .before .before .before .before .before .before in
+    let known = tested .before .before .before in
+    from-16 (known .before .args .bits .now) (λ i. known .shared-slice-known .given i .fits)
+    (tested .before .before .eight .ensures)
+    (tested .before .eight2 .ensures)
+    (tested .if1 .left)
+    (c .before .before .before .packed3 .ensures)
+    (c .before .packed5 .ensures)
+    (c .before .before .before .before .before .eight3 .ensures)
+    (c .before .before .before .before .if3 .left)
+    (c .before .before .packed4 .ensures)
+    (c .before .before .before .before .before .before .if2 .left)
+    (known .before .pre .1)
+    (c .with-last2 .ensures)
 
 pub gathered-few-spec : {M : Type 1} → statement M
 gathered-few-spec =
     tie.close
     (tie.spec
-    Inv-loop
-    μ-loop
-    loop-holds
-    shared-slice-read-b
+    eight-requires
+    sub-eight
+    eight-requires-2
     returns
-    mul-x
-    cast-x
-    add-x
-    add-i
-    loop-less
-    loop-again
-    returns-2)
+    packed-requires
+    packed-requires-2
+    sub-with-last
+    with-last-requires
+    returns-2
+    eight-requires-3
+    returns-3
+    packed-requires-3
+    packed-requires-4
+    packed-requires-5
+    with-last-requires-2
+    returns-4)
