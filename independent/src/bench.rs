@@ -165,22 +165,26 @@ impl Timed {
         }
     }
 
-    /// Four blocks without filler (one code block of 64, 1,024 and 6,144, and five of
-    /// 6,144), each with the whole mother code once and with the largest G; Build also with
-    /// the least G, and Read after the mother code alone, since it does not see G. For control
+    /// Five blocks without filler (one code block of 40, 64, 1,024 and 6,144, and five of
+    /// 6,144), each with the whole mother code once and, but for the first, with the largest G;
+    /// the two short ones, which are what cars send, also with G up to 300; Build also with the
+    /// least G, and Read after the mother code alone, since it does not see G. For control
     /// messages A is the payload and G is E: one, four and eight elements, and the most.
     pub fn usual_rows(self) -> Vec<Row> {
         if let Timed::Control = self {
             return [1, 40, 64].into_iter().flat_map(|a| [72, 288, 576, control::E_MAX].map(|g| Row { a, g })).collect();
         }
         let least = |a| Row { a, g: N * Q * Segmentation::of(a + 24).blocks };
-        let most = |a| Row { a, g: codeword::G_MAX };
+        let short = |a, g| if a <= 40 { vec![Row { a, g }] } else { vec![] };
+        let most = |a| if a > 16 { vec![Row { a, g: codeword::G_MAX }] } else { vec![] };
         let rows = |a| match self {
-            Timed::Build | Timed::BuildTwo | Timed::BuildDown50 | Timed::BuildDown32 => vec![least(a), mother_code(a), most(a)],
-            Timed::Receive => vec![mother_code(a), most(a)],
+            Timed::Build | Timed::BuildTwo | Timed::BuildDown50 | Timed::BuildDown32 => {
+                [vec![least(a)], short(a, 72), vec![mother_code(a)], short(a, 300), most(a)].concat()
+            }
+            Timed::Receive => [vec![mother_code(a)], short(a, 300), most(a)].concat(),
             Timed::Read | Timed::Control => vec![mother_code(a)],
         };
-        [40, 1_000, 6_120, codeword::A_MAX].into_iter().flat_map(rows).collect()
+        [16, 40, 1_000, 6_120, codeword::A_MAX].into_iter().flat_map(rows).collect()
     }
 
     fn runners(self, row: Row) -> Result<[Runner; 3], String> {

@@ -43,11 +43,13 @@ independent figures
 independent bench [CALL] [--rounds N] [--only NAME --calls N] [A:G]...
     times the proved library, the fast program and the literal one, least of the rounds;
     needs the library linked, as scripts/bench does
-    CALL         build, build-two, build-down-50, build-down-32, receive, read or control; all if
-                 not given
+    CALL         build, build-two, build-down-50, build-down-32, receive, read or control, or
+                 reports alone, which has rows of its own; all if not given
     --rounds N   15 if not given
     --only NAME  only N untimed calls of rattle, fast or literal, for a profiler
     A:G          the rows, instead of the usual ones
+independent bench --help
+    the lines above
 independent help
     this text
 ";
@@ -75,6 +77,7 @@ fn run(words: &[&str]) -> Result<ExitCode, String> {
         ["bridge-stub", rest @ ..] => bridge_stub(rest)?,
         ["replay", rest @ ..] => replay(rest)?,
         ["histories", rest @ ..] => return histories_status(rest),
+        ["bench", "--help"] => print(help_of("bench").as_bytes())?,
         ["bench", rest @ ..] => bench(rest)?,
         _ => print(&answer(words)?)?,
     }
@@ -195,6 +198,14 @@ fn bench(words: &[&str]) -> Result<(), String> {
         print(report_tables(rounds)?.as_bytes())?;
     }
     Ok(())
+}
+
+/// What the help says of one command: its line and those below it that are set in.
+fn help_of(command: &str) -> String {
+    let line = format!("independent {command}");
+    let mut lines = HELP.split_inclusive('\n').skip_while(|text| !text.starts_with(&line));
+    let first = lines.next().unwrap_or_default();
+    lines.take_while(|text| text.starts_with(' ')).fold(first.into(), |all: String, text| all + text)
 }
 
 /// What a command prints, or what is wrong with it.

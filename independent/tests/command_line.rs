@@ -81,6 +81,13 @@ fn help_names_every_command() {
 }
 
 #[test]
+fn help_on_bench_is_a_part_of_it() {
+    let told = printed(&["bench", "--help"]);
+    assert!(printed(&["help"]).contains(&told));
+    assert!(told.starts_with("independent bench [CALL]") && told.ends_with("instead of the usual ones\n"), "{told}");
+}
+
+#[test]
 fn bad_arguments() {
     let bad: [&[&str]; 20] = [
         &[],
