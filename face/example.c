@@ -3,6 +3,9 @@
  * It prints what it got. Only write(2) of the C library is used, so that the program needs no C headers but the compiler's own. */
 #include "zemrukste.h"
 
+#ifdef __cplusplus
+extern "C"
+#endif
 long write(int fd, const void *bytes, size_t count);
 
 static void put(const char *text)

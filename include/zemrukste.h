@@ -13,8 +13,9 @@
  *   asked for. A length beyond what the call needs is fine.
  * - The slices of one call must not overlap. An input is never written.
  * - Every number of a size_t may be given: what is out of range is refused, not undefined.
- * - The calls keep nothing between them: no global state, no heap (their work arrays, some
- *   41 kilobytes for a long code block, are on the caller's stack), no file or
+ * - The calls keep nothing between them: no global state, no heap (their work arrays are on
+ *   the caller's stack: some 41 kilobytes in every build that is accepted, however short its
+ *   block, under 1 in one that is refused, at most 3 in any other call), no file or
  *   clock, no error variable. They always return and may be made from several threads at
  *   once, as long as no two of them share an output; a block may be shared.
  * - The numbers given back are those of the project's rules. 0 is "accepted"; any other
