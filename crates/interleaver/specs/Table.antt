@@ -1,7 +1,9 @@
 -- Table 5.1.3-3 of clause 5.1.3.2.3: the 188 block sizes K with the parameters f1 and f2 of the turbo code internal interleaver.
 -- Assumes nothing.
+use mathlib.Core.Bool.{cond}
 use mathlib.Core.List.{List, [], _∷_}
-use Prim.Native.Nat.{ℕ}
+use Prim.Native.Nat.{ℕ, suc}
+use lib.Dec.{leb}
 use lib.ListN.{getD}
 
 -- the block sizes K, row by row
@@ -77,3 +79,12 @@ f1At row = getD f1Table row 0
 
 unfoldable pub f2At : ℕ → ℕ
 f2At row = getD f2Table row 0
+
+-- the first entry that is at least `least`, counted from 0; how many there are where none is
+unfoldable pub firstAtLeast : ℕ → List ℕ → ℕ
+firstAtLeast least [] = 0
+firstAtLeast least (k ∷ ks) = cond (leb least k) 0 (suc (firstAtLeast least ks))
+
+-- the first row whose K is at least `least`
+unfoldable pub rowFor : ℕ → ℕ
+rowFor least = firstAtLeast least sizeTable

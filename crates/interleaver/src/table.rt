@@ -1,13 +1,208 @@
-// Table 5.1.3-3: the block sizes K, by rule, and the parameters f1 and f2 of the turbo code internal interleaver, row by row.
+// Table 5.1.3-3: the block sizes K and the parameters f1 and f2 of the turbo code internal interleaver, row by row.
 ghost use mathlib.Core.Path.{_≡_};
 ghost use lib.ListN.{getD};
-ghost use Rattle.interleaver.specs.Table.{sizeAt, f1At, f2At};
+ghost use Rattle.interleaver.specs.Table.{sizeAt, f1At, f2At, firstAtLeast, rowFor};
 
 // How many rows the table has.
 pub const ROWS: usize = 188;
 
-// The parameters f1 of the first 32 rows, K to 288, and of the rows after them. A constant is copied whole wherever it is read, and the
+// The block sizes K of the first 32 rows, to 288, and of the rows after them. A constant is copied whole wherever it is read, and the
 // short code blocks are to copy little.
+const K_SHORT: [u16; 32] = [
+    40,
+    48,
+    56,
+    64,
+    72,
+    80,
+    88,
+    96,
+    104,
+    112,
+    120,
+    128,
+    136,
+    144,
+    152,
+    160,
+    168,
+    176,
+    184,
+    192,
+    200,
+    208,
+    216,
+    224,
+    232,
+    240,
+    248,
+    256,
+    264,
+    272,
+    280,
+    288,
+];
+
+const K_LONG: [u16; 156] = [
+    296,
+    304,
+    312,
+    320,
+    328,
+    336,
+    344,
+    352,
+    360,
+    368,
+    376,
+    384,
+    392,
+    400,
+    408,
+    416,
+    424,
+    432,
+    440,
+    448,
+    456,
+    464,
+    472,
+    480,
+    488,
+    496,
+    504,
+    512,
+    528,
+    544,
+    560,
+    576,
+    592,
+    608,
+    624,
+    640,
+    656,
+    672,
+    688,
+    704,
+    720,
+    736,
+    752,
+    768,
+    784,
+    800,
+    816,
+    832,
+    848,
+    864,
+    880,
+    896,
+    912,
+    928,
+    944,
+    960,
+    976,
+    992,
+    1008,
+    1024,
+    1056,
+    1088,
+    1120,
+    1152,
+    1184,
+    1216,
+    1248,
+    1280,
+    1312,
+    1344,
+    1376,
+    1408,
+    1440,
+    1472,
+    1504,
+    1536,
+    1568,
+    1600,
+    1632,
+    1664,
+    1696,
+    1728,
+    1760,
+    1792,
+    1824,
+    1856,
+    1888,
+    1920,
+    1952,
+    1984,
+    2016,
+    2048,
+    2112,
+    2176,
+    2240,
+    2304,
+    2368,
+    2432,
+    2496,
+    2560,
+    2624,
+    2688,
+    2752,
+    2816,
+    2880,
+    2944,
+    3008,
+    3072,
+    3136,
+    3200,
+    3264,
+    3328,
+    3392,
+    3456,
+    3520,
+    3584,
+    3648,
+    3712,
+    3776,
+    3840,
+    3904,
+    3968,
+    4032,
+    4096,
+    4160,
+    4224,
+    4288,
+    4352,
+    4416,
+    4480,
+    4544,
+    4608,
+    4672,
+    4736,
+    4800,
+    4864,
+    4928,
+    4992,
+    5056,
+    5120,
+    5184,
+    5248,
+    5312,
+    5376,
+    5440,
+    5504,
+    5568,
+    5632,
+    5696,
+    5760,
+    5824,
+    5888,
+    5952,
+    6016,
+    6080,
+    6144,
+];
+
+// The parameters f1 in the same way.
 const F1_SHORT: [u16; 32] = [
     3,
     7,
@@ -397,24 +592,42 @@ const F2_LONG: [u16; 156] = [
     480,
 ];
 
-// K of a row; 0 past the table. The sizes rise by 8 up to 512, by 16 up to 1,024, by 32 up to 2,048, and by 64 from there on: a rule
-// costs less than a table, which is copied whole wherever it is read.
+// K of a row; 0 past the table.
 pub fn size_at(row: usize) -> usize
     ensures { λ r. ⌜ r ≡ sizeAt row ⌝ }
 {
-    if row < 60 {
-        return 40 + 8 * row;
+    if row < 32 {
+        let column = K_SHORT;
+        return entry(&column, row);
     }
-    if row < 92 {
-        return 512 + 16 * (row - 59);
+    let column = K_LONG;
+    entry(&column, row - 32)
+}
+
+// The first row whose K is at least `least`; the number of rows where there is none.
+pub fn row_for(least: usize) -> usize
+    ensures { λ r. ⌜ r ≡ rowFor least ⌝ }
+{
+    if least <= 288 {
+        let column = K_SHORT;
+        return first_at_least(&column, least);
     }
-    if row < 124 {
-        return 1024 + 32 * (row - 91);
+    let column = K_LONG;
+    32 + first_at_least(&column, least)
+}
+
+// The first entry of a column that is at least `least`; its length where none is.
+fn first_at_least(column: &[u16], least: usize) -> usize
+    ensures { λ r. ⌜ r ≡ firstAtLeast least (now (column .entry)) ⌝ }
+{
+    let mut row = 0;
+    while row < column.len() {
+        if least <= column[row] as usize {
+            return row;
+        }
+        row += 1;
     }
-    if row < ROWS {
-        return 2048 + 64 * (row - 123);
-    }
-    0
+    row
 }
 
 // f1 of a row; 0 past the table.

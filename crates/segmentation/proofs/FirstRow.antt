@@ -1,16 +1,16 @@
--- The search for K+ in table 5.1.3-3: it finds the first row that serves, that of several code blocks is that of one, and the steps in which K rises give its number.
+-- The search for K+ in table 5.1.3-3: it finds the first row that serves, and that of several code blocks is that of one.
 -- Assumes nothing.
 use mathlib.Core.Path.{_≡_, refl, sym, _∙_, ap, ap₂}
-use mathlib.Core.Bool.{Bool, true, false}
+use mathlib.Core.Bool.{Bool, true, false, cond}
+use mathlib.Core.List.{List, [], _∷_}
 use Prim.Native.Nat.{ℕ, zero, suc, _+_, _-_, _*_, _/_, _≤_, _<_}
-use native.Mathlib.Nat.{div-lt-iff-lt-mul}
+use native.Mathlib.Nat.{zero-add, add-zero, div-lt-iff-lt-mul}
 use native.Mathlib.Decide.{ℕ-discrete, decLe, decLt}
 use native.Mathlib.Omega.{arith}
 use lib.Dec.{leb}
+use lib.ListN.{length, getD}
 use borrow.Author.Tests.{le-leb, lt-leb, leb-true, leb-false}
-use Rattle.interleaver.specs.Table.{sizeAt, rowCount}
-use Rattle.interleaver.proofs.Rows.{rising}
-use Rattle.interleaver.proofs.Sizes.{by-8, by-16, by-32, by-64}
+use Rattle.interleaver.specs.Table.{sizeTable, sizeAt, rowCount, firstAtLeast, rowFor}
 use Rattle.segmentation.specs.Segmentation.{firstRow}
 
 -- ---- the row that is found
@@ -70,47 +70,34 @@ firstRow-alike C need i zero some = refl
 firstRow-alike C need i (suc n) some =
     ap₂ (λ (t : Bool) (row : ℕ). elim t [ true ↦ i | false ↦ row ]) (enough-alike C need (sizeAt i) some) (firstRow-alike C need (suc i) n some)
 
--- the ceiling is at most the largest K
-pub least-most : (C need : ℕ) → 0 < C → need ≤ C * 6144 → (need + (C - 1)) / C ≤ 6144
-least-most C need some h = let below : (need + (C - 1)) / C < 6145 = div-lt-iff-lt-mul some .1 (omega arith) in omega arith
+-- ---- the search in the table is the search in its rows
+
+search-table : (least : ℕ) (ks : List ℕ) (i : ℕ) → ((j : ℕ) → j < length ks → sizeAt (i + j) ≡ getD ks j 0) → firstRow 1 least i (length ks) ≡ i + firstAtLeast least ks
+unfolding firstRow firstAtLeast
+search-table least [] i h = omega arith
+search-table least (k ∷ ks) i h = go (leb least k) refl (search-table least ks (suc i) (λ j l. ap sizeAt (on j) ∙ h (suc j) (omega arith)))
+  where
+    on : (j : ℕ) → suc i + j ≡ i + suc j
+    on j = omega arith
+
+    here : 1 * sizeAt i ≡ k
+    here = omega (arith, h 0 (omega arith), ap sizeAt (add-zero i))
+
+    go : (t : Bool) → leb least k ≡ t → firstRow 1 least (suc i) (length ks) ≡ suc i + firstAtLeast least ks
+        → elim (leb least (1 * sizeAt i)) [ true ↦ i | false ↦ firstRow 1 least (suc i) (length ks) ] ≡ i + cond (leb least k) 0 (suc (firstAtLeast least ks))
+    go true e later = rw (here, e) (omega arith)
+    go false e later = rw (here, e) (omega arith)
+
+all-rows : length sizeTable ≡ rowCount
+unfolding sizeTable
+all-rows = refl
 
 -- the row found for one code block is that for C
-pub found-for : (C need row : ℕ) → 0 < C → row ≡ firstRow 1 ((need + (C - 1)) / C) 0 rowCount → row ≡ firstRow C need 0 rowCount
-found-for C need row some e = e ∙ sym (firstRow-alike C need 0 rowCount some)
-
--- a row that serves, after one that does not, is the first
-pub first-is : (least row : ℕ) → row < rowCount → least ≤ sizeAt row → (0 < row → sizeAt (row - 1) < least) → row ≡ firstRow 1 least 0 rowCount
-first-is least row h serves fails = elim (decLt (firstRow 1 least 0 rowCount) row) [
-  | yes l ↦ absurd (earlier (firstRow 1 least 0 rowCount) l (omega (arith, found .1)))
-  | no l ↦ omega (arith, found .0)
-]
-  where
-    found : (firstRow 1 least 0 rowCount ≤ row) × (least ≤ 1 * sizeAt (firstRow 1 least 0 rowCount))
-    found = first-serves 1 least 0 rowCount row (omega arith) (omega arith) (omega arith)
-
-    earlier : (k : ℕ) → k < row → least ≤ sizeAt k → ⊥
-    earlier k l enough = elim (decLt k (row - 1)) [
-      | yes m ↦ omega (arith, rising k (row - 1) m (omega arith), fails (omega arith))
-      | no m ↦ let last : k ≡ row - 1 = omega arith in omega (arith, fails (omega arith), ap sizeAt last)
-    ]
-
--- ---- the row by the steps in which K rises
-
-module _ (least row : ℕ) where
-  pub up-to-40 : least ≤ 40 → row ≡ 0 → row ≡ firstRow 1 least 0 rowCount
-  up-to-40 h e = first-is least row (omega arith) (omega (arith, by-8 row (omega arith))) (λ p. absurd (omega arith))
-
-  pub up-to-512 : 40 < least → least ≤ 512 → row ≡ (least - 33) / 8 → row ≡ firstRow 1 least 0 rowCount
-  up-to-512 l h e = first-is least row (omega arith) (omega (arith, by-8 row (omega arith))) (λ p. omega (arith, by-8 (row - 1) (omega arith)))
-
-  pub up-to-1024 : 512 < least → least ≤ 1024 → row ≡ 59 + (least - 497) / 16 → row ≡ firstRow 1 least 0 rowCount
-  up-to-1024 l h e =
-      first-is least row (omega arith) (omega (arith, by-16 row (omega arith) (omega arith))) (λ p. omega (arith, by-16 (row - 1) (omega arith) (omega arith)))
-
-  pub up-to-2048 : 1024 < least → least ≤ 2048 → row ≡ 91 + (least - 993) / 32 → row ≡ firstRow 1 least 0 rowCount
-  up-to-2048 l h e =
-      first-is least row (omega arith) (omega (arith, by-32 row (omega arith) (omega arith))) (λ p. omega (arith, by-32 (row - 1) (omega arith) (omega arith)))
-
-  pub up-to-6144 : 2048 < least → least ≤ 6144 → row ≡ 123 + (least - 1985) / 64 → row ≡ firstRow 1 least 0 rowCount
-  up-to-6144 l h e =
-      first-is least row (omega arith) (omega (arith, by-64 row (omega arith) (omega arith))) (λ p. omega (arith, by-64 (row - 1) (omega arith) (omega arith)))
+pub found-for : (C need row : ℕ) → 0 < C → row ≡ rowFor ((need + (C - 1)) / C) → row ≡ firstRow C need 0 rowCount
+unfolding rowFor sizeAt
+found-for C need row some e =
+    e
+    ∙ sym (zero-add (firstAtLeast ((need + (C - 1)) / C) sizeTable))
+    ∙ sym (search-table ((need + (C - 1)) / C) sizeTable 0 (λ j l. ap sizeAt (zero-add j)))
+    ∙ ap (firstRow 1 ((need + (C - 1)) / C) 0) all-rows
+    ∙ sym (firstRow-alike C need 0 rowCount some)

@@ -145,25 +145,6 @@ fn first_row(blocks: usize, need: usize) -> usize
     requires { ⌜ (0 < blocks) × (blocks ≤ 5) × (need ≤ blocks * 6144) ⌝ }
     ensures { λ r. ⌜ r ≡ firstRow blocks need 0 rowCount ⌝ }
 {
-    row_from((need + (blocks - 1)) / blocks)
-}
-
-// The first row with K ≥ least, by the steps in which K rises.
-fn row_from(least: usize) -> usize
-    requires { ⌜ least ≤ 6144 ⌝ }
-    ensures { λ r. ⌜ r ≡ firstRow 1 least 0 rowCount ⌝ }
-{
-    if least <= 40 {
-        return 0;
-    }
-    if least <= 512 {
-        return (least - 33) / 8;
-    }
-    if least <= 1024 {
-        return 59 + (least - 497) / 16;
-    }
-    if least <= 2048 {
-        return 91 + (least - 993) / 32;
-    }
-    123 + (least - 1985) / 64
+    // blocks·K ≥ need says the same as K ≥ the ceiling of need / blocks
+    interleaver::table::row_for((need + (blocks - 1)) / blocks)
 }

@@ -1,77 +1,45 @@
--- `table::size_at` meets its contract: each return by the rule of its rows.
+-- `table::size_at` meets its contract: the constants are the first 32 entries of the definition's column, and those after them.
 -- Assumes nothing.
-use mathlib.Core.Path.{sym}
-use native.Mathlib.Omega.{arith}
-use Rattle.interleaver.proofs.Sizes.{by-8, by-16, by-32, by-64, past-table}
 use borrow.Author.Needs.{needs}
+use mathlib.Core.Path.{_≡_, _∙_, ap}
+use Prim.Native.Nat.{ℕ, _+_, _-_}
+use native.Mathlib.Omega.{arith}
+use lib.ListN.{getD}
+use lib.Seq.{getD-take, getD-drop}
+use Rattle.interleaver.specs.Table.{sizeTable, sizeAt}
 use Rattle.interleaver.proofs.table.size_at.Statement.{statement}
 use Rattle.interleaver.proofs.table.size_at.Tie as tie
 
-mul-result : tie.Need-mul-result
-mul-result c = search needs
+slice-aggregate-entry : tie.Need-slice-aggregate-entry
+slice-aggregate-entry c = search needs
 
-add-result : tie.Need-add-result
-add-result c = search needs
+entry-requires : tie.Need-entry-requires
+entry-requires c κs = search needs
 
 returns : tie.Need-returns
-returns c = sym (by-8 _ (c .if1 .taken))
+unfolding sizeAt sizeTable
+returns c = c .entry .ensures ∙ getD-take 32 sizeTable (c .before .before .before .args .row) 0 (c .before .before .if1 .taken)
 
-sub-result : tie.Need-sub-result
-sub-result c = search needs
+slice-aggregate-entry-2 : tie.Need-slice-aggregate-entry-2
+slice-aggregate-entry-2 c = search needs
 
-mul-result-2 : tie.Need-mul-result-2
-mul-result-2 c = search needs
-
-add-result-2 : tie.Need-add-result-2
-add-result-2 c = search needs
+entry-requires-2 : tie.Need-entry-requires-2
+entry-requires-2 c κs = search needs
 
 returns-2 : tie.Need-returns-2
-returns-2 c = sym (by-16 _ (omega arith) (c .if2 .taken))
-
-sub-result-2 : tie.Need-sub-result-2
-sub-result-2 c = search needs
-
-mul-result-3 : tie.Need-mul-result-3
-mul-result-3 c = search needs
-
-add-result-3 : tie.Need-add-result-3
-add-result-3 c = search needs
-
-returns-3 : tie.Need-returns-3
-returns-3 c = sym (by-32 _ (omega arith) (c .if3 .taken))
-
-sub-result-3 : tie.Need-sub-result-3
-sub-result-3 c = search needs
-
-mul-result-4 : tie.Need-mul-result-4
-mul-result-4 c = search needs
-
-add-result-4 : tie.Need-add-result-4
-add-result-4 c = search needs
-
-returns-4 : tie.Need-returns-4
-returns-4 c = sym (by-64 _ (omega arith) (c .if4 .taken))
-
-returns-5 : tie.Need-returns-5
-returns-5 c = sym (past-table _ (c .if4 .left))
+unfolding sizeAt sizeTable
+returns-2 c =
+    let row = c .before .before .before .args .row in
+    let on : 32 + (row - 32) ≡ row = omega (arith, c .before .before .if1 .left) in
+    c .entry2 .ensures ∙ getD-drop 32 sizeTable (row - 32) 0 ∙ ap (λ (i : ℕ). getD sizeTable i 0) on
 
 pub size-at-spec : {M : Type 1} → statement M
 size-at-spec =
     tie.close
     (tie.spec
-    mul-result
-    add-result
+    slice-aggregate-entry
+    entry-requires
     returns
-    sub-result
-    mul-result-2
-    add-result-2
-    returns-2
-    sub-result-2
-    mul-result-3
-    add-result-3
-    returns-3
-    sub-result-3
-    mul-result-4
-    add-result-4
-    returns-4
-    returns-5)
+    slice-aggregate-entry-2
+    entry-requires-2
+    returns-2)
