@@ -13,7 +13,7 @@ use lib.Pow.{pow-add, pow-pos, shl-exact}
 use lib.Seq.{take-add, take-all, drop-drop, drop-at}
 use Rattle.laws.specs.Bits.{bitsOf}
 use Rattle.laws.proofs.Bits.{length-bitsOf, bitsOf-split, bitsOf-mod, bitsOf-join}
-use Rattle.check_bits.specs.Stride.{FewBits, wordOf, lowest}
+use Rattle.check_bits.specs.inner.Stride.{FewBits, wordOf, lowest}
 use Rattle.check_bits.proofs.Gathering.{AreBytes, above-one, part, none, below}
 
 -- x has the bits before i

@@ -13,11 +13,11 @@ use lib.ListN.{length, getD, take, drop, replicate, length-drop}
 use lib.Pow.{pow-add, shl-exact, high}
 use lib.Seq.{drop-cons, drop-drop, take-add, length-take-le}
 use Rattle.laws.specs.Bits.{bitsOf, EachBelow, AreBits}
-use Rattle.laws.specs.Computed.{all-below}
+use Rattle.laws.specs.inner.Computed.{all-below}
 use Rattle.laws.proofs.AreBits.{no-bits, with-bit, take-below, drop-below}
 use Rattle.laws.proofs.Bits.{bitsOf-low, bitsOf-join}
 use Rattle.laws.proofs.Computed.{all-below-at}
-use Rattle.check_bits.specs.Stride.{wordOf, lowest}
+use Rattle.check_bits.specs.inner.Stride.{wordOf, lowest}
 
 -- a byte below what is already there
 pub below : (j w : ℕ) {a b : ℕ} → a < 2 ^ j → j + 8 ≤ w → b < 2 ^ 8 → bitOr (a * 2 ^ 8 % 2 ^ w) b ≡ a * 2 ^ 8 + b

@@ -14,7 +14,7 @@ use Rattle.laws.specs.Bits.{_⊕_, bitsOf}
 use Rattle.laws.proofs.AreBits.{zero-bits}
 use Rattle.laws.proofs.Bits.{xor-assoc, bitsOf-bits, bitsOf-split, length-bitsOf}
 use Rattle.check_bits.specs.CheckBits.{crcStep, crcFrom}
-use Rattle.check_bits.specs.Stride.{after, IsTable, entries}
+use Rattle.check_bits.specs.inner.Stride.{after, IsTable, entries}
 use Rattle.check_bits.proofs.Linear.{superposed, beforehand}
 use Rattle.check_bits.proofs.Register.{crcStep-is, crcFrom-lt, crcFrom-append}
 use Rattle.check_bits.proofs.Running.{Running}

@@ -12,7 +12,7 @@ use lib.Bits.{bitAnd, bitOr, bitXor, and-le-l, and-le-r, or-add-and, and-mask, x
 use Rattle.laws.specs.Bits.{bitsOf}
 use Rattle.laws.proofs.Writing.{drop-next}
 use Rattle.check_bits.specs.CheckBits.{crcStep, crcFrom}
-use Rattle.check_bits.specs.Stride.{IsTable, entries}
+use Rattle.check_bits.specs.inner.Stride.{IsTable, entries}
 use Rattle.check_bits.proofs.Register.{crcStep-lt, crcFrom-lt, crcFrom-append}
 use Rattle.check_bits.proofs.Stride.{stride, long-stride}
 

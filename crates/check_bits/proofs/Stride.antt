@@ -12,12 +12,12 @@ use lib.Dec.{T, eqb, eqb→eq, lit<}
 use lib.ListN.{length, getD, replicate, length-replicate, replicate-append-replicate}
 use lib.Pow.{pow-pos, pow-mono, shl-lt, mod-pow-add}
 use Rattle.laws.specs.Bits.{_⊕_, bitsOf}
-use Rattle.laws.specs.Computed.{all-below}
+use Rattle.laws.specs.inner.Computed.{all-below}
 use Rattle.laws.proofs.AreBits.{zero-bits}
 use Rattle.laws.proofs.Bits.{length-bitsOf, bitsOf-bits}
 use Rattle.laws.proofs.Computed.{all-below-at}
 use Rattle.check_bits.specs.CheckBits.{crcFrom}
-use Rattle.check_bits.specs.Stride.{after, IsTable, entries}
+use Rattle.check_bits.specs.inner.Stride.{after, IsTable, entries}
 use Rattle.check_bits.proofs.Register.{crcFrom-lt, crcFrom-append}
 use Rattle.check_bits.proofs.Linear.{superposed, beforehand}
 

@@ -1,4 +1,4 @@
 pub mod Division
 pub mod CheckBits
-pub mod Stride
 pub mod Put
+pub mod inner

@@ -6,7 +6,7 @@ ghost use Prim.Native.Nat.{_+_, _*_, _%_, _^_, _≤_, _<_};
 ghost use lib.ListN.{length, getD, take, drop};
 ghost use Rattle.laws.specs.Bits.{bitsOf};
 ghost use Rattle.check_bits.specs.CheckBits.{crcFrom, gCRC24A, gCRC24B, gCRC16};
-ghost use Rattle.check_bits.specs.Stride.{IsTable, FewBits, entries, wordOf, lowest};
+ghost use Rattle.check_bits.specs.inner.Stride.{IsTable, FewBits, entries, wordOf, lowest};
 ghost use Rattle.check_bits.specs.Put.{putBits, putCheckBits, putCheckBits16};
 
 // The transport check goes on with `bits` from an earlier remainder, which is 0 before the first bit. The bits by which the length is over a

@@ -1,7 +1,7 @@
 // What becomes of a register of 24 bits while 24 or 48 zeros go in, for each generator of clause 5.1.1: six rows of 16 entries, one row for each
 // four bits of the register, the lowest first.
 ghost use Rattle.check_bits.specs.CheckBits.{gCRC24A, gCRC24B};
-ghost use Rattle.check_bits.specs.Stride.{IsTable};
+ghost use Rattle.check_bits.specs.inner.Stride.{IsTable};
 
 const TABLE_A: [u32; 96] = [
     0x000000,

@@ -12,7 +12,7 @@ use Rattle.refusals.proofs.Refusals.{cleared}
 use Rattle.segmentation.specs.Segmentation.{blocks}
 use Rattle.segmentation.specs.Sizes.{badSize}
 use Rattle.rate_matching.specs.SoftBuffer.{wholeShare}
-use Rattle.codeword.specs.Sending.{Accepted}
+use Rattle.codeword.specs.inner.Sending.{Accepted}
 use Rattle.codeword.proofs.Segmented.{whole-fits}
 use Rattle.codeword.specs.Codeword.{codewordIn, codeword}
 use Rattle.codeword.specs.Build.{badAllocation, badVersion, badBits, buildRules, buildNumber, buildOutput}

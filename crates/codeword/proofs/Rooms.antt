@@ -5,7 +5,7 @@ use mathlib.Core.List.{List}
 use Prim.Native.Nat.{ℕ, _+_, _≤_}
 use native.Mathlib.Omega.{arith}
 use lib.ListN.{length, replicate, length-replicate}
-use Rattle.codeword.specs.Sending.{Spacious}
+use Rattle.codeword.specs.inner.Sending.{Spacious}
 
 -- fresh rooms for a K of at most N
 pub fresh-rooms : {K : ℕ} (N : ℕ) → K ≤ N

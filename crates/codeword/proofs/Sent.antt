@@ -32,7 +32,7 @@ use Rattle.rate_matching.proofs.Alike.{Filled}
 use Rattle.rate_matching.proofs.Units.{rows-some}
 use Rattle.rate_matching.proofs.MatcherBlock.{Matchable, matched-selected}
 use Rattle.codeword.specs.Codeword.{blockCircle, blockRows, blockCut, sentBits}
-use Rattle.codeword.specs.Sending.{Sending}
+use Rattle.codeword.specs.inner.Sending.{Sending}
 use Rattle.codeword.proofs.Accepted.{given-bits}
 use Rattle.codeword.proofs.SoftShares.{size-under}
 use Rattle.codeword.proofs.Data.{block-filled}

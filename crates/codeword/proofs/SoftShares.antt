@@ -21,7 +21,7 @@ use Rattle.rate_matching.specs.SoftBuffer.{kC, divisorIn, softShare}
 use Rattle.codeword.specs.Codeword.{blockRows, blockCut, codewordIn}
 use Rattle.codeword.specs.Build.{badVersion, buildRules, buildNumber}
 use Rattle.codeword.specs.Downlink.{badReceiver, tooShort, badBuffer, shareFor, buildDownRules, buildDownNumber, buildDownOutput}
-use Rattle.codeword.specs.Sending.{Accepted, numberWith}
+use Rattle.codeword.specs.inner.Sending.{Accepted, numberWith}
 use Rattle.codeword.proofs.Accepted.{or-false}
 use Rattle.codeword.proofs.Segmented.{sized-in}
 

@@ -20,7 +20,7 @@ use Rattle.segmentation.proofs.Segmentation.{in-range, blocks-least, blocks-mos
 use Rattle.codeword.specs.Shares.{share, sharesBefore}
 use Rattle.codeword.specs.Codeword.{sentBits, blockBits, bitsFrom, codewordIn}
 use Rattle.codeword.specs.Build.{shareOf}
-use Rattle.codeword.specs.Sending.{Accepted, Sending}
+use Rattle.codeword.specs.inner.Sending.{Accepted, Sending}
 use Rattle.codeword.proofs.Accepted.{Allocated, allocated, share-told}
 use Rattle.codeword.proofs.Shares.{shares-all, stretch-within}
 use Rattle.codeword.proofs.Taken.{length-withCheck}

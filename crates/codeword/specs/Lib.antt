@@ -2,4 +2,4 @@ pub mod Shares
 pub mod Codeword
 pub mod Build
 pub mod Downlink
-pub mod Sending
+pub mod inner

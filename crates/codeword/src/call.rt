@@ -13,7 +13,7 @@ ghost use Rattle.segmentation.specs.Sizes.{segmentsOf, segmentsFor};
 ghost use Rattle.codeword.specs.Codeword.{sentBits, codewordIn};
 ghost use Rattle.codeword.specs.Downlink.{buildDownNumber, buildDownOutput};
 ghost use Rattle.codeword.specs.Build.{buildNumber, buildOutput};
-ghost use Rattle.codeword.specs.Sending.{Sending, Spacious, Roomy, Accepted, numberWith};
+ghost use Rattle.codeword.specs.inner.Sending.{Sending, Spacious, Roomy, Accepted, numberWith};
 
 // Writes the codeword of `block` over the first `g` bytes of `out`. Answers 0, or the number of the refusal, which writes nothing. It is the
 // build of two slices whose second is empty.

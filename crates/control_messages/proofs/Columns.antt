@@ -8,7 +8,7 @@ use native.Mathlib.Omega.{arith}
 use lib.Dec.{eqb, eqb→eq, lit<}
 use lib.ListN.{getD}
 use Rattle.laws.specs.Bits.{bitsOf}
-use Rattle.laws.specs.Computed.{all-below}
+use Rattle.laws.specs.inner.Computed.{all-below}
 use Rattle.laws.proofs.Computed.{all-below-at}
 use Rattle.rate_matching.specs.Columns.{numberOf, turnedRound, column}
 use Rattle.rate_matching.proofs.Columns.{column-rule}

@@ -12,7 +12,7 @@ use lib.Dec.{T, eqb, eqb→eq, lit<}
 use lib.ListN.{length, getD, drop, set, length-map}
 use borrow.Author.Tests.{le-leb, lt-leb}
 use Rattle.laws.specs.Bits.{bitsOf}
-use Rattle.laws.specs.Computed.{all-below}
+use Rattle.laws.specs.inner.Computed.{all-below}
 use Rattle.laws.specs.Lists.{tab, tabFrom, keep}
 use Rattle.laws.proofs.Computed.{all-below-at}
 use Rattle.laws.proofs.Keep.{keep-yes, keep-no}

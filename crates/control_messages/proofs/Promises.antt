@@ -16,17 +16,25 @@ use Rattle.rate_matching.proofs.Walk.{loop-is-selected}
 use Rattle.control_messages.specs.declared.Owner.the-variants.{Terminal}
 use Rattle.control_messages.specs.Attachment.{attached}
 use Rattle.control_messages.specs.TailBiting.{generator0, generator1, generator2, parityStream}
-use Rattle.control_messages.specs.RateMatching.{controlCircle, matched, liesAt}
+use Rattle.control_messages.specs.RateMatching.{controlColumn, controlCircle, matched, liesAt}
+use Rattle.control_messages.specs.Printed.{printedControlColumns}
 use Rattle.control_messages.specs.Message.{coded, message}
 use Rattle.control_messages.specs.Ownership.{payloadOf, Fits, ownerOf}
 use Rattle.control_messages.specs.Calls.{badRun, whoseAnswer, whoseNumber}
 use Rattle.control_messages.specs.Working.{Sized}
+use Rattle.control_messages.proofs.Columns.{control-column-printed}
 use Rattle.control_messages.proofs.Encoding.{length-parityStream}
 use Rattle.control_messages.proofs.Attached.{length-attached, attached-bits}
 use Rattle.control_messages.proofs.Whole.{streams-bits}
 use Rattle.control_messages.proofs.Owners.{payload-attached, owner-attached, fits-only, fits-owner}
 use Rattle.control_messages.proofs.Numbers.{whose-is, named-answer}
 use Rattle.control_messages.proofs.Sent.{lies-there, lies-lt, sent-once}
+
+-- ---- the columns
+
+-- table 5.1.4-2 as printed
+pub columns-printed : (c : ℕ) → c < 32 → controlColumn c ≡ getD printedControlColumns c 0
+columns-printed = control-column-printed
 
 -- ---- bits are accepted
 

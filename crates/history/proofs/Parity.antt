@@ -7,7 +7,7 @@ use Prim.Native.Nat.{ℕ, zero, suc}
 use native.Mathlib.Omega.{arith}
 use lib.Dec.{T}
 use lib.ListN.{length}
-use Rattle.laws.specs.Computed.{all-below}
+use Rattle.laws.specs.inner.Computed.{all-below}
 use Rattle.laws.proofs.Computed.{all-below-at}
 use Rattle.laws.specs.Bits.{bitsOf}
 use Rattle.laws.specs.Lists.{tab, tabFrom, keep}

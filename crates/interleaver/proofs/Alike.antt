@@ -7,7 +7,7 @@ use native.Mathlib.Nat.{add-mod, add-mod-right, mod-mod}
 use native.Mathlib.Omega.{arith}
 use lib.Dec.{ltb}
 use borrow.Author.Tests.{ltb-true, ltb-false}
-use Rattle.interleaver.specs.Quarters.{less}
+use Rattle.interleaver.specs.inner.Quarters.{less}
 
 pub record Alike (K a b : ℕ) : Type 0 where
   pub rest : a % K ≡ b % K

@@ -9,7 +9,7 @@ use lib.ListN.{length, getD, set}
 use Rattle.laws.specs.Lists.{tab}
 use Rattle.interleaver.specs.Place.{quadratic}
 use Rattle.interleaver.specs.Into.{bitBy}
-use Rattle.interleaver.specs.Quarters.{less}
+use Rattle.interleaver.specs.inner.Quarters.{less}
 use Rattle.interleaver.proofs.Filling as F
 use Rattle.interleaver.proofs.Filling.{Filling}
 use Rattle.interleaver.proofs.Strides as S

@@ -11,7 +11,7 @@ use Rattle.laws.proofs.Tab.{length-tab, getD-tab}
 use Rattle.interleaver.specs.Table.{rowCount, sizeAt, f1At, f2At}
 use Rattle.interleaver.specs.Place.{secondPlace, secondBit, interleaved}
 use Rattle.interleaver.specs.Into.{fitsRow, interleavedInto, bitBy, bitsBy, Walkable}
-use Rattle.interleaver.specs.Quarters.{Quartered, Countable}
+use Rattle.interleaver.specs.inner.Quarters.{Quartered, Countable}
 use Rattle.interleaver.proofs.Rows.{row-keeps}
 
 pub length-interleaved : (row : ℕ) (c : List ℕ) → length (interleaved row c) ≡ sizeAt row

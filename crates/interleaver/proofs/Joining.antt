@@ -9,7 +9,7 @@ use lib.ListN.{length, getD}
 use borrow.Rule.Slice.PartMut.{putMid}
 use Rattle.laws.specs.Lists.{tab}
 use Rattle.laws.proofs.Tab.{tab-ext}
-use Rattle.interleaver.specs.Quarters.{joined, Joinable, onFrom, four, fours, Quartered}
+use Rattle.interleaver.specs.inner.Quarters.{joined, Joinable, onFrom, four, fours, Quartered}
 use Rattle.interleaver.proofs.Filling as F
 use Rattle.interleaver.proofs.Filling.{Filling}
 

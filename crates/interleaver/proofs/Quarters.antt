@@ -12,7 +12,7 @@ use Rattle.laws.specs.Lists.{tab}
 use Rattle.laws.proofs.Tab.{tab-ext, length-tab, getD-tab, take-tab}
 use Rattle.interleaver.specs.Place.{quadratic}
 use Rattle.interleaver.specs.Into.{bitBy, bitsBy}
-use Rattle.interleaver.specs.Quarters.{joined, onFrom, four, fours, digit, spreadOver, Quartered, Countable}
+use Rattle.interleaver.specs.inner.Quarters.{joined, onFrom, four, fours, digit, spreadOver, Quartered, Countable}
 
 -- bit s of the joined bits at j is the bit s quarters on
 pub digit-four : (c : List ℕ) → AreBits c → (j s : ℕ) → s < 4 → four c j / 2 ^ s % 2 ≡ getD c (onFrom (length c) j s) 0

@@ -10,7 +10,7 @@ use native.Mathlib.Decide.{decLt}
 use native.Mathlib.Omega.{arith}
 use lib.Dec.{T, eqb, leb, ltb, eqb→eq, leb→le, ltb→lt}
 use lib.ListN.{getD}
-use Rattle.laws.specs.Computed.{all-below}
+use Rattle.laws.specs.inner.Computed.{all-below}
 use Rattle.laws.proofs.Computed.{all-below-at}
 use Rattle.interleaver.specs.Table.{sizeTable, f1Table, f2Table, sizeAt, f1At, f2At, rowCount}
 use Rattle.interleaver.specs.Place.{secondPlace}

@@ -10,7 +10,7 @@ use lib.Dec.{leb, T}
 use lib.ListN.{length, getD, take, drop}
 use lib.Seq.{drop-cons, drop-length}
 use borrow.Author.Tests.{le-leb, lt-leb, leb-true, leb-false}
-use Rattle.laws.specs.Computed.{all-below}
+use Rattle.laws.specs.inner.Computed.{all-below}
 use Rattle.laws.proofs.Computed.{all-below-at, T-true}
 use Rattle.interleaver.specs.Table.{sizeTable, firstAtLeast, rowFor}
 

@@ -11,7 +11,7 @@ use lib.ListN.{length}
 use borrow.Rule.Slice.PartMut.{putMid}
 use Rattle.laws.specs.Lists.{tab}
 use Rattle.laws.proofs.Tab.{tab-ext}
-use Rattle.interleaver.specs.Quarters.{digit, spreadOver}
+use Rattle.interleaver.specs.inner.Quarters.{digit, spreadOver}
 use Rattle.interleaver.proofs.Filling as F
 use Rattle.interleaver.proofs.Filling.{Filling}
 

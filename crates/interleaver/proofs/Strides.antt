@@ -5,7 +5,7 @@ use Prim.Native.Nat.{ℕ, _+_, _*_, _-_, _≤_, _<_}
 use native.Mathlib.Nat.{add-mod-right, mod-eq-of-lt, mod-lt}
 use native.Mathlib.Omega.{arith}
 use Rattle.interleaver.specs.Place.{quadratic}
-use Rattle.interleaver.specs.Quarters.{less}
+use Rattle.interleaver.specs.inner.Quarters.{less}
 use Rattle.interleaver.proofs.Alike.{Alike, same, turned, through, sum, remainder, less-sum, less-lt, less-le}
 
 -- how far Π(i + 4) is ahead of Π(i)

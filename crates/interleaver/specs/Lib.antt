@@ -2,4 +2,4 @@ pub mod Table
 pub mod Place
 pub mod Rearrangement
 pub mod Into
-pub mod Quarters
+pub mod inner

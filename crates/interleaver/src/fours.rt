@@ -8,7 +8,7 @@ ghost use lib.ListN.{length};
 ghost use Rattle.laws.specs.Bits.{AreBits};
 ghost use Rattle.laws.specs.Lists.{tab};
 ghost use Rattle.interleaver.specs.Into.{bitBy, bitsBy};
-ghost use Rattle.interleaver.specs.Quarters.{joined, Joinable, fours, Quartered, Countable, less, digit, spreadOver};
+ghost use Rattle.interleaver.specs.inner.Quarters.{joined, Joinable, fours, Quartered, Countable, less, digit, spreadOver};
 
 // Whether every byte is 0 or 1.
 pub(crate) fn all_bits(c: &[u8]) -> bool

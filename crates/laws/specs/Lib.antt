@@ -1,3 +1,3 @@
 pub mod Lists
 pub mod Bits
-pub mod Computed
+pub mod inner

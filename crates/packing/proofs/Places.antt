@@ -9,7 +9,7 @@ use native.Mathlib.Omega.{arith}
 use lib.Dec.{eqb, eqb→eq, ltb}
 use lib.ListN.{getD}
 use borrow.Author.Tests.{ltb-false, le-ltb}
-use Rattle.laws.specs.Computed.{all-below}
+use Rattle.laws.specs.inner.Computed.{all-below}
 use Rattle.laws.proofs.Computed.{all-below-at}
 use Rattle.packing.specs.Packing.{inTwoBits, fourIn, packedAt, standingAt, placeIn}
 

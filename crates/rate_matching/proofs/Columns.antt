@@ -10,7 +10,7 @@ use lib.ListN.{length, getD, List·getD-eq-default}
 use borrow.Author.Tests.{ltb-true, ltb-false, eqb-true, lt-ltb, le-ltb}
 use Rattle.laws.specs.Lists.{tab, tabFrom}
 use Rattle.laws.specs.Bits.{bitsOf}
-use Rattle.laws.specs.Computed.{all-below}
+use Rattle.laws.specs.inner.Computed.{all-below}
 use Rattle.laws.proofs.Computed.{all-below-at, T-true}
 use Rattle.laws.proofs.Tab.{length-tab, getD-tab}
 use Rattle.rate_matching.specs.Columns.{numberOf, turnedRound, columnTable, column}

@@ -23,7 +23,7 @@ use Rattle.packing.specs.Store.{placesAByte, bytesABlock, placesIn, placesAsked
 use Rattle.packing.proofs.Forms.{length-unpacked}
 use Rattle.packing.proofs.Stores.{places-are, places-mid, asked-enough}
 use Rattle.reading.specs.Circle.{keptOn, Stretch}
-use Rattle.reading.specs.Form.{circleAt, Unpacks, Circles}
+use Rattle.reading.specs.inner.Form.{circleAt, Unpacks, Circles}
 
 -- the numbers of either form
 four-slim : bytesABlock true ≡ 4632

@@ -1,3 +1,3 @@
 pub mod Circle
 pub mod Room
-pub mod Form
+pub mod inner

@@ -15,7 +15,7 @@ ghost use Prim.Native.Nat.{_*_, _≤_};
 ghost use Rattle.slots.specs.State.{perBlock};
 ghost use Rattle.packing.specs.Store.{placesIn};
 ghost use Rattle.reading.specs.Circle.{streamsOn, Stretch};
-ghost use Rattle.reading.specs.Form.{circleAt, Unpacks, Circles};
+ghost use Rattle.reading.specs.inner.Form.{circleAt, Unpacks, Circles};
 ghost use Rattle.slots.specs.Calls.{readNumber, readOutcome, readOutput, streamsNumber, streamsOutcome, streamsOutput};
 
 // Read's refusals before the room is looked at, for a store of `room` bytes and an output of `size`.

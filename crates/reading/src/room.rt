@@ -18,7 +18,7 @@ ghost use Rattle.laws.specs.Lists.{tabFrom};
 ghost use Rattle.slots.specs.State.{perBlock};
 ghost use Rattle.packing.specs.Store.{placesIn};
 ghost use Rattle.reading.specs.Circle.{keptOn, Stretch};
-ghost use Rattle.reading.specs.Form.{circleAt, Unpacks, Circles};
+ghost use Rattle.reading.specs.inner.Form.{circleAt, Unpacks, Circles};
 ghost use Rattle.reading.specs.Room.{roomFits, roomOutput};
 
 // How many data places of a block of `a` bits lack a bit; 0 where `a` is out of range or the room is too short for it.

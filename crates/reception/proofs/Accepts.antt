@@ -27,7 +27,7 @@ use Rattle.slots.proofs.Acceptance.{receives}
 use Rattle.slots.proofs.Accepted.{good, room-within}
 use Rattle.slots.proofs.Buffers.{Wide}
 use Rattle.reading.specs.Room.{roomFits}
-use Rattle.reception.specs.Parts.{roomAfter, Accepted}
+use Rattle.reception.specs.inner.Parts.{roomAfter, Accepted}
 use Rattle.reception.proofs.Slot.{room-accepts, room-received, room-lacking}
 
 -- the room after the bits are put is as long, so the places can be counted

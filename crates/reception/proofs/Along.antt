@@ -14,8 +14,8 @@ use Rattle.laws.proofs.Parts.{length-mid}
 use Rattle.laws.proofs.Tab.{length-tab, take-tab, getD-tab, tab-split, map-tab, tabFrom-shift}
 use Rattle.rate_matching.specs.Walk.{itself}
 use Rattle.slots.specs.Room.{meet, putBit}
-use Rattle.reception.specs.Parts.{putFrom}
-use Rattle.reception.specs.Along.{putAlong, Put}
+use Rattle.reception.specs.inner.Parts.{putFrom}
+use Rattle.reception.specs.inner.Along.{putAlong, Put}
 use Rattle.reception.proofs.Putting.{length-putFrom, putFrom-append, putFrom-front, put-in}
 
 -- ---- one bit after another

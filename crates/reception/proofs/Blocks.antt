@@ -31,8 +31,8 @@ use Rattle.slots.specs.Reception.{blockPlaces, putBits, putBlocks, received}
 use Rattle.slots.proofs.Buffers.{Wide}
 use Rattle.slots.proofs.PlaceBounds.{block-cut}
 use Rattle.reading.proofs.Blocks.{streams, filler-below}
-use Rattle.reception.specs.Parts.{putFrom, partAfter, roomAfter, Accepted}
-use Rattle.reception.specs.Along.{Sends}
+use Rattle.reception.specs.inner.Parts.{putFrom, partAfter, roomAfter, Accepted}
+use Rattle.reception.specs.inner.Along.{Sends}
 use Rattle.reception.proofs.Putting.{length-putFrom, putFrom-front, put-in, putBits-is}
 
 -- ---- the code blocks of a block of A bits, A in range

@@ -23,7 +23,7 @@ use Rattle.slots.specs.Calls.{ownerRules, sizeAtHead, shareAtHead, receiveNumbe
 use Rattle.packing.specs.Store.{placesAByte, bytesABlock, placesIn, inForm, placesAsked}
 use Rattle.packing.proofs.Stores.{places-are, places-put, form-back, asked-enough}
 use Rattle.reading.proofs.Form.{room-there, room-places}
-use Rattle.reception.specs.Parts.{roomAfter, Accepted}
+use Rattle.reception.specs.inner.Parts.{roomAfter, Accepted}
 use Rattle.reception.proofs.Accepts.{Ready, roomBytes, roomFrom, lent, putBack, room-in, room-ready, stored, answered}
 
 -- what Receive asks of the store's length

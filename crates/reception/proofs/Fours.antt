@@ -37,8 +37,8 @@ use Rattle.reading.proofs.Form.{unpacked-whole}
 use Rattle.reading.proofs.Sums.{Summing, start, next, finish}
 use Rattle.reading.proofs.Lacking.{countable-is, block-few}
 use Rattle.reading.proofs.Blocks.{few, filler-below}
-use Rattle.reception.specs.Parts.{putFrom, partAfter, roomAfter, Accepted}
-use Rattle.reception.specs.Along.{Sends}
+use Rattle.reception.specs.inner.Parts.{putFrom, partAfter, roomAfter, Accepted}
+use Rattle.reception.specs.inner.Along.{Sends}
 use Rattle.reception.proofs.Putting.{length-putFrom}
 use Rattle.reception.proofs.Blocks.{Blocks, block-sends, blocks-start, blocks-next, blocks-finish, part-within, bits-within}
 

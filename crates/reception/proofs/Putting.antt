@@ -12,7 +12,7 @@ use Rattle.laws.proofs.Parts.{getD-put-in}
 use Rattle.slots.specs.State.{perBlock, roomStart}
 use Rattle.slots.specs.Room.{meet, byteOf, putBit}
 use Rattle.slots.specs.Reception.{putBits}
-use Rattle.reception.specs.Parts.{putFrom}
+use Rattle.reception.specs.inner.Parts.{putFrom}
 
 pub length-putFrom : (base : ℕ) (js bits list : List ℕ) → length (putFrom base js bits list) ≡ length list
 unfolding putFrom putBit

@@ -12,8 +12,8 @@ use lib.ListN.{length, getD, drop, set, length-set}
 use lib.Seq.{set-set, set-comm, set-out, getD-set-same, getD-set-other, getD-drop}
 use Rattle.slots.specs.Room.{disputed, meet, putBit}
 use Rattle.slots.proofs.Meeting.{Known, meet-known, meet-together, meet-order}
-use Rattle.reception.specs.Parts.{putFrom}
-use Rattle.reception.specs.Along.{AllKnown}
+use Rattle.reception.specs.inner.Parts.{putFrom}
+use Rattle.reception.specs.inner.Along.{AllKnown}
 
 known-rest : (l : List ℕ) → AllKnown l → AllKnown (drop 1 l)
 known-rest l h i = rw (getD-drop 1 l i 0) (h (1 + i))

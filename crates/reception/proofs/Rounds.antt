@@ -18,8 +18,8 @@ use Rattle.laws.proofs.Tab.{length-tab, length-tabFrom, getD-tab, getD-tabFrom,
 use Rattle.rate_matching.specs.Walk.{itself, turnAfterTurn}
 use Rattle.rate_matching.proofs.MatcherTurns.{turn-front, turn-next}
 use Rattle.slots.proofs.Meeting.{known-bit}
-use Rattle.reception.specs.Parts.{putFrom}
-use Rattle.reception.specs.Along.{putAlong, Put, ringAfter}
+use Rattle.reception.specs.inner.Parts.{putFrom}
+use Rattle.reception.specs.inner.Along.{putAlong, Put, ringAfter}
 use Rattle.reception.proofs.Putting.{length-putFrom, putFrom-append, putFrom-front}
 use Rattle.reception.proofs.Ring.{through}
 use Rattle.reception.proofs.Along.{along-none, run-met, put-as, put-long}

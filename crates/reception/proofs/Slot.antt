@@ -24,7 +24,7 @@ use Rattle.slots.proofs.RoomLaws.{Places, AllPlaces, length-putBits}
 use Rattle.slots.proofs.Buffers.{Wide}
 use Rattle.slots.proofs.PlaceBounds.{sent-below}
 use Rattle.reading.proofs.Lent.{mid-put, lacking-lent}
-use Rattle.reception.specs.Parts.{roomAfter, Accepted}
+use Rattle.reception.specs.inner.Parts.{roomAfter, Accepted}
 use Rattle.reception.proofs.Putting.{put-in, putBits-is}
 
 -- ---- the room of a slot is the room of slot 0 of its own bytes

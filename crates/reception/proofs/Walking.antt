@@ -33,7 +33,7 @@ use Rattle.rate_matching.proofs.MatcherRest.{count-few}
 use Rattle.rate_matching.proofs.MatcherBlock.{Matchable, matchable-is}
 use Rattle.rate_matching.proofs.Turns.{turn-told, rest-taken}
 use Rattle.slots.specs.State.{perBlock}
-use Rattle.reception.specs.Along.{Put, turnIn, Walked, Sends, Column}
+use Rattle.reception.specs.inner.Along.{Put, turnIn, Walked, Sends, Column}
 use Rattle.reception.proofs.Along.{put-append, put-as, put-long, put-none, put-lent, run-lent}
 
 -- a list that is as long has the circle's places too

@@ -12,7 +12,7 @@ ghost use Rattle.rate_matching.specs.SubBlocks.{rows, rowsBefore};
 ghost use Rattle.rate_matching.specs.Walk.{itself};
 ghost use Rattle.rate_matching.specs.Shape.{shape, bitPlaces, second, pairPlaces, lastPlace};
 ghost use Rattle.slots.specs.Room.{disputed, meet};
-ghost use Rattle.reception.specs.Along.{putAlong, Put, AllKnown, ringAfter, turnIn, Walked, Sends, Column};
+ghost use Rattle.reception.specs.inner.Along.{putAlong, Put, AllKnown, ringAfter, turnIn, Walked, Sends, Column};
 
 // What a place that kept `old` keeps after the bit `new`: no branch, so that a run is met many places at a time.
 fn met(old: u8, new: u8) -> u8

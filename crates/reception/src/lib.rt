@@ -13,7 +13,7 @@ ghost use mathlib.Core.Path.{_≡_};
 ghost use lib.ListN.{length};
 ghost use Rattle.slots.specs.Reading.{lacking};
 ghost use Rattle.slots.specs.Calls.{receiveNumber, receiveStore, receiveOutcome};
-ghost use Rattle.reception.specs.Parts.{roomAfter, Accepted};
+ghost use Rattle.reception.specs.inner.Parts.{roomAfter, Accepted};
 
 // Puts a reception's bits at the places the build would have taken them from, and tells how many data places then lack a bit.
 pub fn receive(

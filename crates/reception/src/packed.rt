@@ -17,8 +17,8 @@ ghost use Rattle.slots.specs.Reading.{sumFrom, lacking};
 ghost use Rattle.slots.specs.Calls.{receiveStore, receiveOutcome};
 ghost use Rattle.packing.specs.Store.{placesIn, inForm};
 ghost use Rattle.reading.specs.Circle.{missingOn};
-ghost use Rattle.reception.specs.Parts.{partAfter, roomAfter, Accepted};
-ghost use Rattle.reception.specs.Along.{Sends};
+ghost use Rattle.reception.specs.inner.Parts.{partAfter, roomAfter, Accepted};
+ghost use Rattle.reception.specs.inner.Along.{Sends};
 
 // The places that a short and a long circle have room for.
 const SHORT_CIRCLE: usize = 3168;

@@ -7,8 +7,8 @@ ghost use lib.ListN.{length};
 ghost use Rattle.laws.specs.Bits.{AreBits};
 ghost use Rattle.rate_matching.specs.SubBlocks.{rows};
 ghost use Rattle.rate_matching.specs.Circle.{cutAt};
-ghost use Rattle.reception.specs.Parts.{partAfter, roomAfter, Accepted};
-ghost use Rattle.reception.specs.Along.{putAlong, ringAfter, turnIn, Sends};
+ghost use Rattle.reception.specs.inner.Parts.{partAfter, roomAfter, Accepted};
+ghost use Rattle.reception.specs.inner.Along.{putAlong, ringAfter, turnIn, Sends};
 
 // The places of a turn that the short and the long ring have room for.
 const SHORT_RING: usize = 3168;

@@ -15,10 +15,10 @@ use Rattle.codeword.specs.Build.{badBits}
 use Rattle.codeword.proofs.Accepted.{or-false, given-bits}
 use Rattle.report_code.specs.Code.{block, repeated, controlBits}
 use Rattle.report_code.specs.Words.{messageBits, wordOf}
-use Rattle.report_code.specs.Counts.{plane, planeDistance}
+use Rattle.report_code.specs.inner.Counts.{plane, planeDistance}
 use Rattle.report_code.specs.Nearest.{differences, distance, distanceOf, nearestUpTo, nearestMessage, unfit, nearestOf}
-use Rattle.report_code.specs.Counted.{Counted}
-use Rattle.report_code.specs.Search.{wordDistance}
+use Rattle.report_code.specs.inner.Counted.{Counted}
+use Rattle.report_code.specs.inner.Search.{wordDistance}
 use Rattle.report_code.proofs.Entries.{kept}
 use Rattle.report_code.proofs.Linear.{length-block, block-bits, block-short}
 use Rattle.report_code.proofs.Planes.{plane-distance}

@@ -17,8 +17,8 @@ use Rattle.laws.proofs.Bits.{xor-half, xor-parity, xor-cancel}
 use Rattle.report_code.specs.declared.search.Found.{Found}
 use Rattle.report_code.specs.Words.{wordOf}
 use Rattle.report_code.specs.Nearest.{nearerOf, nearestUpTo}
-use Rattle.report_code.specs.Counts.{planeDistance}
-use Rattle.report_code.specs.Search.{wordDistance, stepWord}
+use Rattle.report_code.specs.inner.Counts.{planeDistance}
+use Rattle.report_code.specs.inner.Search.{wordDistance, stepWord}
 use Rattle.report_code.proofs.Entries.{kept}
 use Rattle.report_code.proofs.Linear.{word-added}
 

@@ -15,9 +15,9 @@ use Rattle.laws.specs.Lists.{tab, tabFrom}
 use Rattle.laws.proofs.AreBits.{take-below, drop-below}
 use Rattle.laws.proofs.Tab.{length-tab, tabFrom-split, tabFrom-shift, tab-of}
 use Rattle.report_code.specs.Code.{shared, circular, repeated}
-use Rattle.report_code.specs.Counts.{inverted, plus, cost}
+use Rattle.report_code.specs.inner.Counts.{inverted, plus, cost}
 use Rattle.report_code.specs.Nearest.{differences}
-use Rattle.report_code.specs.Counted.{Counted}
+use Rattle.report_code.specs.inner.Counted.{Counted}
 use Rattle.report_code.proofs.Words.{inverted-bits, length-inverted}
 
 -- ---- runs that differ

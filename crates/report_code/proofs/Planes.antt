@@ -18,7 +18,7 @@ use Rattle.laws.specs.Lists.{tab}
 use Rattle.laws.proofs.Tab.{tab-of}
 use Rattle.report_code.specs.Code.{shared}
 use Rattle.report_code.specs.Words.{numberOf}
-use Rattle.report_code.specs.Counts.{inverted, cost, digits, plane, planeDistance}
+use Rattle.report_code.specs.inner.Counts.{inverted, cost, digits, plane, planeDistance}
 use Rattle.report_code.proofs.Words.{ones-shared, shared-comm, number-inverted, inverted-bits}
 
 -- each count without its p lowest digits

@@ -11,7 +11,7 @@ use lib.Count.{ones}
 use lib.ListN.{length, getD}
 use borrow.Author.Tests.{ltb-true, leb-true}
 use Rattle.laws.specs.Bits.{AreBits}
-use Rattle.laws.specs.Computed.{all-below}
+use Rattle.laws.specs.inner.Computed.{all-below}
 use Rattle.laws.proofs.Computed.{all-below-at, T-true}
 use Rattle.report_code.specs.Basis.{basis, row}
 use Rattle.report_code.specs.Code.{shared, codedBit}

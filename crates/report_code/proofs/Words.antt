@@ -16,7 +16,7 @@ use Rattle.laws.proofs.Bits.{xor-half, xor-parity, xor-bit-lt}
 use Rattle.laws.proofs.Writing.{drop-next}
 use Rattle.report_code.specs.Code.{shared}
 use Rattle.report_code.specs.Words.{numberOf, messageBits}
-use Rattle.report_code.specs.Counts.{inverted}
+use Rattle.report_code.specs.inner.Counts.{inverted}
 
 -- ---- the first bit and the others
 

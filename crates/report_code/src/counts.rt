@@ -8,8 +8,8 @@ ghost use Prim.Native.Nat.{_-_, _≤_, _<_, _^_};
 ghost use lib.ListN.{length, replicate};
 ghost use Rattle.laws.specs.Bits.{AreBits, EachBelow};
 ghost use Rattle.laws.specs.Lists.{tab};
-ghost use Rattle.report_code.specs.Counts.{inverted, plus, digits, plane, planeDistance};
-ghost use Rattle.report_code.specs.Counted.{Counted};
+ghost use Rattle.report_code.specs.inner.Counts.{inverted, plus, digits, plane, planeDistance};
+ghost use Rattle.report_code.specs.inner.Counted.{Counted};
 
 // The counts of a 1 and of a 0 at each of the 32 places.
 pub struct Counts {

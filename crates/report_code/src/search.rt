@@ -9,7 +9,7 @@ ghost use Prim.Native.Nat.{_+_, _-_, _/_, _≤_, _<_, _^_};
 ghost use lib.ListN.{length, replicate};
 ghost use Rattle.laws.specs.Lists.{tab};
 ghost use Rattle.report_code.specs.Nearest.{nearerOf, nearestUpTo, unfit, nearestOf};
-ghost use Rattle.report_code.specs.Search.{wordDistance, stepWord};
+ghost use Rattle.report_code.specs.inner.Search.{wordDistance, stepWord};
 
 // The nearest message, how far it is, and whether another is as near.
 pub struct Found {

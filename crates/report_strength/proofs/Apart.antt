@@ -11,7 +11,7 @@ use lib.Bits.{bitXor, xor-lt, xor-zero-r}
 use lib.ListN.{length, getD, take}
 use borrow.Author.Tests.{eqb-true, eqb-false, leb-true}
 use Rattle.laws.specs.Bits.{AreBits}
-use Rattle.laws.specs.Computed.{all-below}
+use Rattle.laws.specs.inner.Computed.{all-below}
 use Rattle.laws.specs.Lists.{tab, tabFrom}
 use Rattle.laws.proofs.Bits.{xor-cancel}
 use Rattle.laws.proofs.Computed.{all-below-at, T-true}

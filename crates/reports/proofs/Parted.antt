@@ -22,7 +22,7 @@ use Rattle.report_code.proofs.Answered.{nearest-fit}
 use Rattle.reports.specs.declared.parting.Read.{Read}
 use Rattle.reports.specs.Refusals.{shapeRules, partRules}
 use Rattle.reports.specs.Calls.{controlPart, pastControl, partNumber, nearestReport, partOutput, dataPart}
-use Rattle.reports.specs.Read.{readRun}
+use Rattle.reports.specs.inner.Read.{readRun}
 use Rattle.reports.proofs.Shape.{passed-on, stopped, earlier, some-data, Shaped, shaped}
 
 abbrev others : ℕ → ℕ → ℕ → ℕ → ℕ → List ℕ → ℕ → List Rule

@@ -1,3 +1,3 @@
 pub mod Refusals
 pub mod Calls
-pub mod Read
+pub mod inner

@@ -8,7 +8,7 @@ ghost use Rattle.report_code.specs.Words.{messageBits};
 ghost use Rattle.refusals.specs.Refusals.{firstOf};
 ghost use Rattle.reports.specs.Refusals.{partRules};
 ghost use Rattle.reports.specs.Calls.{partNumber, partOutput, dataPart};
-ghost use Rattle.reports.specs.Read.{readRun};
+ghost use Rattle.reports.specs.inner.Read.{readRun};
 
 // The number of a refusal, or 0 and the message.
 pub struct Read {

@@ -1,5 +1,5 @@
 pub mod Words
-pub mod Scan
 pub mod Verbs
 pub mod Numbers
 pub mod Request
+pub mod inner

@@ -3,7 +3,7 @@ ghost use mathlib.Core.Path.{_≡_};
 ghost use lib.ListN.{length};
 ghost use Prim.Native.Nat.{_≤_};
 ghost use Rattle.requests.specs.Words.{wordsOf, wordAt, sameBytes, isRun, bitOf};
-ghost use Rattle.requests.specs.Scan.{blankFrom, firstFrom};
+ghost use Rattle.requests.specs.inner.Scan.{blankFrom, firstFrom};
 
 const BLANK: u8 = 32;
 

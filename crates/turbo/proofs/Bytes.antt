@@ -10,7 +10,7 @@ use lib.Bits.{bitOr, or-shifted-r}
 use lib.ListN.{length, getD, take, drop, drop-of-length-le}
 use lib.Pow.{pow-add, pow-pos, shl-exact, shr-lt, shr-shr, split}
 use lib.Seq.{drop-cons, drop-drop, take-add, sets, sets-eq}
-use Rattle.turbo.specs.Eight.{bytesOf}
+use Rattle.turbo.specs.inner.Eight.{bytesOf}
 
 one-more : (n : ℕ) → 2 ^ (suc n * 8) ≡ 2 ^ (n * 8) * 2 ^ 8
 one-more n = let e : suc n * 8 ≡ n * 8 + 8 = omega arith in rw (e, pow-add)

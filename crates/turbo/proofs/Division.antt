@@ -8,7 +8,7 @@ use lib.Bits.{xor-block, xor-mod, xor-self, xor-zero-r}
 use lib.Pow.{pow-add, pow-pos}
 use Rattle.laws.specs.Bits.{_⊕_}
 use Rattle.laws.proofs.Bits.{xor-assoc, xor-swap, xor-cancel}
-use Rattle.turbo.specs.Eight.{shl, times}
+use Rattle.turbo.specs.inner.Eight.{shl, times}
 
 mod-times : (y c m : ℕ) → y % m * c % m ≡ y * c % m
 mod-times y c m = sym (add-mul-mod-self-right (y % m * c) (y / m * c) m) ∙ ap (λ (n : ℕ). n % m) whole

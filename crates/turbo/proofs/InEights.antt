@@ -11,7 +11,7 @@ use lib.Seq.{length-take-le, drop-drop, take-add, take-at, drop-at}
 use Rattle.laws.proofs.Parts.{put-as, length-mid, length-put}
 use Rattle.turbo.specs.declared.Registers.{Registers}
 use Rattle.turbo.specs.Encoder.{start, parity, next, parities, after}
-use Rattle.turbo.specs.Eight.{registersOf, eights, reach, encodedFront, frontEnd}
+use Rattle.turbo.specs.inner.Eight.{registersOf, eights, reach, encodedFront, frontEnd}
 use Rattle.turbo.proofs.Encoder.{length-parities}
 
 -- ---- joined input bits

@@ -12,7 +12,7 @@ use Rattle.laws.specs.Bits.{_⊕_}
 use Rattle.laws.proofs.Bits.{xor-assoc, xor-cancel, xor-medial}
 use Rattle.turbo.specs.declared.Registers.{Registers}
 use Rattle.turbo.specs.Encoder.{feedback, entering, parity, next, parities, after}
-use Rattle.turbo.specs.Eight.{bytesOf, registersOf, shl, times}
+use Rattle.turbo.specs.inner.Eight.{bytesOf, registersOf, shl, times}
 use Rattle.turbo.proofs.Bytes.{bytesOf-mod}
 
 -- ---- a step

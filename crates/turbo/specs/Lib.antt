@@ -1,4 +1,4 @@
 pub mod Encoder
 pub mod Streams
 pub mod Encode
-pub mod Eight
+pub mod inner

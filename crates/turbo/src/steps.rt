@@ -5,7 +5,7 @@ ghost use mathlib.Core.Path.{_≡_};
 ghost use Prim.Native.Nat.{_+_, _*_, _^_, _≤_, _<_};
 ghost use lib.ListN.{length, take, drop};
 ghost use Rattle.turbo.specs.Encoder.{parities, after};
-ghost use Rattle.turbo.specs.Eight.{bytesOf, registersOf, times, eights, reach, encodedFront, frontEnd};
+ghost use Rattle.turbo.specs.inner.Eight.{bytesOf, registersOf, times, eights, reach, encodedFront, frontEnd};
 
 // The registers of both encoders after their last bits.
 pub struct Ends {

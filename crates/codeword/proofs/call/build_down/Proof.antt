@@ -10,7 +10,7 @@ use denote.Ref.{now}
 use Rattle.laws.proofs.Parts.{front-count}
 use Rattle.codeword.specs.Codeword.{codewordIn}
 use Rattle.codeword.specs.Downlink.{buildDownNumber}
-use Rattle.codeword.specs.Sending.{Accepted}
+use Rattle.codeword.specs.inner.Sending.{Accepted}
 use Rattle.codeword.proofs.SoftShares.{number-found, share-accepted, accepted-down, refused-down, built-down}
 use Rattle.codeword.proofs.call.build_down.Statement.{statement}
 use Rattle.codeword.proofs.call.build_down.Tie as tie

@@ -11,7 +11,7 @@ use Rattle.laws.proofs.Parts.{front-count}
 use Rattle.rate_matching.specs.SoftBuffer.{wholeShare}
 use Rattle.codeword.specs.Codeword.{codewordIn}
 use Rattle.codeword.specs.Build.{buildNumber}
-use Rattle.codeword.specs.Sending.{Accepted}
+use Rattle.codeword.specs.inner.Sending.{Accepted}
 use Rattle.codeword.proofs.Numbers.{accepted, refused-output, built-output}
 use Rattle.codeword.proofs.call.build_two.Statement.{statement}
 use Rattle.codeword.proofs.call.build_two.Tie as tie

@@ -9,7 +9,7 @@ use lib.ListN.{length}
 use borrow.Author.Tests.{lt-ltb, le-ltb}
 use denote.Ref.{now}
 use Rattle.codeword.specs.Build.{buildNumber}
-use Rattle.codeword.specs.Sending.{numberWith}
+use Rattle.codeword.specs.inner.Sending.{numberWith}
 use Rattle.codeword.proofs.Segmented.{Sized, sized, unsized, long-told}
 use Rattle.codeword.proofs.SoftShares.{rows-told}
 use Rattle.codeword.proofs.call.down_number.Statement.{statement}

@@ -2,7 +2,7 @@
 -- Assumes nothing.
 use borrow.Author.Needs.{needs}
 use borrow.Author.Tests.{lt-ltb, le-ltb}
-use Rattle.interleaver.specs.Quarters.{less}
+use Rattle.interleaver.specs.inner.Quarters.{less}
 use Rattle.interleaver.proofs.fours.back.Statement.{statement}
 use Rattle.interleaver.proofs.fours.back.Tie as tie
 

@@ -4,7 +4,7 @@ use mathlib.Core.Path.{refl}
 use Prim.Native.Nat.{_+_, _-_}
 use native.Mathlib.Omega.{arith}
 use lib.ListN.{length}
-use Rattle.interleaver.specs.Quarters.{joined}
+use Rattle.interleaver.specs.inner.Quarters.{joined}
 use Rattle.interleaver.proofs.Filling as F
 use Rattle.interleaver.proofs.Filling.{Filling}
 use Rattle.interleaver.proofs.fours.join.Statement.{statement}

@@ -4,7 +4,7 @@ use mathlib.Core.Path.{refl}
 use Prim.Native.Nat.{_-_}
 use native.Mathlib.Omega.{arith}
 use lib.ListN.{length}
-use Rattle.interleaver.specs.Quarters.{digit}
+use Rattle.interleaver.specs.inner.Quarters.{digit}
 use Rattle.interleaver.proofs.Filling as F
 use Rattle.interleaver.proofs.Filling.{Filling}
 use Rattle.interleaver.proofs.fours.spread.Statement.{statement}

@@ -6,7 +6,7 @@ use Rattle.slots.specs.State.{perBlock}
 use Rattle.packing.specs.Store.{placesIn}
 use lib.ListN.{length}
 use mathlib.Core.Path.{_≡_, refl, _∙_}
-use Rattle.reading.specs.Form.{Unpacks}
+use Rattle.reading.specs.inner.Form.{Unpacks}
 use Rattle.reading.proofs.Blocks.{blocks-few}
 use Rattle.reading.proofs.Form.{next-block, circle-mid, stretch-on}
 use Rattle.reading.proofs.Sequence.{Hearing, fit, hearing-start, Turn, turn, part-back, sum-fits, hearing-next, hearing-finish}

@@ -5,7 +5,7 @@ use Prim.Native.Nat.{_-_}
 use native.Mathlib.Omega.{arith}
 use lib.ListN.{length}
 use Rattle.slots.specs.Room.{putBit}
-use Rattle.reception.specs.Along.{AllKnown}
+use Rattle.reception.specs.inner.Along.{AllKnown}
 use Rattle.reception.proofs.Ring.{known-put, meet-known-is}
 use Rattle.reception.proofs.Along.{Meeting, meeting-start, meeting-long, meeting-next, meeting-finish}
 use Rattle.reception.proofs.circle.agree_run.Statement.{statement}

@@ -11,7 +11,7 @@ use Rattle.laws.specs.Bits.{AreBits}
 use Rattle.laws.proofs.AreBits.{take-below, drop-below}
 use Rattle.laws.proofs.Parts.{length-mid}
 use Rattle.slots.proofs.Meeting.{known-bit}
-use Rattle.reception.specs.Along.{AllKnown, putAlong}
+use Rattle.reception.specs.inner.Along.{AllKnown, putAlong}
 use Rattle.reception.proofs.Ring.{known-along}
 use Rattle.reception.proofs.Along.{length-along}
 use Rattle.reception.proofs.Rounds.{Turning, ring-second, turning-start, turning-whole, turning-last}

@@ -8,7 +8,7 @@ use lib.ListN.{take}
 use borrow.Author.Needs.{needs}
 use Rattle.rate_matching.specs.SubBlocks.{rows}
 use Rattle.rate_matching.specs.Shape.{shape, bitPlaces}
-use Rattle.reception.specs.Along.{Put}
+use Rattle.reception.specs.inner.Along.{Put}
 use Rattle.reception.proofs.Along.{put-append, put-as, put-long, put-within, put-nothing}
 use Rattle.reception.proofs.Walking.{walked-still, Starts, starts, whole-in, start-within, rest-low, round-is}
 use Rattle.reception.proofs.circle.put_round.Statement.{statement}

@@ -3,8 +3,8 @@
 use native.Mathlib.Omega.{arith}
 use borrow.Author.Needs.{needs}
 use Rattle.rate_matching.specs.Walk.{sentPlaces}
-use Rattle.reception.specs.Parts.{partAfter}
-use Rattle.reception.specs.Along.{turnIn}
+use Rattle.reception.specs.inner.Parts.{partAfter}
+use Rattle.reception.specs.inner.Along.{turnIn}
 use Rattle.reception.proofs.Along.{put-long}
 use Rattle.reception.proofs.Rounds.{first-some, two-rounds, ring-round}
 use Rattle.reception.proofs.Walking.{sends-still, round-some, round-few}

@@ -4,7 +4,7 @@ use mathlib.Core.Path.{_∙_, ap}
 use mathlib.Core.List.{List}
 use Prim.Native.Nat.{ℕ}
 use borrow.Author.Needs.{needs}
-use Rattle.reception.specs.Along.{putAlong, turnIn}
+use Rattle.reception.specs.inner.Along.{putAlong, turnIn}
 use Rattle.reception.proofs.parts.put_turns.Statement.{statement}
 use Rattle.reception.proofs.parts.put_turns.Tie as tie
 

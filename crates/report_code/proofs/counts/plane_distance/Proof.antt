@@ -6,7 +6,7 @@ use native.Mathlib.Omega.{arith}
 use borrow.Author.Needs.{needs}
 use lib.ListN.{length}
 use Rattle.report_code.proofs.Planes.{above-small, heard-zeros, heard-ones, above-more, plane-step}
-use Rattle.report_code.specs.Counts.{planeDistance}
+use Rattle.report_code.specs.inner.Counts.{planeDistance}
 use Rattle.report_code.proofs.counts.plane_distance.Statement.{statement}
 use Rattle.report_code.proofs.counts.plane_distance.Tie as tie
 

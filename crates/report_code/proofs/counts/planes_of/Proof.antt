@@ -9,7 +9,7 @@ use Rattle.report_code.proofs.Entries.{entry-next, entries-kept}
 use Rattle.laws.specs.Lists.{tab, tabFrom}
 use Rattle.laws.proofs.Tab.{tab-rest}
 use Rattle.laws.proofs.Writing.{Writing, start, same}
-use Rattle.report_code.specs.Counts.{plane}
+use Rattle.report_code.specs.inner.Counts.{plane}
 use Rattle.report_code.proofs.Planes.{digits-bits, length-digits}
 use Rattle.report_code.proofs.counts.planes_of.Statement.{statement}
 use Rattle.report_code.proofs.counts.planes_of.Tie as tie

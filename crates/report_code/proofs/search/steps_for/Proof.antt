@@ -12,7 +12,7 @@ use Rattle.laws.specs.Lists.{tab, tabFrom}
 use Rattle.laws.proofs.Tab.{tab-rest, rest-more, rest-none}
 use Rattle.laws.proofs.Writing.{Writing, start, same, push, finish}
 use Rattle.report_code.specs.Words.{wordOf}
-use Rattle.report_code.specs.Search.{stepWord}
+use Rattle.report_code.specs.inner.Search.{stepWord}
 use Rattle.report_code.proofs.search.steps_for.Statement.{statement}
 use Rattle.report_code.proofs.search.steps_for.Tie as tie
 

@@ -6,7 +6,7 @@ use native.Mathlib.Omega.{arith}
 use lib.ListN.{take, drop}
 use denote.Ref.{now}
 use borrow.Author.Needs.{needs}
-use Rattle.requests.specs.Scan.{blankFrom}
+use Rattle.requests.specs.inner.Scan.{blankFrom}
 use Rattle.requests.proofs.WordLaws.{first-past, first-within}
 use Rattle.requests.proofs.words.word.Statement.{statement}
 use Rattle.requests.proofs.words.word.Tie as tie

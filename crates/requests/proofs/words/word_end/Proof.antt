@@ -9,7 +9,7 @@ use denote.Ref.{now}
 use borrow.Author.Needs.{needs}
 use Rattle.bytes.specs.Bytes.{indexOf, slice}
 use Rattle.requests.specs.Words.{blank}
-use Rattle.requests.specs.Scan.{blankFrom}
+use Rattle.requests.specs.inner.Scan.{blankFrom}
 use Rattle.requests.proofs.words.word_end.Statement.{statement}
 use Rattle.requests.proofs.words.word_end.Tie as tie
 

@@ -1,6 +1,6 @@
 -- `turbo::steps::divided` meets its contract.
 -- Assumes nothing.
-use Rattle.turbo.specs.Eight.{shl, times}
+use Rattle.turbo.specs.inner.Eight.{shl, times}
 use Rattle.turbo.proofs.Division.{divided}
 use Rattle.turbo.proofs.steps.divided.Statement.{statement}
 use Rattle.turbo.proofs.steps.divided.Tie as tie

@@ -6,7 +6,7 @@ use native.Mathlib.Omega.{arith}
 use borrow.Author.Needs.{needs}
 use lib.Pow.{shr-lt}
 use Rattle.laws.specs.Bits.{_⊕_}
-use Rattle.turbo.specs.Eight.{shl, times}
+use Rattle.turbo.specs.inner.Eight.{shl, times}
 use Rattle.turbo.proofs.Stepping.{eight-outputs, eight-after}
 use Rattle.turbo.proofs.steps.eight_steps.Statement.{statement}
 use Rattle.turbo.proofs.steps.eight_steps.Tie as tie

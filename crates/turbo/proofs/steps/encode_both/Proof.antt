@@ -4,7 +4,7 @@ use mathlib.Core.Path.{_≡_, refl, _∙_, ap}
 use Prim.Native.Nat.{ℕ, _-_, _%_, _≤_}
 use native.Mathlib.Omega.{arith}
 use lib.ListN.{length}
-use Rattle.turbo.specs.Eight.{reach, encodedFront, frontEnd}
+use Rattle.turbo.specs.inner.Eight.{reach, encodedFront, frontEnd}
 use Rattle.turbo.proofs.InEights.{InEights, begin, lent, turn, Ending, eights-end}
 use Rattle.turbo.proofs.steps.encode_both.Statement.{statement}
 use Rattle.turbo.proofs.steps.encode_both.Tie as tie

@@ -2,7 +2,7 @@
 -- Assumes nothing.
 use mathlib.Core.Path.{refl}
 use borrow.Author.Needs.{needs}
-use Rattle.turbo.specs.Eight.{registersOf}
+use Rattle.turbo.specs.inner.Eight.{registersOf}
 use Rattle.turbo.proofs.steps.registers_of.Statement.{statement}
 use Rattle.turbo.proofs.steps.registers_of.Tie as tie
 

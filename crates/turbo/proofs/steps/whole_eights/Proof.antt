@@ -1,7 +1,7 @@
 -- `turbo::steps::whole_eights` meets its contract.
 -- Assumes nothing.
 use native.Mathlib.Omega.{arith}
-use Rattle.turbo.specs.Eight.{eights}
+use Rattle.turbo.specs.inner.Eight.{eights}
 use borrow.Author.Needs.{needs}
 use Rattle.turbo.proofs.steps.whole_eights.Statement.{statement}
 use Rattle.turbo.proofs.steps.whole_eights.Tie as tie

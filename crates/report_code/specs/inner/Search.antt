@@ -3,7 +3,7 @@
 use mathlib.Core.List.{List}
 use Prim.Native.Nat.{ℕ, suc, _-_, _^_}
 use Rattle.report_code.specs.Words.{wordOf}
-use Rattle.report_code.specs.Counts.{planeDistance}
+use Rattle.report_code.specs.inner.Counts.{planeDistance}
 
 -- the distance of message number m by the planes
 unfoldable pub wordDistance : List ℕ → List ℕ → ℕ → ℕ → ℕ

@@ -12,7 +12,7 @@ use Rattle.rate_matching.specs.Walk.{itself, turn, turnAfterTurn}
 use Rattle.rate_matching.specs.Shape.{shape}
 use Rattle.rate_matching.specs.Places.{longest}
 use Rattle.slots.specs.Room.{isUnheard}
-use Rattle.reception.specs.Parts.{putFrom}
+use Rattle.reception.specs.inner.Parts.{putFrom}
 
 -- bits at the first of some places, as many as there are of both
 unfoldable pub putAlong : List ℕ → List ℕ → List ℕ → List ℕ

@@ -6,7 +6,7 @@ use Prim.Native.Nat.{ℕ, suc, _+_, _/_}
 use lib.ListN.{length}
 use Rattle.laws.specs.Bits.{EachBelow, AreBits}
 use Rattle.report_code.specs.Code.{repeated}
-use Rattle.report_code.specs.Counts.{cost}
+use Rattle.report_code.specs.inner.Counts.{cost}
 use Rattle.report_code.specs.Nearest.{differences}
 
 pub record Counted (received heardOnes heardZeros : List ℕ) : Type 0 where
