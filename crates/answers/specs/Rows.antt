@@ -4,7 +4,7 @@ use mathlib.Core.List.{List, [], _∷_, map}
 use Prim.Native.Nat.{ℕ, _+_, _%_}
 use Rattle.lines.specs.Row.{decimalOf, rowOf, refused}
 use Rattle.slots.specs.declared.Answer.{Answer}
-use Rattle.slots.specs.declared.Answer.the-variants.{Done, Heard, Refused, RefusedWith}
+use Rattle.slots.specs.declared.Answer.the-variants.{Done, StillLacking, Refused, RefusedWith}
 use Rattle.slots.specs.Answers.{numberOf, valuesOf}
 
 -- `ok`
@@ -25,7 +25,7 @@ refusalRow number = refusedRow number []
 -- what a call on a slot answers
 unfoldable pub answerRow : Answer → List ℕ
 answerRow Done = acceptedRow (valuesOf Done)
-answerRow (Heard n) = acceptedRow (valuesOf (Heard n))
+answerRow (StillLacking n) = acceptedRow (valuesOf (StillLacking n))
 answerRow (Refused n) = refusedRow (numberOf (Refused n)) (valuesOf (Refused n))
 answerRow (RefusedWith n x) = refusedRow (numberOf (RefusedWith n x)) (valuesOf (RefusedWith n x))
 

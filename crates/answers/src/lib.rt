@@ -28,7 +28,7 @@ pub fn put_answer(answer: Answer, out: &mut [u8]) -> usize
 {
     match answer {
         Answer::Done => lines::put_bytes(b"ok\n", out, 0),
-        Answer::Heard(lacking) => {
+        Answer::StillLacking(lacking) => {
             let numbers = [lacking];
             put_told(b"ok\t", &numbers, out)
         }

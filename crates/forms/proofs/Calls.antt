@@ -14,7 +14,7 @@ use Rattle.laws.specs.Lists.{tab}
 use Rattle.laws.proofs.Tab.{tab-ext}
 use Rattle.segmentation.specs.Segmentation.{sizeOf}
 use Rattle.segmentation.specs.Sizes.{badSize}
-use Rattle.slots.specs.declared.Answer.the-variants.{Done, Heard, Refused}
+use Rattle.slots.specs.declared.Answer.the-variants.{Done, StillLacking, Refused}
 use Rattle.slots.specs.declared.Outcome.{Outcome}
 use Rattle.slots.specs.declared.State.{State}
 use Rattle.slots.specs.Answers.{isDone, unlessRefused}
@@ -69,7 +69,7 @@ module _ (state : State) (store : List ℕ) where
   unfolding receiveOutcome
   received-two slot terminal Q N v bits =
       same-outcome _ _ state _ _ (ap (λ (n : ℕ). receiveNumber state n slot terminal Q N v bits) long)
-      (λ z. ap (λ (n : ℕ). record { answer = Heard n; state = state })
+      (λ z. ap (λ (n : ℕ). record { answer = StillLacking n; state = state })
       (ap (lacking (state .blocks) slot (sizeAtHead state slot)) (receive-two state store slot terminal Q N v bits)
       ∙ lacking-two (state .blocks) slot (receiveStore state slot terminal Q N v bits store) (sizeAtHead state slot)))
 

@@ -10,7 +10,7 @@ use lib.ListN.{length, getD}
 use borrow.Author.Tests.{eq-eqb}
 use Rattle.segmentation.specs.Sizes.{badSize}
 use Rattle.codeword.proofs.Accepted.{given-bits}
-use Rattle.slots.specs.declared.Answer.the-variants.{Heard, Refused}
+use Rattle.slots.specs.declared.Answer.the-variants.{StillLacking, Refused}
 use Rattle.slots.specs.declared.Outcome.{Outcome}
 use Rattle.slots.specs.declared.State.{State}
 use Rattle.slots.specs.State.{storeLength}
@@ -72,11 +72,11 @@ module _ (state : State) (store : List ℕ) (slot terminal : ℕ) (xs : List Rec
         ∙ sym (met-append unheard (arrivals soft A xs r j) _)
 
     -- Receive answers how many data places are then undecided
-    pub receive-any : receiveOutcome state slot terminal (x .Q) (x .N) (x .version) (x .bits) store ≡ record { answer = Heard (undecided soft A (x ∷ xs)); state = state }
+    pub receive-any : receiveOutcome state slot terminal (x .Q) (x .N) (x .version) (x .bits) store ≡ record { answer = StillLacking (undecided soft A (x ∷ xs)); state = state }
     unfolding receiveOutcome
     receive-any =
         let w = receives state (length store) slot terminal (x .Q) (x .N) (x .version) (x .bits) came in
         let admitted : badSize A ≡ false = open-size state (w .sound) slot (w .below) (w .opened) .0 in
         accepted-is (receiveNumber state (length store) slot terminal (x .Q) (x .N) (x .version) (x .bits)) state _ came
-        ∙ ap (λ (n : ℕ). record { answer = Heard n; state = state })
+        ∙ ap (λ (n : ℕ). record { answer = StillLacking n; state = state })
         (count-any soft A admitted (x ∷ xs) (given-bits (x .bits) (w .given), given) (state .blocks) slot _ received-met)

@@ -12,7 +12,7 @@ use borrow.Author.Tests.{eqb-true}
 use Rattle.segmentation.specs.Segmentation.{blocks, sizeOf}
 use Rattle.segmentation.specs.Sizes.{badSize}
 use Rattle.slots.specs.declared.Answer.{Answer}
-use Rattle.slots.specs.declared.Answer.the-variants.{Heard, Refused}
+use Rattle.slots.specs.declared.Answer.the-variants.{StillLacking, Refused}
 use Rattle.slots.specs.declared.Head.{Head}
 use Rattle.slots.specs.declared.Outcome.{Outcome}
 use Rattle.slots.specs.declared.State.{State}
@@ -191,7 +191,7 @@ module _ (slot : ℕ) (state other : State) (store otherStore : List ℕ) (same 
       ∙ same-given _ _ state other _ _ (same-open link A) (λ z. refl)
       ∙ sym (ap (λ (o : Outcome). o .answer) (opening-outcome link other (length otherStore) slot terminal A)))
   answer-depends (receiving s terminal x) e =
-      rw e (same-given _ _ state other _ _ (same-receive terminal (x .Q) (x .N) (x .version) (x .bits)) (λ z. ap Heard (same-heard terminal x z)))
+      rw e (same-given _ _ state other _ _ (same-receive terminal (x .Q) (x .N) (x .version) (x .bits)) (λ z. ap StillLacking (same-heard terminal x z)))
   answer-depends (reading s terminal size) e = rw e (same-given _ _ state other _ _ (same-read terminal size) (λ z. let a = reads state (length store) slot terminal size z in same-answerAt (a .sound) (a .below) (a .opened)))
   answer-depends (streaming s terminal block size) e = rw e (same-given _ _ state other _ _ (same-stream terminal block size) (λ z. refl))
   answer-depends (closing s terminal) e = rw e (same-given _ _ state other _ _ (same-close terminal) (λ z. refl))

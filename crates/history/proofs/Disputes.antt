@@ -8,7 +8,7 @@ use Prim.Native.Nat.{ℕ, _+_}
 use lib.Dec.{eqb}
 use lib.ListN.{length, drop}
 use borrow.Author.Tests.{eq-eqb, ne-eqb, eqb-true}
-use Rattle.slots.specs.declared.Answer.the-variants.{Done, Heard}
+use Rattle.slots.specs.declared.Answer.the-variants.{Done, StillLacking}
 use Rattle.slots.specs.declared.Head.{Head}
 use Rattle.slots.specs.declared.Outcome.{Outcome}
 use Rattle.slots.specs.declared.State.{State}
@@ -147,7 +147,7 @@ module _ (S M : ℕ) (store₀ : List ℕ) (h : History) (past : List ℕ) (slot
 
   -- Receive answers how many data places are undecided, this reception among what was accepted
   pub reception-any : (x : Reception) → receiveNumber state (length store) slot terminal (x .Q) (x .N) (x .version) (x .bits) ≡ 0
-      → receiveOutcome state slot terminal (x .Q) (x .N) (x .version) (x .bits) store ≡ record { answer = Heard (undecided soft A (x ∷ accepted)); state = state }
+      → receiveOutcome state slot terminal (x .Q) (x .N) (x .version) (x .bits) store ≡ record { answer = StillLacking (undecided soft A (x ∷ accepted)); state = state }
   reception-any x came =
       let w = receives state (length store) slot terminal (x .Q) (x .N) (x .version) (x .bits) came in
       receive-any state store slot terminal accepted (given S M store₀ h past slot terminal)

@@ -13,7 +13,7 @@ use Rattle.segmentation.specs.Segmentation.{blocks}
 use Rattle.segmentation.specs.Sizes.{badSize}
 use Rattle.rate_matching.specs.SoftBuffer.{wholeShare}
 use Rattle.codeword.specs.Build.{badModulation, badLayers, badAllocation}
-use Rattle.slots.specs.declared.Answer.the-variants.{Done, Heard}
+use Rattle.slots.specs.declared.Answer.the-variants.{Done, StillLacking}
 use Rattle.slots.specs.declared.State.{State}
 use Rattle.slots.specs.State.{headAt, badShape}
 use Rattle.slots.specs.Answers.{numberOf, valuesOf, Lacking, isDone}
@@ -215,7 +215,7 @@ pub reception-undecided : (S M : ℕ) (store₀ : List ℕ) (h : History) (past 
     let store : List ℕ = storeAfter S M store₀ h past in
     receiveNumber state (length store) slot terminal (x .Q) (x .N) (x .version) (x .bits) ≡ 0
     → receiveOutcome state slot terminal (x .Q) (x .N) (x .version) (x .bits) store
-    ≡ record { answer = Heard (undecided (shareAtHead state slot) (sizeAtHead state slot) (x ∷ acceptedAfter S M store₀ h slot)); state = state }
+    ≡ record { answer = StillLacking (undecided (shareAtHead state slot) (sizeAtHead state slot) (x ∷ acceptedAfter S M store₀ h slot)); state = state }
 reception-undecided = disputing.reception-any
 
 -- Read, not refused for its arguments, answers 11 with that number where there is such a place, and writes nothing.
@@ -243,7 +243,7 @@ pub reception-counted : (S M : ℕ) (store₀ : List ℕ) (h : History) (past : 
     → True soft a x
     → receiveNumber state (length store) slot terminal (x .Q) (x .N) (x .version) (x .bits) ≡ 0
     → receiveOutcome state slot terminal (x .Q) (x .N) (x .version) (x .bits) store
-    ≡ record { answer = Heard (unsent soft (length a) (x ∷ accepted)); state = state }
+    ≡ record { answer = StillLacking (unsent soft (length a) (x ∷ accepted)); state = state }
 reception-counted = releasing.received-count
 
 -- How many data places there are: the block and its check, A + 24, and with more than one code block 24 for each of them.
@@ -476,7 +476,7 @@ enough-at-once = repeating.gives
 -- A reception counts for these from the moment it was answered with a count of places, wherever it stands among the calls after the opening.
 -- `after` and `before` are the calls later and earlier than it.
 pub reception-counts : (such : Reception → Type 0) (S M : ℕ) (store₀ : List ℕ) (opened before : History) (past : List ℕ) (slot terminal : ℕ) (x : Reception) (n : ℕ)
-    → answerTo (stateAfter S M store₀ (before ++ opened)) (storeAfter S M store₀ (before ++ opened) past) (receiving slot terminal x) ≡ Heard n
+    → answerTo (stateAfter S M store₀ (before ++ opened)) (storeAfter S M store₀ (before ++ opened) past) (receiving slot terminal x) ≡ StillLacking n
     → such x
     → (after : History)
     → Undisturbed S M (roomsLong S M store₀) slot (after ++ made (receiving slot terminal x) past before) opened

@@ -11,7 +11,7 @@ use lib.ListN.{length, drop}
 use Rattle.laws.specs.Bits.{AreBits}
 use Rattle.segmentation.specs.Segmentation.{blocks}
 use Rattle.segmentation.proofs.Segmentation.{in-range}
-use Rattle.slots.specs.declared.Answer.the-variants.{Done, Heard}
+use Rattle.slots.specs.declared.Answer.the-variants.{Done, StillLacking}
 use Rattle.slots.specs.declared.State.{State}
 use Rattle.slots.specs.Answers.{Lacking}
 use Rattle.slots.specs.State.{perBlock, storeLength, newState, headAt, badShape, badState}
@@ -97,10 +97,10 @@ module _ (S M : ℕ) (store₀ : List ℕ) (h : History) (past : List ℕ) (slot
     -- one more true transmission, accepted
     pub received-count : (x : Reception) → True soft a x → receiveNumber state (length store) slot terminal (x .Q) (x .N) (x .version) (x .bits) ≡ 0
         → receiveOutcome state slot terminal (x .Q) (x .N) (x .version) (x .bits) store
-        ≡ record { answer = Heard (unsent soft (length a) (x ∷ accepted)); state = state }
+        ≡ record { answer = StillLacking (unsent soft (length a) (x ∷ accepted)); state = state }
     received-count x true-one came =
         let w = receives state (length store) slot terminal (x .Q) (x .N) (x .version) (x .bits) came in
         let small = in-range (length a) (rw size-is at (open-size state (w .sound) slot (w .below) (w .opened) .0)) .1 in
         receive-any state store slot terminal accepted given (kept (w .sound) (w .long) (w .below) (w .opened)) x came
-        ∙ ap (λ (n : ℕ). record { answer = Heard n; state = state })
+        ∙ ap (λ (n : ℕ). record { answer = StillLacking n; state = state })
         (ap (λ (A : ℕ). undecided soft A (x ∷ accepted)) size-is ∙ true-undecided soft a small bits (x ∷ accepted) (true-one, true-all))

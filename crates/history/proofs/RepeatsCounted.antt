@@ -9,7 +9,7 @@ use native.Mathlib.Omega.{arith}
 use lib.Dec.{eqb}
 use lib.ListN.{length}
 use borrow.Author.Tests.{eq-eqb, eqb-true}
-use Rattle.slots.specs.declared.Answer.the-variants.{Heard, Refused}
+use Rattle.slots.specs.declared.Answer.the-variants.{StillLacking, Refused}
 use Rattle.slots.specs.declared.Outcome.{Outcome}
 use Rattle.slots.specs.declared.State.{State}
 use Rattle.slots.specs.Answers.{unlessRefused}
@@ -25,7 +25,7 @@ use Rattle.history.specs.Repeats.{Some}
 use Rattle.history.proofs.State.{length-lent, rooms-long, heads}
 
 -- a reception that is answered with a count was accepted
-received-number : (state : State) (store : List ℕ) (slot terminal : ℕ) (x : Reception) (n : ℕ) → answerTo state store (receiving slot terminal x) ≡ Heard n
+received-number : (state : State) (store : List ℕ) (slot terminal : ℕ) (x : Reception) (n : ℕ) → answerTo state store (receiving slot terminal x) ≡ StillLacking n
     → receiveNumber state (length store) slot terminal (x .Q) (x .N) (x .version) (x .bits) ≡ 0
 unfolding answerTo outcomeOf receiveOutcome unlessRefused
 received-number state store slot terminal x n e = go (eqb number 0) refl e
@@ -35,9 +35,9 @@ received-number state store slot terminal x n e = go (eqb number 0) refl e
 
     go : (b : Bool) → eqb number 0 ≡ b
         → cond {A = Outcome} b
-        (record { answer = Heard (lacking (state .blocks) slot (sizeAtHead state slot) (receiveStore state slot terminal (x .Q) (x .N) (x .version) (x .bits) store)); state = state })
+        (record { answer = StillLacking (lacking (state .blocks) slot (sizeAtHead state slot) (receiveStore state slot terminal (x .Q) (x .N) (x .version) (x .bits) store)); state = state })
         (record { answer = Refused number; state = state }) .answer
-        ≡ Heard n → number ≡ 0
+        ≡ StillLacking n → number ≡ 0
     go true t d = eqb-true number 0 t
     go false t d = let z : _≡_ {A = ℕ} 0 1 = cc in absurd (omega arith)
 
@@ -63,7 +63,7 @@ module _ (such : Reception → Type 0) where
     stays (m ∷ after) later u w = still-some _ _ slot (m .call) (acceptedIn S M n slot (after ++ later) h) (u .0) (stays after later (u .1) w)
 
   pub counts : (S M : ℕ) (store₀ : List ℕ) (h before : History) (past : List ℕ) (slot terminal : ℕ) (x : Reception) (n : ℕ)
-      → answerTo (stateAfter S M store₀ (before ++ h)) (storeAfter S M store₀ (before ++ h) past) (receiving slot terminal x) ≡ Heard n
+      → answerTo (stateAfter S M store₀ (before ++ h)) (storeAfter S M store₀ (before ++ h) past) (receiving slot terminal x) ≡ StillLacking n
       → such x
       → (after : History) → Undisturbed S M (roomsLong S M store₀) slot (after ++ made (receiving slot terminal x) past before) h
       → Some such (acceptedIn S M (roomsLong S M store₀) slot (after ++ made (receiving slot terminal x) past before) h)

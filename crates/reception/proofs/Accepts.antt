@@ -17,7 +17,7 @@ use Rattle.codeword.specs.Build.{badAllocation, badVersion}
 use Rattle.codeword.proofs.Accepted.{given-bits}
 use Rattle.slots.specs.declared.State.{State}
 use Rattle.slots.specs.declared.Outcome.{Outcome}
-use Rattle.slots.specs.declared.Answer.the-variants.{Heard}
+use Rattle.slots.specs.declared.Answer.the-variants.{StillLacking}
 use Rattle.slots.specs.State.{perBlock, roomLength, roomStart}
 use Rattle.slots.specs.Reception.{received}
 use Rattle.slots.specs.Reading.{lacking}
@@ -117,6 +117,6 @@ module _ {state : State} {slot Q N v : ℕ} {bits : List ℕ} (store : List ℕ)
     unfolding receiveStore
     stored = rw (← told, zero) after
 
-    pub answered : _≡_ {A = Outcome} (record { answer = Heard count; state = state }) (receiveOutcome state slot terminal Q N v bits store)
+    pub answered : _≡_ {A = Outcome} (record { answer = StillLacking count; state = state }) (receiveOutcome state slot terminal Q N v bits store)
     unfolding receiveOutcome receiveStore unlessRefused
-    answered = rw (← told, zero) (ap (λ (n : ℕ). record { answer = Heard n; state = state }) counted)
+    answered = rw (← told, zero) (ap (λ (n : ℕ). record { answer = StillLacking n; state = state }) counted)

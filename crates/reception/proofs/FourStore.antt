@@ -16,7 +16,7 @@ use Rattle.segmentation.specs.Segmentation.{blocks}
 use Rattle.codeword.specs.Build.{badAllocation, badVersion, badBits}
 use Rattle.slots.specs.declared.State.{State}
 use Rattle.slots.specs.declared.Outcome.{Outcome}
-use Rattle.slots.specs.declared.Answer.the-variants.{Heard, Refused}
+use Rattle.slots.specs.declared.Answer.the-variants.{StillLacking, Refused}
 use Rattle.slots.specs.Answers.{unlessRefused}
 use Rattle.slots.specs.Reading.{lacking}
 use Rattle.slots.specs.Calls.{ownerRules, sizeAtHead, shareAtHead, receiveNumber, receiveStore, receiveOutcome}
@@ -103,7 +103,7 @@ module _ {state : State} {slot Q N v : ℕ} {bits : List ℕ} (store : List ℕ)
           sym (form-back true (bytesBack state slot store last) below)
           ∙ ap (inForm true) (back ∙ stored (placesIn true store) is sized shared terminal told zero as-long has)
 
-      pub bytes-answered : _≡_ {A = Outcome} (record { answer = Heard count; state = state }) (receiveOutcome state slot terminal Q N v bits (placesIn true store))
+      pub bytes-answered : _≡_ {A = Outcome} (record { answer = StillLacking count; state = state }) (receiveOutcome state slot terminal Q N v bits (placesIn true store))
       bytes-answered = answered (placesIn true store) is sized shared terminal told zero as-long has
 
 -- ---- a refusal

@@ -44,7 +44,7 @@ pub fn receive(
     let to = from + room;
     let lacking = put_and_count(size, soft, q, n, version, bits, &mut store[from..to]);
     Outcome {
-        answer: Answer::Heard(lacking),
+        answer: Answer::StillLacking(lacking),
         state,
     }
 }

@@ -177,7 +177,7 @@ pub fn receive_packed(
     let to = from + room;
     let lacking = put_rooms(size, soft, q, n, version, bits, &mut store[from..to]);
     Outcome {
-        answer: Answer::Heard(lacking),
+        answer: Answer::StillLacking(lacking),
         state,
     }
 }

@@ -7,7 +7,7 @@ use Prim.Native.Nat.{ℕ}
 use lib.Dec.{eqb}
 use lib.ListN.{length}
 use Rattle.slots.specs.declared.Answer.{Answer}
-use Rattle.slots.specs.declared.Answer.the-variants.{Done, Heard, Refused, RefusedWith}
+use Rattle.slots.specs.declared.Answer.the-variants.{Done, StillLacking, Refused, RefusedWith}
 use Rattle.slots.specs.declared.State.{State}
 use Rattle.slots.specs.declared.Outcome.{Outcome}
 use Rattle.slots.specs.State.{newState}
@@ -52,7 +52,7 @@ receive-refused state slot terminal Q N v bits store h = let r = refused (receiv
 not-done : (a : Answer) → (numberOf a ≡ 0 → ⊥) → isDone a ≡ false
 unfolding numberOf isDone
 not-done Done h = absurd (h refl)
-not-done (Heard n) h = refl
+not-done (StillLacking n) h = refl
 not-done (Refused n) h = refl
 not-done (RefusedWith n x) h = refl
 

@@ -5,21 +5,21 @@ use mathlib.Core.List.{List, [], _∷_}
 use Prim.Native.Nat.{ℕ}
 use lib.Dec.{eqb}
 use Rattle.slots.specs.declared.Answer.{Answer}
-use Rattle.slots.specs.declared.Answer.the-variants.{Done, Heard, Refused, RefusedWith}
+use Rattle.slots.specs.declared.Answer.the-variants.{Done, StillLacking, Refused, RefusedWith}
 use Rattle.slots.specs.declared.Outcome.{Outcome}
 use Rattle.slots.specs.declared.State.{State}
 
 -- the number given back: 0 where the call is accepted
 unfoldable pub numberOf : Answer → ℕ
 numberOf Done = 0
-numberOf (Heard n) = 0
+numberOf (StillLacking n) = 0
 numberOf (Refused n) = n
 numberOf (RefusedWith n x) = n
 
 -- what is also returned
 unfoldable pub valuesOf : Answer → List ℕ
 valuesOf Done = []
-valuesOf (Heard n) = n ∷ []
+valuesOf (StillLacking n) = n ∷ []
 valuesOf (Refused n) = []
 valuesOf (RefusedWith n x) = x ∷ []
 
@@ -34,7 +34,7 @@ WrongBlock r = RefusedWith 16 r
 -- accepted, with nothing to tell but what was written
 unfoldable pub isDone : Answer → Bool
 isDone Done = true
-isDone (Heard n) = false
+isDone (StillLacking n) = false
 isDone (Refused n) = false
 isDone (RefusedWith n x) = false
 

@@ -13,7 +13,7 @@ use Rattle.codeword.specs.Build.{badAllocation, badVersion, badBits}
 use Rattle.codeword.specs.Downlink.{badBuffer}
 use Rattle.slots.specs.declared.Head.{Head}
 use Rattle.slots.specs.declared.State.{State}
-use Rattle.slots.specs.declared.Answer.the-variants.{Done, Heard}
+use Rattle.slots.specs.declared.Answer.the-variants.{Done, StillLacking}
 use Rattle.slots.specs.declared.Outcome.{Outcome}
 use Rattle.slots.specs.State.{storeLength, closedHead, openHead, newState, headAt, tooMany, badShape, badState}
 use Rattle.slots.specs.Room.{cleared}
@@ -110,7 +110,7 @@ unfoldable pub receiveOutcome : State → ℕ → ℕ → ℕ → ℕ → ℕ �
 receiveOutcome state slot terminal Q N v bits store =
     unlessRefused (receiveNumber state (length store) slot terminal Q N v bits) state
     (record {
-      answer = Heard (lacking (state .blocks) slot (sizeAtHead state slot) (receiveStore state slot terminal Q N v bits store));
+      answer = StillLacking (lacking (state .blocks) slot (sizeAtHead state slot) (receiveStore state slot terminal Q N v bits store));
       state = state;
     })
 

@@ -30,8 +30,8 @@ pub struct State {
 pub enum Answer {
     // accepted, with nothing to tell
     Done,
-    // an accepted reception: so many data places lack a bit
-    Heard(usize),
+    // an accepted reception: so many data places still lack a bit
+    StillLacking(usize),
     // a refusal, by its number
     Refused(u8),
     // a refusal that brings a number: 11 how many data places lack a bit, 16 which code block is wrong

@@ -132,7 +132,7 @@ fn is_done(answer: Answer) -> bool
 {
     match answer {
         Answer::Done => true,
-        Answer::Heard(_) => false,
+        Answer::StillLacking(_) => false,
         Answer::Refused(_) => false,
         Answer::RefusedWith(_, _) => false,
     }
