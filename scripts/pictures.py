@@ -221,6 +221,82 @@ def draw_circle_legend(picture, y):
                  "and 2 by turns.", size=12)
 
 
+# What each version sends when the circle is cut.
+
+STRIP = 224
+
+
+def draw_cuts(tables, folder):
+    picture = Picture(
+        700, "What each version sends when the circle is cut",
+        "For K = 40 and K = 6,144: the circle laid out as a strip, whole and cut at 64·R, 50·R and 32·R places, one strip a version, "
+        "with the places sent by the first K bits and by the next K, data and parity in two colours.")
+    picture.text(400, 56, "One code block without filler, the circle laid out from place 0 on. A transmission starts at place "
+                 "R·(2·⌈N_cb/(8·R)⌉·version + 2),", size=12, anchor="middle")
+    picture.text(400, 73, "goes to the right, passes over dummies, and goes on from place 0 when it meets N_cb.", size=12,
+                 anchor="middle")
+    for circle, x in zip(tables["circle"], (24, 424)):
+        k = circle["K"]
+        picture.text(x + 28, 106, f"K = {number(k)}, R = {circle['R']}", size=15, bold=True)
+        picture.text(x + 352, 106, "data places heard by", size=12, anchor="end")
+        for words, shift in (("K bits", 298), ("2·K bits", 352)):
+            picture.text(x + shift, 124, words, size=12, anchor="end")
+        cuts = groupby(of(tables["cut"], circle), lambda row: row["columns"])
+        for (columns, rows), y in zip(cuts, range(142, 700, 120)):
+            draw_cut(picture, kinds_of_places(tables, circle), columns, list(rows), x, y)
+    draw_cut_legend(picture, 634)
+    picture.save(folder, "cut-circle.svg")
+
+
+def draw_cut(picture, kinds, columns, rows, x, y):
+    """The strips of one cut, a version each, and how many data places each hears."""
+    places = rows[0]["places"]
+    picture.text(x + 28, y, f"N_cb = {columns}·R = {number(places)}" + (", the whole circle" if places == len(kinds) else ""),
+                 size=12, bold=True)
+    for first, second in zip(rows[::2], rows[1::2]):
+        top = y + 8 + 22 * first["version"]
+        picture.badge(x + 12, top + 8, first["version"], radius=8)
+        walked = [(place - first["start"]) % places for place in range(places)]
+        shades = ["first" if at < first["passed"] else "second" if at < second["passed"] else "rest" for at in walked]
+        draw_strip(picture, list(zip(kinds, shades)), len(kinds), x + 28, top)
+        start = x + 28 + STRIP * first["start"] / len(kinds)
+        picture.line(start, top - 2, start, top + 18, width=2)
+        for row, shift in ((first, 298), (second, 352)):
+            picture.text(x + shift, top + 13, number(row["heard"]), size=12, anchor="end")
+
+
+def draw_strip(picture, cells, whole, x, y):
+    """The cells of a strip in runs of like ones, dummies left white, and the frame of what is cut away."""
+    at = 0
+    for (kind, shade), run in groupby(cells):
+        length = len(list(run))
+        if kind != "dummy":
+            picture.rect(x + STRIP * at / whole, y, STRIP * length / whole, 16, tint(KINDS[kind], SHADES[shade]))
+        at += length
+    picture.rect(x, y, STRIP * at / whole, 16, "none", stroke=FAINT)
+    if at < whole:
+        end = x + STRIP * at / whole
+        for height in (y, y + 16):
+            picture.line(end, height, x + STRIP, height, colour=FAINT, dash="3 3")
+        picture.line(x + STRIP, y, x + STRIP, y + 16, colour=FAINT, dash="3 3")
+
+
+def draw_cut_legend(picture, y):
+    kinds = [("data", "data (stream 0)"), ("parity", "parity (streams 1, 2)"), ("tail", "tail bits")]
+    shades = [("first", "sent by the first K bits"), ("second", "by the next K bits"), ("rest", "by neither")]
+    for (kind, words), x in zip(kinds, (52, 232, 452)):
+        picture.rect(x, y - 12, 22, 14, KINDS[kind])
+        picture.text(x + 30, y, words, size=12)
+    picture.line(586, y - 15, 586, y + 5, width=2)
+    picture.text(596, y, "start of the version", size=12)
+    for (shade, words), x in zip(shades, (52, 292, 502)):
+        picture.rect(x, y + 12, 22, 14, tint(KINDS["data"], SHADES[shade]))
+        picture.rect(x + 24, y + 12, 22, 14, tint(KINDS["parity"], SHADES[shade]))
+        picture.text(x + 54, y + 24, words, size=12)
+    picture.text(52, y + 50, "Dashed: cut away, never sent. At 32·R stream 0 alone is left: any version brings the data with one turn "
+                 "of it.", size=12)
+
+
 # How many data places are heard against bits received.
 
 
@@ -478,6 +554,7 @@ def main():
         sys.exit("usage: independent figures | pictures.py FOLDER")
     tables = read_tables(sys.stdin.read())
     draw_circles(tables, sys.argv[1])
+    draw_cuts(tables, sys.argv[1])
     draw_curves(tables, sys.argv[1])
     draw_columns(tables, sys.argv[1])
     draw_repeats(tables, sys.argv[1])

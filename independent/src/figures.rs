@@ -14,10 +14,13 @@ pub const SIZES: [usize; 2] = [40, 6_144];
 /// The order of the versions where four transmissions come one after another.
 pub const ORDER: [usize; 4] = [0, 2, 3, 1];
 
+/// Where the picture of a cut circle cuts it: N_cb in columns of R places. The first is the whole, the last the least accepted.
+pub const CUTS: [usize; 4] = [96, 64, 50, 32];
+
 /// A stream's number and a place in it.
 type Label = (usize, usize);
 
-/// The circle of a code block of K bits without filler.
+/// The circle of a code block of K bits without filler, whole or cut.
 pub struct Circle {
     pub k: usize,
     places: Vec<Option<Label>>,
@@ -30,6 +33,11 @@ impl Circle {
     pub fn new(k: usize) -> Circle {
         let stream = |i| (0..k + 4).map(|place| Some((i, place))).collect();
         Circle { k, places: rate::circle(&[0, 1, 2].map(stream)) }
+    }
+
+    /// The same cut at N_cb = columns * R.
+    pub fn cut(&self, columns: usize) -> Circle {
+        Circle { k: self.k, places: self.places[..columns * self.rows()].to_vec() }
     }
 
     fn rows(&self) -> usize {
@@ -47,15 +55,18 @@ impl Circle {
     }
 
     fn start(&self, version: usize) -> usize {
-        rate::start(self.places.len(), version)
+        rate::start_in(self.places.len(), self.rows(), version)
     }
 
     fn sent(&self, version: usize, bits: usize) -> Vec<Label> {
         rate::walk(&self.places, self.start(version), bits)
     }
 
-    /// How many places the walk passes for so many bits, dummies among them.
+    /// How many places the walk passes for so many bits, dummies among them; all of them once it has gone round.
     fn passed(&self, version: usize, bits: usize) -> usize {
+        if bits >= self.places.iter().flatten().count() {
+            return self.places.len();
+        }
         let numbered: Vec<Option<usize>> =
             self.places.iter().enumerate().map(|(at, label)| label.map(|_| at)).collect();
         let start = self.start(version);
@@ -137,13 +148,14 @@ type Rows = fn(&Circle) -> Vec<String>;
 /// All tables.
 pub fn text() -> String {
     let circles = SIZES.map(Circle::new);
-    let tables: [(&str, Rows); 6] = [
+    let tables: [(&str, Rows); 7] = [
         ("circle\tK\tR\tplaces\tbits\tquarter", circle),
         ("part\tK\tfrom\tto\tholds", parts),
         ("sent\tK\tversion\tstart\tbits\tplaces\theard", sent),
         ("alone\tK\tversion\tbits\theard", alone),
         ("needed\tK\tversion\tbits", needed),
         ("together\tK\tversions\tbits\theard", together),
+        ("cut\tK\tcolumns\tplaces\tversion\tstart\tbits\tpassed\theard", cuts),
     ];
     let mut text = String::new();
     for (header, rows) in tables {
@@ -178,6 +190,20 @@ fn sent(c: &Circle) -> Vec<String> {
         format!("{version}\t{}\t{bits}\t{}\t{heard}", c.start(version), c.passed(version, bits))
     };
     (0..4).flat_map(|version| [row(version, c.k), row(version, 2 * c.k)]).collect()
+}
+
+/// The same on a circle that is cut.
+fn cuts(c: &Circle) -> Vec<String> {
+    let mut rows = Vec::new();
+    for columns in CUTS {
+        let cut = c.cut(columns);
+        for (version, bits) in (0..4).flat_map(|version| [(version, c.k), (version, 2 * c.k)]) {
+            let (start, passed) = (cut.start(version), cut.passed(version, bits));
+            let heard = heard_at(&cut.curve(&cut.sent(version, bits)), bits);
+            rows.push(format!("{columns}\t{}\t{version}\t{start}\t{bits}\t{passed}\t{heard}", cut.places.len()));
+        }
+    }
+    rows
 }
 
 fn alone(c: &Circle) -> Vec<String> {

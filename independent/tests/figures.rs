@@ -1,7 +1,7 @@
 //! The numbers of the pictures: known ones, and each curve against a count of its own.
 
 use independent::codeword::build;
-use independent::figures::{heard_at, text, Circle, ORDER, SIZES};
+use independent::figures::{heard_at, text, Circle, CUTS, ORDER, SIZES};
 use independent::replay::{run, Replay};
 use independent::xorshift;
 
@@ -83,6 +83,35 @@ fn circles_and_starts() {
         assert_eq!([bits_in(places), bits_in(places - 1)], [bits, bits - 1]);
     }
     assert_eq!(rows("sent").len(), 16);
+}
+
+#[test]
+fn cut_circles() {
+    assert_eq!(CUTS, [96, 64, 50, 32]);
+    let number = |row: &Vec<String>, at: usize| row[at].parse::<usize>().unwrap();
+    let (whole, cut): (Vec<_>, Vec<_>) = rows("cut").into_iter().partition(|row| row[1] == "96");
+    let without = |row: &Vec<String>| [0, 3, 4, 5, 6, 7].map(|at| row[at].clone()).to_vec();
+    assert_eq!(whole.iter().map(without).collect::<Vec<_>>(), rows("sent"));
+    assert_eq!(cut.len(), 2 * 3 * 4 * 2);
+    let circles = SIZES.map(held);
+    for row in &cut {
+        let [k, columns, places, version] = [0, 1, 2, 3].map(|at| number(row, at));
+        let [start, bits, passed, heard] = [4, 5, 6, 7].map(|at| number(row, at));
+        let r: usize = if k == 40 { 2 } else { 193 };
+        let step = match columns {
+            64 => 16,
+            50 => 14,
+            _ => 8,
+        };
+        assert_eq!((places, start), (columns * r, r * (step * version + 2)));
+        let holds = &circles[usize::from(k > 40)];
+        let counted = |kind: &str| (0..passed).filter(|at| holds[(start + at) % places] == kind).count();
+        assert_eq!(heard, counted("data"), "{row:?}");
+        let sent = passed - counted("dummy");
+        assert!(sent == bits || passed == places && sent < bits, "{row:?}");
+        // Stream 0 is all there: two turns of 32 * R bring it, whichever version comes.
+        assert!(columns > 32 || bits == k || heard == k);
+    }
 }
 
 #[test]
