@@ -1,78 +1,94 @@
--- Numbers in bytes: four stores over four bytes, and the loop over the six numbers of the face to C.
+-- Numbers in bytes: the loop over the bytes of one number, the loop over several numbers, and a number read in halves.
 -- Assumes nothing.
-use mathlib.Core.Path.{_≡_, refl, _∙_, ap}
-use mathlib.Core.Bool.{true, false}
+use mathlib.Core.Path.{_≡_, refl, sym, _∙_, ap}
 use mathlib.Core.List.{List, [], _∷_, _++_}
-use Prim.Native.Nat.{ℕ, _+_, _-_, _*_, _≤_, _<_}
+use Prim.Native.Nat.{ℕ, zero, suc, _+_, _-_, _*_, _/_, _%_, _^_, _≤_, _<_}
+use native.Mathlib.Nat.{sub-zero, mul-le-mul-right, pow-suc}
 use native.Mathlib.Omega.{arith}
 use lib.ListN.{length, drop, getD, set, drop-of-length-le}
-use borrow.Author.Tests.{lt-ltb, le-ltb}
 use borrow.Rule.Slice.PartMut.{putMid}
 use Rattle.laws.proofs.Writing as writing
 use Rattle.laws.proofs.Writing.{Writing}
-use Rattle.refusals.specs.Refusals.{firstOf}
-use Rattle.segmentation.specs.declared.Segments.{Segments}
-use Rattle.segmentation.specs.Sizes.{badSize, segmentsOf, sizesOf, sizesAnswer, valuesOf}
-use Rattle.face.specs.Face.{fourBytes, inBytes, sizesNumber, sizesBytes}
+use Rattle.face.specs.Numbers.{lowBytes, inBytes, numberFrom}
 
-pub four-stores : (xs : List ℕ) (a b c d : ℕ) → length xs ≡ 4 → set (set (set (set xs 0 a) 1 b) 2 c) 3 d ≡ a ∷ b ∷ c ∷ d ∷ []
-four-stores [] a b c d h = absurd (omega arith)
-four-stores (x ∷ []) a b c d h = absurd (omega arith)
-four-stores (x ∷ y ∷ []) a b c d h = absurd (omega arith)
-four-stores (x ∷ y ∷ z ∷ []) a b c d h = absurd (omega arith)
-four-stores (x ∷ y ∷ z ∷ u ∷ []) a b c d h = refl
-four-stores (x ∷ y ∷ z ∷ u ∷ v ∷ xs) a b c d h = absurd (omega arith)
+-- ---- one number over a slice
+
+-- `rest` is the number without the bytes before i
+pub record Lowering (number : ℕ) (out₀ out : List ℕ) (rest i : ℕ) : Type 0 where
+  pub within : i ≤ length out₀
+  pub written : Writing out₀ out i (lowBytes (length out₀ - i) rest) (lowBytes (length out₀) number)
+
+pub low-start : (number : ℕ) (out : List ℕ) → Lowering number out out number 0
+low-start number out = record { within = omega arith; written = writing.same (ap (λ (n : ℕ). lowBytes n number) (sym (sub-zero (length out)))) writing.start }
+
+module _ {number : ℕ} {out₀ out : List ℕ} {rest i : ℕ} (h : Lowering number out₀ out rest i) where
+  pub low-next : i < length out → Lowering number out₀ (set out i (rest % 256)) (rest / 256) (i + 1)
+  unfolding lowBytes
+  low-next more = record { within = omega (arith, h .written .long); written = writing.push more (writing.same (ap (λ (n : ℕ). lowBytes n rest) one) (h .written)) }
+    where
+      one : length out₀ - i ≡ suc (length out₀ - (i + 1))
+      one = omega (arith, h .written .long)
+
+  pub low-finish : length out ≤ i → out ≡ lowBytes (length out₀) number
+  unfolding lowBytes
+  low-finish end = writing.finish-all end (ap (λ (n : ℕ). lowBytes n rest) none) (h .written)
+    where
+      none : length out₀ - i ≡ 0
+      none = omega (arith, h .written .long)
+
+-- ---- numbers one after another
 
 -- the numbers from i on stand behind the bytes of those before
-pub record Putting (numbers out₀ out : List ℕ) (i at : ℕ) : Type 0 where
+pub record Putting (numbers : List ℕ) (width : ℕ) (out₀ out : List ℕ) (i at : ℕ) : Type 0 where
   pub within : i ≤ length numbers
-  pub place : at ≡ 4 * i
-  pub room : 4 * length numbers ≤ length out₀
-  pub written : Writing out₀ out at (inBytes (drop i numbers)) (inBytes numbers)
+  pub place : at ≡ i * width
+  pub room : length numbers * width ≤ length out₀
+  pub written : Writing out₀ out at (inBytes width (drop i numbers)) (inBytes width numbers)
 
-pub start : (numbers out : List ℕ) → 4 * length numbers ≤ length out → Putting numbers out out 0 0
-start numbers out h = record { within = omega arith; place = refl; room = h; written = writing.start }
+pub start : (numbers : List ℕ) (width : ℕ) (out : List ℕ) → length numbers * width ≤ length out → Putting numbers width out out 0 0
+start numbers width out h = record { within = omega arith; place = omega arith; room = h; written = writing.start }
 
-module _ {numbers out₀ out : List ℕ} {i at : ℕ} (h : Putting numbers out₀ out i at) where
-  pub fits : i < length numbers → at + 4 ≤ length out
-  fits more = omega (arith, h .place, h .room, h .written .long)
+module _ {numbers : List ℕ} {width : ℕ} {out₀ out : List ℕ} {i at : ℕ} (h : Putting numbers width out₀ out i at) where
+  pub fits : i < length numbers → at + width ≤ length out
+  fits more = omega (arith, mul-le-mul-right width more, h .place, h .room, h .written .long)
 
-  pub next : {part : List ℕ} → i < length numbers → part ≡ fourBytes (getD numbers i 0) → length part ≡ at + 4 - at
-      → Putting numbers out₀ (putMid at (at + 4 - at) out part) (i + 1) (at + 4)
-  next {part} more said long = record {
+  pub next : {part : List ℕ} {size : ℕ} → i < length numbers → part ≡ lowBytes size (getD numbers i 0) → size ≡ at + width - at → length part ≡ at + width - at
+      → Putting numbers width out₀ (putMid at (at + width - at) out part) (i + 1) (at + width)
+  next {part} {size} more said full long = record {
     within = omega arith;
     place = omega (arith, h .place);
     room = h .room;
-    written = writing.pushPart said (omega arith) (fits more) long (writing.same one-more (h .written));
+    written = writing.pushPart (said ∙ ap (λ (n : ℕ). lowBytes n (getD numbers i 0)) whole) (omega arith) (fits more) long (writing.same one-more (h .written));
   }
     where
-      one-more : inBytes (drop i numbers) ≡ fourBytes (getD numbers i 0) ++ inBytes (drop (i + 1) numbers)
+      whole : size ≡ width
+      whole = omega arith
+
+      one-more : inBytes width (drop i numbers) ≡ lowBytes width (getD numbers i 0) ++ inBytes width (drop (i + 1) numbers)
       one-more = unfold inBytes in rw (writing.drop-next numbers i more) refl
 
-pub finish : {numbers out₀ out : List ℕ} {i at : ℕ} → Putting numbers out₀ out i at → length out₀ ≤ 4 * length numbers → length numbers ≤ i
-    → out ≡ inBytes numbers
+pub finish : {numbers : List ℕ} {width : ℕ} {out₀ out : List ℕ} {i at : ℕ} → Putting numbers width out₀ out i at → length out₀ ≤ length numbers * width → length numbers ≤ i
+    → out ≡ inBytes width numbers
 unfolding inBytes
-finish {numbers} {out₀} {out} {i} {at} h full end =
-    writing.finish-all (omega (arith, h .place, h .within, h .written .long)) (ap inBytes (drop-of-length-le numbers end)) (h .written)
+finish {numbers} {width} {out₀} {out} {i} {at} h full end =
+    writing.finish-all (omega (arith, h .place, mul-le-mul-right width end, h .written .long)) (ap (inBytes width) (drop-of-length-le numbers end)) (h .written)
 
--- the six numbers of a segmentation
-abbrev pub six : Segments → List ℕ
-six s = s .blocks ∷ s .longs ∷ s .long ∷ s .shorts ∷ s .short ∷ s .filler ∷ []
+-- ---- reading
 
--- what zemrukste_sizes gives: refused with 1, refused with 5, and accepted
-pub refused-1 : (A : ℕ) (out : List ℕ) → badSize A ≡ true → (1 ≡ sizesNumber A (length out)) × (out ≡ sizesBytes A out)
-unfolding sizesNumber sizesBytes firstOf
-refused-1 A out e = (simp e, simp e)
+-- the first m bytes and the n after them
+pub split : (m n : ℕ) (bytes : List ℕ) (at : ℕ) → numberFrom (m + n) bytes at ≡ numberFrom m bytes at + 256 ^ m * numberFrom n bytes (at + m)
+unfolding numberFrom
+split zero n bytes at = ap (λ (k : ℕ). numberFrom k bytes at) none ∙ omega (arith, ap (numberFrom n bytes) here)
+  where
+    none : 0 + n ≡ n
+    none = omega arith
 
-pub refused-5 : (A : ℕ) (out : List ℕ) → badSize A ≡ false → length out < 24 → (5 ≡ sizesNumber A (length out)) × (out ≡ sizesBytes A out)
-unfolding sizesNumber sizesBytes firstOf
-refused-5 A out e short = (simp (e, lt-ltb (length out) 24 short), simp (e, lt-ltb (length out) 24 short))
+    here : at + 0 ≡ at
+    here = omega arith
+split (suc m) n bytes at = ap (λ (k : ℕ). numberFrom k bytes at) one ∙ rw (pow-suc 256 m) (omega (arith, rw there at (split m n bytes (at + 1))))
+  where
+    one : suc m + n ≡ suc (m + n)
+    one = omega arith
 
-pub accepted : (A : ℕ) (out : List ℕ) {s : Segments} {front : List ℕ} → badSize A ≡ false → 24 ≤ length out → s ≡ segmentsOf (A + 24)
-    → front ≡ inBytes (six s) → (0 ≡ sizesNumber A (length out)) × (front ++ drop 24 out ≡ sizesBytes A out)
-unfolding sizesNumber sizesBytes firstOf sizesAnswer valuesOf sizesOf segmentsOf
-accepted A out {s} {front} e enough told said = (
-  simp (e, le-ltb (length out) 24 enough),
-  simp (e, le-ltb (length out) 24 enough)
-      (ap (λ (l : List ℕ). l ++ drop 24 out) (said ∙ ap (λ (t : Segments). inBytes (six t)) told)),
-)
+    there : at + 1 + m ≡ at + suc m
+    there = omega arith

@@ -2,25 +2,17 @@
 -- Assumes nothing.
 use mathlib.Core.Bool.{cond}
 use mathlib.Core.List.{List, [], _∷_, _++_}
-use Prim.Native.Nat.{ℕ, _/_, _%_}
+use Prim.Native.Nat.{ℕ}
 use lib.Dec.{eqb, ltb}
 use lib.ListN.{length, drop}
 use Rattle.refusals.specs.Refusals.{Rule, rule, firstOf}
 use Rattle.segmentation.specs.Sizes.{badSize, sizesAnswer, valuesOf}
-
--- a number as four bytes, the lowest first
-unfoldable pub fourBytes : ℕ → List ℕ
-fourBytes x = x % 256 ∷ x / 256 % 256 ∷ x / 65536 % 256 ∷ x / 16777216 % 256 ∷ []
-
--- numbers one after another, four bytes each
-unfoldable pub inBytes : List ℕ → List ℕ
-inBytes [] = []
-inBytes (x ∷ xs) = fourBytes x ++ inBytes xs
+use Rattle.face.specs.Numbers.{inBytes}
 
 -- the number that zemrukste_sizes answers for A and an output of `room` bytes: 1, then 5 where the output is too short
 unfoldable pub sizesNumber : ℕ → ℕ → ℕ
 sizesNumber A room = firstOf (rule (badSize A) 1 ∷ rule (ltb room 24) 5 ∷ [])
 
--- the output afterwards: the six numbers over its first 24 bytes, or as it was
+-- the output afterwards: the six numbers, four bytes each, over its first 24 bytes, or as it was
 unfoldable pub sizesBytes : ℕ → List ℕ → List ℕ
-sizesBytes A out = cond (eqb (sizesNumber A (length out)) 0) (inBytes (valuesOf (sizesAnswer A)) ++ drop 24 out) out
+sizesBytes A out = cond (eqb (sizesNumber A (length out)) 0) (inBytes 4 (valuesOf (sizesAnswer A)) ++ drop 24 out) out

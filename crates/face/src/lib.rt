@@ -1,15 +1,17 @@
 // The face to C: what include/zemrukste.h declares, thin over the proved libraries.
+mod calls;
 mod control;
+mod numbers;
+mod state;
 
 ghost use mathlib.Core.List.{_++_};
 ghost use mathlib.Core.Path.{_≡_};
-ghost use Prim.Native.Nat.{_*_};
 ghost use lib.ListN.{length};
 ghost use Rattle.codeword.specs.Build.{buildNumber, buildOutput};
 ghost use Rattle.reports.specs.Calls.{reportBuildNumber, reportBuildOutput, partNumber, partOutput};
 ghost use Rattle.packing.specs.Change.{packNumber, packOutput, unpackNumber, unpackOutput};
 ghost use Rattle.codeword.specs.Downlink.{buildDownNumber, buildDownOutput};
-ghost use Rattle.face.specs.Face.{fourBytes, inBytes, sizesNumber, sizesBytes};
+ghost use Rattle.face.specs.Face.{sizesNumber, sizesBytes};
 
 // Build: 0, or the number of the refusal, which writes nothing.
 #[no_mangle]
@@ -90,8 +92,8 @@ pub extern "C" fn zemrukste_sizes(a: usize, out: &mut [u8]) -> u32
     if out.len() < 24 {
         return 5;
     }
-    let numbers = [s.blocks, s.longs, s.long, s.shorts, s.short, s.filler];
-    put_numbers(&numbers, &mut out[..24]);
+    let six = [s.blocks, s.longs, s.long, s.shorts, s.short, s.filler];
+    numbers::put_numbers(&six, 4, &mut out[..24]);
     0
 }
 
@@ -146,30 +148,4 @@ pub extern "C" fn zemrukste_unpack(m: usize, from: &[u8], to: &mut [u8]) -> u32
     ensures output { λ r. ⌜ now (to .exit) ≡ unpackOutput m (now (from .entry)) (now (to .entry)) ⌝ }
 {
     packing::unpack_room(m, from, to) as u32
-}
-
-// The numbers one after another, four bytes each.
-fn put_numbers(numbers: &[usize], out: &mut [u8])
-    requires { ⌜ 4 * length (now numbers) ≡ length (now out) ⌝ }
-    ensures { λ r. ⌜ now (out .exit) ≡ inBytes (now (numbers .entry)) ⌝ }
-{
-    let mut i = 0;
-    let mut at = 0;
-    while i < numbers.len() {
-        let end = at + 4;
-        put_number(numbers[i], &mut out[at..end]);
-        at = end;
-        i += 1;
-    }
-}
-
-// One number over the four bytes of `out`, the lowest first.
-fn put_number(number: usize, out: &mut [u8])
-    requires { ⌜ length (now out) ≡ 4 ⌝ }
-    ensures { λ r. ⌜ now (out .exit) ≡ fourBytes number ⌝ }
-{
-    out[0] = (number % 256) as u8;
-    out[1] = (number / 256 % 256) as u8;
-    out[2] = (number / 65536 % 256) as u8;
-    out[3] = (number / 16777216 % 256) as u8;
 }

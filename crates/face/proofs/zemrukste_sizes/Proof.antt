@@ -1,12 +1,13 @@
 -- `zemrukste_sizes` meets its contract: the two refusals, and the six numbers in the first 24 bytes.
 -- Assumes nothing.
+use native.Mathlib.Omega.{arith}
 use borrow.Author.Needs.{needs}
 use mathlib.Core.Path.{_≡_, sym, _∙_}
 use lib.ListN.{length}
 use lib.Seq.{length-take-le}
 use Rattle.laws.proofs.Parts.{front-count}
 use Rattle.codeword.proofs.Segmented.{Sized, sized, unsized}
-use Rattle.face.proofs.Bytes.{refused-1, refused-5, accepted}
+use Rattle.face.proofs.Six.{refused-1, refused-5, accepted}
 use Rattle.face.proofs.zemrukste_sizes.Statement.{statement}
 use Rattle.face.proofs.zemrukste_sizes.Tie as tie
 
@@ -34,7 +35,7 @@ slice-aggregate-put-numbers-2 c = front-count 24 (c .before .before .before .bef
 
 put-numbers-requires : tie.Need-put-numbers-requires
 put-numbers-requires c κs =
-    sym (length-take-le 24 (c .before .before .before .before .before .before .before .args .out .now) (c .before .before .if2 .left))
+    (omega arith, sym (length-take-le 24 (c .before .before .before .before .before .before .before .args .out .now) (c .before .before .if2 .left)))
 
 same-length : tie.Need-same-length
 same-length c = search needs

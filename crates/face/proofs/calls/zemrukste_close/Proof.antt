@@ -1,0 +1,32 @@
+-- `calls::zemrukste_close` meets its contract: Close on the state that the bytes stand for, and the head that it leaves.
+-- Assumes nothing.
+use Rattle.face.proofs.Told.{numbered, handed}
+use Rattle.face.proofs.Finished.{close-room}
+use borrow.Author.Needs.{needs}
+use Rattle.face.proofs.calls.zemrukste_close.Statement.{statement}
+use Rattle.face.proofs.calls.zemrukste_close.Tie as tie
+
+state-in-requires : tie.Need-state-in-requires
+state-in-requires c κs = search needs
+
+close-requires : tie.Need-close-requires
+close-requires c κs = search needs
+
+finish-requires : tie.Need-finish-requires
+finish-requires c κs =
+    let called = c .before in
+    close-room _ _ _ (rw (called .before .state-in .ensures) at (called .close .ensures))
+
+same-length : tie.Need-same-length
+same-length c = search needs
+
+returns : tie.Need-returns
+returns c =
+    let done = c .before .before in
+    let called = done .before .before in
+    let told = rw (called .before .state-in .ensures) at (called .close .ensures) in
+    (numbered told (done .finish .ensures .0), handed told _ _ (done .finish .ensures .1))
+
+pub zemrukste-close-spec : {M : Type 1} → statement M
+zemrukste-close-spec =
+    tie.close (tie.spec state-in-requires close-requires finish-requires same-length returns)

@@ -1,0 +1,33 @@
+-- `calls::zemrukste_read` meets its contract: Read on the state that the bytes stand for, and its answer in two numbers.
+-- Assumes nothing.
+use Rattle.face.proofs.Told.{numbered, valued}
+use borrow.Author.Needs.{needs}
+use Rattle.face.proofs.calls.zemrukste_read.Statement.{statement}
+use Rattle.face.proofs.calls.zemrukste_read.Tie as tie
+
+state-in-requires : tie.Need-state-in-requires
+state-in-requires c κs = search needs
+
+read-requires : tie.Need-read-requires
+read-requires c κs = search needs
+
+value-requires : tie.Need-value-requires
+value-requires c κs = search needs
+
+number-requires : tie.Need-number-requires
+number-requires c κs = search needs
+
+same-length : tie.Need-same-length
+same-length c = search needs
+
+returns : tie.Need-returns
+returns c =
+    let called = c .before .before .before .before .before in
+    let made = called .before .before .state-in .ensures in
+    let told = rw made at (called .read .ensures .0) in
+    (numbered told (c .number .ensures), (rw made at (called .read .ensures .1), valued told _ (c .before .value .ensures)))
+
+pub zemrukste-read-spec : {M : Type 1} → statement M
+zemrukste-read-spec =
+    tie.close
+    (tie.spec state-in-requires read-requires value-requires number-requires same-length returns)

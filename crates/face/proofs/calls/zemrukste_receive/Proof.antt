@@ -1,0 +1,39 @@
+-- `calls::zemrukste_receive` meets its contract: Receive on the state that the bytes stand for, and its answer in two numbers.
+-- Assumes nothing.
+use Rattle.face.proofs.Told.{numbered, valued}
+use borrow.Author.Needs.{needs}
+use Rattle.face.proofs.calls.zemrukste_receive.Statement.{statement}
+use Rattle.face.proofs.calls.zemrukste_receive.Tie as tie
+
+state-in-requires : tie.Need-state-in-requires
+state-in-requires c κs = search needs
+
+receive-requires : tie.Need-receive-requires
+receive-requires c κs = search needs
+
+value-requires : tie.Need-value-requires
+value-requires c κs = search needs
+
+number-requires : tie.Need-number-requires
+number-requires c κs = search needs
+
+same-length : tie.Need-same-length
+same-length c = search needs
+
+returns : tie.Need-returns
+returns c =
+    let called = c .before .before .before .before .before in
+    let made = called .before .before .state-in .ensures in
+    let told = rw made at (called .receive .ensures .0) in
+    (numbered told (c .number .ensures), (rw made at (called .receive .ensures .1), valued told _ (c .before .value .ensures)))
+
+pub zemrukste-receive-spec : {M : Type 1} → statement M
+zemrukste-receive-spec =
+    tie.close
+    (tie.spec
+    state-in-requires
+    receive-requires
+    value-requires
+    number-requires
+    same-length
+    returns)

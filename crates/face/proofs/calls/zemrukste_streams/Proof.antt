@@ -1,0 +1,28 @@
+-- `calls::zemrukste_streams` meets its contract: Streams on the state that the bytes stand for.
+-- Assumes nothing.
+use Rattle.face.proofs.Told.{numbered}
+use borrow.Author.Needs.{needs}
+use Rattle.face.proofs.calls.zemrukste_streams.Statement.{statement}
+use Rattle.face.proofs.calls.zemrukste_streams.Tie as tie
+
+state-in-requires : tie.Need-state-in-requires
+state-in-requires c κs = search needs
+
+streams-requires : tie.Need-streams-requires
+streams-requires c κs = search needs
+
+number-requires : tie.Need-number-requires
+number-requires c κs = search needs
+
+same-length : tie.Need-same-length
+same-length c = search needs
+
+returns : tie.Need-returns
+returns c =
+    let called = c .before .before .before in
+    let made = called .before .before .state-in .ensures in
+    (numbered (rw made at (called .streams .ensures .0)) (c .number .ensures), rw made at (called .streams .ensures .1))
+
+pub zemrukste-streams-spec : {M : Type 1} → statement M
+zemrukste-streams-spec =
+    tie.close (tie.spec state-in-requires streams-requires number-requires same-length returns)
