@@ -20,7 +20,7 @@ PAGES = ["*/proofs/Promises.antt", "statements/proofs/*.antt", "sums/proofs/*.an
 ]
 WORD = re.compile(r"[^\s(){}\[\],;.⌜⌝→λ]+")
 IMPORT = re.compile(r"^(?:ghost )?use Rattle·(\w+)(?:·specs)?\.specs\.([\w.]+?)(?:\.the-variants)?\.\{([^}]*)\}", re.M)
-FUNCTION = re.compile(r"^pub (?:extern \"C\" )?fn (\w+)(.*?)^\{", re.M | re.S)
+FUNCTION = re.compile(r"^pub (extern \"C\" )?fn (\w+)(.*?)^\{", re.M | re.S)
 WRONG = [
     ("(a: usize) -> usize\n", "nothing is said of the answer"),
     ("(a: usize) -> usize\n    requires { ⌜ a ≤ 5 ⌝ }\n    ensures { λ r. ⌜ r ≡ f a ⌝ }\n", "it asks something of the caller"),
@@ -38,7 +38,7 @@ def text_of(path):
 
 
 def public_functions(crate):
-    """Of each function that is public out of a crate: its file, the file's text, its name, and what stands before its body."""
+    """Of each function that is public out of a crate, an export among them: its file, the file's text, its name, and what stands before its body."""
     src = crate / "src"
     root = src / ("lib.rt" if (src / "lib.rt").exists() else "main.rt")
     text = text_of(root)
@@ -47,8 +47,8 @@ def public_functions(crate):
     for path in sorted(src.glob("*.rt")):
         code = text_of(path)
         for m in FUNCTION.finditer(code):
-            if path in whole or m.group(1) in handed_on:
-                yield path, code, m.group(1), m.group(2)
+            if m.group(1) or path in whole or m.group(2) in handed_on:
+                yield path, code, m.group(2), m.group(3)
 
 
 # ---- single outcomes by the form of the contracts
