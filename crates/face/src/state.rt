@@ -145,7 +145,7 @@ pub(crate) fn number(answer: Answer) -> u32
 {
     match answer {
         Answer::Done => 0,
-        Answer::Heard(_) => 0,
+        Answer::StillLacking(_) => 0,
         Answer::Refused(number) => number as u32,
         Answer::RefusedWith(number, _) => number as u32,
     }
@@ -157,7 +157,7 @@ pub(crate) fn value(answer: Answer, before: usize) -> usize
 {
     match answer {
         Answer::Done => before,
-        Answer::Heard(value) => value,
+        Answer::StillLacking(value) => value,
         Answer::Refused(_) => before,
         Answer::RefusedWith(_, value) => value,
     }

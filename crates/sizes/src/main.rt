@@ -2,6 +2,7 @@
 ghost use Prim.Native.Nat.{_≤_};
 ghost use lib.ListN.{length};
 ghost use Rattle.lines.specs.Text.{rowRoom};
+use libc::STDERR_FILENO;
 use libc::STDIN_FILENO;
 use libc::STDOUT_FILENO;
 
@@ -11,9 +12,19 @@ fn main() {
     let count = io::read_full(STDIN_FILENO, &mut text);
     let mut out = io::large_buffer();
     let header = lines::put_header(&mut out);
-    if io::write_all(STDOUT_FILENO, &out[..header]) {
-        print_rows(&text[..count], &mut out);
+    if !io::write_all(STDOUT_FILENO, &out[..header]) {
+        tell_lost();
+        return;
     }
+    print_rows(&text[..count], &mut out);
+}
+
+// A program has no exit status of its own: so that a run whose output is lost does not look whole, it says so.
+fn tell_lost() {
+    io::write_all(
+        STDERR_FILENO,
+        b"sizes: the output can't be written; rows are missing\n",
+    );
 }
 
 // Prints the row of each line of the text, as many at a time as surely fit in out.
@@ -25,6 +36,7 @@ fn print_rows(text: &[u8], out: &mut [u8])
         let progress = lines::sizes_rows(text, next, out);
         let written = progress.written;
         if !io::write_all(STDOUT_FILENO, &out[..written]) {
+            tell_lost();
             return;
         }
         next = progress.next;

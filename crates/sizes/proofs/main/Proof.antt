@@ -43,6 +43,12 @@ slice-aggregate-write-all c = sym (length-take-le _ _ (header-within (c .before)
 write-all-requires : tie.Need-write-all-requires
 write-all-requires c κs = tt
 
+tell-lost-requires : tie.Need-tell-lost-requires
+tell-lost-requires c κs = tt
+
+returns : tie.Need-returns
+returns c = tt
+
 array-share-prefix-text : tie.Need-array-share-prefix-text
 array-share-prefix-text c = c .before .before .before .before .before .before .before .before .read-full .ensures .0
 
@@ -54,9 +60,6 @@ slice-aggregate-print-rows-2 c = c .before .before .before .before .before .befo
 
 print-rows-requires : tie.Need-print-rows-requires
 print-rows-requires c κs = omega (arith, c .before .before .before .before .before .before .put-header .kept .0, c .before .before .before .before .before .before .before .before .large-buffer2 .ensures)
-
-returns : tie.Need-returns
-returns c = tt
 
 returns-2 : tie.Need-returns-2
 returns-2 c = tt
@@ -74,9 +77,10 @@ main-spec =
     array-share-prefix-out
     slice-aggregate-write-all
     write-all-requires
+    tell-lost-requires
+    returns
     array-share-prefix-text
     slice-aggregate-print-rows
     slice-aggregate-print-rows-2
     print-rows-requires
-    returns
     returns-2)

@@ -42,8 +42,11 @@ slice-aggregate-write-all c = sym (length-take-le _ _ (within (c .before)))
 write-all-requires : tie.Need-write-all-requires Inv-loop μ-loop
 write-all-requires c κs = tt
 
+tell-lost-requires : tie.Need-tell-lost-requires Inv-loop μ-loop
+tell-lost-requires c κs = tt
+
 same-length : tie.Need-same-length Inv-loop μ-loop
-same-length c = c .before .before .before .before .before .sizes-rows .kept .1 .1 .0 ∙ c .before .before .before .before .before .before .before .before .loop .inv
+same-length c = c .before .before .before .before .before .before .sizes-rows .kept .1 .1 .0 ∙ c .before .before .before .before .before .before .before .before .before .loop .inv
 
 returns : tie.Need-returns Inv-loop μ-loop
 returns c = tt
@@ -76,6 +79,7 @@ print-rows-spec =
     slice-reshare-prefix-write-all
     slice-aggregate-write-all
     write-all-requires
+    tell-lost-requires
     same-length
     returns
     loop-less
