@@ -220,11 +220,11 @@ module _ {state : State} {store : List ℕ} {slot terminal r : ℕ} {out : List 
       f-is : f ≡ fillerOf (A + 24) r
       f-is = filled ∙ filler-told A r told-is (fitting-good fits)
 
-      pub three-needs : (f ≤ k + 4) × (3 * (k + 4) ≤ length out) × Stretch (length (midOf start (start + perBlock - start) store)) (k + 4) 0 0 (k + 4)
+      pub three-needs : (f ≤ k + 4) × (3 * (k + 4) ≤ length out) × Stretch (length (midOf start (start + perBlock - start) store)) (k + 4) 2 0 (k + 4)
       three-needs = rw (k-is, f-is) (
         omega (arith, filler-below A (fitting-good fits) r),
         ample,
-        stretch A (fitting-good fits) r 0 0 (sizeOf (A + 24) r + 4) (omega arith) (omega arith) (omega (arith, length-mid start (start + perBlock) store circle-within)),
+        stretch A (fitting-good fits) r 2 0 (sizeOf (A + 24) r + 4) (omega arith) (omega arith) (omega (arith, length-mid start (start + perBlock) store circle-within)),
       )
 
       pub streams-told : {out′ : List ℕ} → out′ ≡ streamsOn (midOf start (start + perBlock - start) store) (k + 4) f ++ drop (3 * (k + 4)) out

@@ -11,10 +11,9 @@ use Rattle.segmentation.specs.Segmentation.{checkLength, blocks, sizeOf, filler
 use Rattle.segmentation.specs.Sizes.{badSize, segmentsOf, segmentsFor, noSegments}
 use Rattle.segmentation.proofs.Segmentation.{in-range, blocks-most, row-below, size-row}
 use Rattle.segmentation.proofs.CodeBlocks.{filler-within}
-use Rattle.rate_matching.specs.SubBlocks.{rows}
-use Rattle.rate_matching.specs.Circle.{circleLength}
 use Rattle.slots.specs.State.{perBlock}
 use Rattle.reading.specs.Circle.{Streams, Stretch}
+use Rattle.reading.proofs.Rows.{reach-most}
 
 -- ---- a block of A bits, A in range
 
@@ -36,8 +35,7 @@ module _ (A : ℕ) (admitted : badSize A ≡ false) where
 
   -- n places of stream s from place i on
   pub stretch : (r s i n : ℕ) {long : ℕ} → s < 3 → i + n ≤ sizeOf (A + 24) r + 4 → perBlock ≤ long → Stretch long (sizeOf (A + 24) r + 4) s i n
-  unfolding circleLength rows
-  stretch r s i n u h l = record { sized = streams r; stream = u; within = h; room = omega (arith, l, streams r .most) }
+  stretch r s i n u h l = record { sized = streams r; stream = u; within = h; room = omega (arith, l, reach-most s (streams r .most)) }
 
 -- ---- the segmentation s of a block of A bits, nothing where A is out of range
 

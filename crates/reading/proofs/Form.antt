@@ -1,20 +1,20 @@
 -- A code block's circle from a room of either form, 02 E7: lent from the room itself, or unpacked from its bytes.
 -- Assumes nothing.
 use mathlib.Core.Path.{_≡_, refl, sym, _∙_, ap, ap₂}
-use mathlib.Core.Bool.{Bool, true, false, cond, not}
-use mathlib.Core.List.{List, [], _∷_, _++_, append-nil}
+use mathlib.Core.Bool.{Bool, true, false, cond, not, _&&_}
+use mathlib.Core.List.{List, [], _∷_, _++_}
 use Prim.Native.Nat.{ℕ, _+_, _-_, _*_, _/_, _≤_, _<_, min}
 use native.Mathlib.Nat.{add-sub-cancel-left}
 use native.Mathlib.Omega.{arith}
 use lib.Dec.{ltb}
-use lib.ListN.{length, take, drop, drop-of-length-le}
+use lib.ListN.{length, getD, take, drop, List·getD-append}
+use lib.Seq.{getD-take, getD-drop}
 use borrow.Rule.Slice.PartMut.{midOf}
-use Rattle.laws.specs.Lists.{tabFrom}
-use Rattle.laws.proofs.Parts.{length-mid}
+use Rattle.laws.specs.Lists.{tab, tabFrom}
+use Rattle.laws.proofs.Parts.{length-mid, getD-mid}
+use Rattle.laws.proofs.Tab.{tabFrom-ext, tab-ext}
 use Rattle.refusals.specs.Refusals.{rule}
 use Rattle.segmentation.specs.Segmentation.{blocks, sizeOf}
-use Rattle.rate_matching.specs.SubBlocks.{rows}
-use Rattle.rate_matching.specs.Circle.{circleLength}
 use Rattle.slots.specs.declared.State.{State}
 use Rattle.slots.specs.State.{perBlock}
 use Rattle.slots.specs.Calls.{ownerRules, sizeAtHead, readNumber, streamsNumber}
@@ -22,8 +22,12 @@ use Rattle.packing.specs.Packing.{unpacked, unpackedOver}
 use Rattle.packing.specs.Store.{placesAByte, bytesABlock, placesIn, placesAsked}
 use Rattle.packing.proofs.Forms.{length-unpacked}
 use Rattle.packing.proofs.Stores.{places-are, places-mid, asked-enough}
-use Rattle.reading.specs.Circle.{keptOn, Stretch}
+use Rattle.rate_matching.specs.SubBlocks.{rows}
+use Rattle.rate_matching.specs.Circle.{circleLength}
+use Rattle.rate_matching.specs.Places.{placeNumber}
+use Rattle.reading.specs.Circle.{keptOn, shown, streamOn, streamsOn, Streams, reachOf, Stretch}
 use Rattle.reading.specs.inner.Form.{circleAt, Unpacks, Circles}
+use Rattle.reading.proofs.Rows.{place-there, reach-most, reach-last}
 
 -- the numbers of either form
 four-slim : bytesABlock true ≡ 4632
@@ -86,23 +90,12 @@ circle-places four r room h =
     ∙ ap₂ (λ (a b : ℕ). midOf a (b - a) (placesIn four room)) (times four r) (longer four r)
     ∙ sym (circle-mid r (placesIn four room))
 
--- a buffer in which all of the bytes were unpacked
-pub unpacked-whole : (part circle : List ℕ) {circle′ : List ℕ} → length circle ≡ 4 * length part
-    → circle′ ≡ unpackedOver (min (length part) (length circle / 4)) part circle → circle′ ≡ placesIn true part
-unfolding unpackedOver placesIn
-unpacked-whole part circle {circle′} e o =
-    o
-    ∙ ap (λ (n : ℕ). unpacked n part ++ drop (4 * n) circle) all
-    ∙ ap (λ (l : List ℕ). unpacked (length part) part ++ l) (drop-of-length-le circle {i = 4 * length part} (omega arith))
-    ∙ append-nil (unpacked (length part) part)
-  where
-    all : min (length part) (length circle / 4) ≡ length part
-    all = omega arith
-
 -- the places of a stretch lie on any circle of enough places
 pub stretch-on : {long long′ D s i n : ℕ} → Stretch long D s i n → perBlock ≤ long′ → Stretch long′ D s i n
-unfolding circleLength rows
-stretch-on w h = record { sized = w .sized; stream = w .stream; within = w .within; room = omega (arith, h, w .sized .most) }
+stretch-on {s = s} w h = record { sized = w .sized; stream = w .stream; within = w .within; room = omega (arith, h, reach-most s (w .sized .most)) }
+
+pub stretch-in : {long long′ D s i n : ℕ} → Stretch long D s i n → reachOf D s ≤ long′ → Stretch long′ D s i n
+stretch-in w h = record { sized = w .sized; stream = w .stream; within = w .within; room = h }
 
 pub plain-long : {four : Bool} → four ≡ false → bytesABlock four ≡ perBlock
 unfolding bytesABlock
@@ -110,7 +103,7 @@ plain-long f = rw f
 
 -- ---- a code block's part is lent
 
-module _ {four : Bool} {r : ℕ} {room circle : List ℕ} (w : Circles four r room circle) {long : ℕ} (e : long ≡ bytesABlock four) where
+module _ {four : Bool} {needed r : ℕ} {room circle : List ℕ} (w : Circles four needed r room circle) {long : ℕ} (e : long ≡ bytesABlock four) where
   pub part-within : r * long + long ≤ length room
   part-within = rw e (bytes-there four r room (w .enough))
 
@@ -125,23 +118,82 @@ unfolding placesIn
 plain-is f l = rw f
 
 -- where the form is plain the part is the circle
-pub plain-circle : {four : Bool} {r : ℕ} {room circle : List ℕ} (w : Circles four r room circle) {long : ℕ} → long ≡ bytesABlock four → four ≡ false
+pub plain-circle : {four : Bool} {needed r : ℕ} {room circle : List ℕ} (w : Circles four needed r room circle) {long : ℕ} → long ≡ bytesABlock four → four ≡ false
     → midOf (r * long) (r * long + long - r * long) room ≡ circleAt r (placesIn four room)
 plain-circle w e f = sym (plain-is f _) ∙ part-places w e
 
--- where it is packed the buffer is, once the part is unpacked
-pub packed-circle : {four : Bool} {r : ℕ} {room circle circle′ : List ℕ} (w : Circles four r room circle) {long : ℕ} → long ≡ bytesABlock four → four ≡ true
-    → circle′ ≡ unpackedOver (min (length (midOf (r * long) (r * long + long - r * long) room)) (length circle / 4)) (midOf (r * long) (r * long + long - r * long) room) circle
-    → circle′ ≡ circleAt r (placesIn four room)
-unfolding bytesABlock
-packed-circle {four} {r} {room} {circle} {circle′} w {long} e f o =
-    unpacked-whole part circle whole o ∙ rw (← f) (part-places w e)
-  where
-    part : List ℕ
-    part = midOf (r * long) (r * long + long - r * long) room
+-- where it is packed, n of its bytes are unpacked over the front of the buffer, which then has the first 4·n places of the circle
+module _ {four : Bool} {needed r n : ℕ} {room circle : List ℕ} (w : Circles four needed r room circle) (f : four ≡ true) {long : ℕ} (e : long ≡ bytesABlock four)
+    (few : n ≤ 4632) (fits : 4 * n ≤ length circle) where
+  abbrev front : List ℕ
+  front = midOf (r * long) (r * long + n - r * long) room
 
-    whole : length circle ≡ 4 * length part
-    whole = w .unpacks f ∙ ap (λ (n : ℕ). 4 * n) (sym (part-long w e ∙ ap bytesABlock f))
+  slim : long ≡ 4632
+  slim = e ∙ ap bytesABlock f ∙ four-slim
+
+  pub front-within : r * long + n ≤ length room
+  front-within = omega (arith, part-within w e, slim)
+
+  front-long : length front ≡ n
+  front-long = length-mid (r * long) (r * long + n) room front-within ∙ add-sub-cancel-left (r * long) n
+
+  front-places : unpacked n front ≡ midOf (r * perBlock) (4 * n) (placesIn true room)
+  unfolding placesIn
+  front-places =
+      ap (λ (m : ℕ). unpacked m front) (sym front-long)
+      ∙ places-mid true (r * long) (r * long + n) room (omega arith) front-within
+      ∙ ap₂ (λ (a k : ℕ). midOf a k (unpacked (length room) room)) starts counts
+    where
+      starts : placesAByte true * (r * long) ≡ r * perBlock
+      starts = rw (four-a-byte, slim) (omega arith)
+
+      counts : placesAByte true * (r * long + n) - placesAByte true * (r * long) ≡ 4 * n
+      counts = rw four-a-byte (omega arith)
+
+  front-at : {circle′ : List ℕ} → circle′ ≡ unpackedOver (min (length front) (length circle / 4)) front circle → (p : ℕ) → p < 4 * n
+      → getD circle′ p 0 ≡ getD (circleAt r (placesIn four room)) p 0
+  unfolding unpackedOver circleAt
+  front-at o p h =
+      ap (λ (l : List ℕ). getD l p 0) (o ∙ ap (λ (m : ℕ). unpacked m front ++ drop (4 * m) circle) all)
+      ∙ List·getD-append (unpacked n front) (drop (4 * n) circle) 0 p (omega (arith, length-unpacked n front))
+      ∙ ap (λ (l : List ℕ). getD l p 0) front-places
+      ∙ getD-mid (r * perBlock) (4 * n) (placesIn true room) p 0 h
+      ∙ sym (getD-take perBlock (drop (r * perBlock) (placesIn true room)) p 0 (omega arith) ∙ getD-drop (r * perBlock) (placesIn true room) p 0)
+      ∙ ap (λ (t : Bool). getD (take perBlock (drop (r * perBlock) (placesIn t room))) p 0) (sym f)
+    where
+      all : min (length front) (length circle / 4) ≡ n
+      all = omega (arith, front-long)
+
+  -- what a stream keeps that lies there
+  module _ {D : ℕ} (sized : Streams D) {circle′ : List ℕ} (o : circle′ ≡ unpackedOver (min (length front) (length circle / 4)) front circle) where
+    kept-front : (s i : ℕ) → reachOf D s ≤ 4 * n → s < 3 → i < D → keptOn circle′ D s i ≡ keptOn (circleAt r (placesIn four room)) D s i
+    unfolding keptOn
+    kept-front s i h u l = front-at o (placeNumber D s i) (omega (arith, place-there sized s i u l))
+
+    pub data-front : (i k : ℕ) → i + k ≤ D → reachOf D 0 ≤ 4 * n → tabFrom i k (keptOn circle′ D 0) ≡ tabFrom i k (keptOn (circleAt r (placesIn four room)) D 0)
+    data-front i k l h = tabFrom-ext i k _ _ (λ j a b. kept-front 0 j h (omega arith) (omega arith))
+
+    pub streams-front : (F : ℕ) → reachOf D 2 ≤ 4 * n → streamsOn circle′ D F ≡ streamsOn (circleAt r (placesIn four room)) D F
+    unfolding streamsOn streamOn reachOf
+    streams-front F h = ap₂ _++_ (one 0 (omega arith)) (ap₂ _++_ (one 1 (omega arith)) (one 2 (omega arith)))
+      where
+        one : (s : ℕ) → s < 3 → tab D (streamOn circle′ D F s) ≡ tab D (streamOn (circleAt r (placesIn four room)) D F s)
+        one s u = tab-ext D _ _ (λ i l. ap (λ (x : ℕ). cond (ltb s 2 && ltb i F) 0 (shown x)) (kept-front s i (omega (arith, reach-last D s, h)) u l))
+
+-- the bytes of stream 0, 8 a row, and those of the circle, 24 a row
+pub data-few : (k : ℕ) → Streams (k + 4) → 8 * ((k + 35) / 32) ≤ 1544
+data-few k w = omega (arith, w .most)
+
+pub data-reach : (k : ℕ) → reachOf (k + 4) 0 ≤ 4 * (8 * ((k + 35) / 32))
+unfolding reachOf rows
+data-reach k = omega arith
+
+pub circle-few : {d : ℕ} → Streams d → 24 * ((d + 31) / 32) ≤ 4632
+circle-few w = omega (arith, w .most)
+
+pub circle-reach : (d : ℕ) → reachOf d 2 ≤ 4 * (24 * ((d + 31) / 32))
+unfolding reachOf circleLength rows
+circle-reach d = omega arith
 
 -- ---- a slot's room is lent
 

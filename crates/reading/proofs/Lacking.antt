@@ -27,8 +27,9 @@ use Rattle.slots.specs.Room.{heard, byteOf}
 use Rattle.slots.specs.Reading.{keptAt, lacks, sumFrom, lackingIn, lacking}
 use Rattle.slots.proofs.PlaceBounds.{place-below}
 use Rattle.slots.proofs.Sums.{sumFrom-ext, sumFrom-shift, sumFrom-most}
-use Rattle.reading.specs.Circle.{keptOn, missing, missingAt, missingOn, countable, Streams, Stretch}
+use Rattle.reading.specs.Circle.{keptOn, missing, missingAt, missingOn, countable, Streams, reachOf, Stretch}
 use Rattle.reading.specs.Room.{roomFits}
+use Rattle.reading.proofs.Rows.{reach-last}
 use Rattle.reading.proofs.Sums.{Summing, start, next, finish, sumFrom-split}
 use Rattle.reading.proofs.ColumnSums.{inColumn, by-columns}
 use Rattle.reading.proofs.Bytes.{missing-le}
@@ -149,7 +150,7 @@ module _ {circle : List ℕ} {k f : ℕ} {p : List ℕ} where
       rows-few = (omega arith, omega arith, omega (arith, w .sized .most))
 
       pub column-within : j + b ≤ length circle
-      unfolding circleLength
+      unfolding reachOf
       column-within = omega (arith, column-there, rows-few, w .room)
 
       pub column-lent : length (midOf (j + a) (j + b - (j + a)) circle) ≤ 255
@@ -197,7 +198,7 @@ countable-told long K F t =
     let least = leb-true 40 K (d .1) in
     let most = leb-true K 6144 (d .0) in
     let bytes = eqb-true (K % 8) 0 (c .1) in
-    (low, record { sized = record { least = omega (arith, least); most = omega (arith, most); bytes = omega (arith, bytes) }; stream = omega arith; within = omega (arith, low); room = leb-true (circleLength (rows (K + 4))) long (a .1) })
+    (low, record { sized = record { least = omega (arith, least); most = omega (arith, most); bytes = omega (arith, bytes) }; stream = omega arith; within = omega (arith, low); room = omega (arith, reach-last (K + 4) 0, leb-true (circleLength (rows (K + 4))) long (a .1)) })
 
 pub countable-is : {long K F : ℕ} → F ≤ K → Streams (K + 4) → circleLength (rows (K + 4)) ≤ long → countable long K F ≡ true
 unfolding countable

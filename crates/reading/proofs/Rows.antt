@@ -2,9 +2,11 @@
 -- Stream 2's shift never wraps, since the streams of a code block always have dummies before them.
 -- Assumes nothing.
 use mathlib.Core.Path.{_≡_, sym, _∙_, ap}
+use mathlib.Core.Bool.{Bool, true, false, cond}
 use mathlib.Core.List.{List}
-use Prim.Native.Nat.{ℕ, zero, suc, _+_, _-_, _*_, _/_, _%_, _<_}
+use Prim.Native.Nat.{ℕ, zero, suc, _+_, _-_, _*_, _/_, _%_, _≤_, _<_}
 use native.Mathlib.Omega.{arith}
+use lib.Dec.{eqb, eqb·suc-zero}
 use lib.ListN.{getD, List·getD-map}
 use borrow.Author.Tests.{le-leb}
 use Rattle.laws.specs.Lists.{tab, tabFrom}
@@ -12,8 +14,9 @@ use Rattle.laws.proofs.Tab.{getD-tab, tabFrom-ext}
 use Rattle.rate_matching.specs.SubBlocks.{rows, dummies}
 use Rattle.rate_matching.specs.Circle.{circleLength}
 use Rattle.rate_matching.specs.Places.{plainPlace, shiftedPlace, placeNumber, placeOf, circlePlace, firstPlaces, longest, firstsWithin}
-use Rattle.rate_matching.proofs.Places.{dummies-add, once-round, place-on-circle}
-use Rattle.reading.specs.Circle.{keptOn, rowStep, placeBy, keptBy, Along, Streams, Stretch}
+use Rattle.rate_matching.proofs.Places.{dummies-add, place-lt, once-round, place-on-circle}
+use Rattle.slots.specs.State.{perBlock}
+use Rattle.reading.specs.Circle.{keptOn, rowStep, placeBy, keptBy, Along, Streams, reachOf, Stretch}
 
 -- q rows further by the plain rule
 plain-further : (R y q : ℕ) → plainPlace R (y + 32 * q) ≡ plainPlace R y + q
@@ -73,9 +76,32 @@ module _ {D : ℕ} (w : Streams D) where
   unfolding placeBy
   place-by s i u h = rw (first-at s (i % 32) (omega arith)) (sym (place-further s (i % 32) (i / 32) u (omega arith)) ∙ ap (placeNumber D s) (omega arith))
 
-  place-there : (s i : ℕ) → s < 3 → i < D → placeNumber D s i < circleLength (rows D)
-  unfolding placeOf
-  place-there s i u h = place-on-circle D (s, i) (record { stream = u; place = h })
+  first-there : (i : ℕ) → i < D → placeNumber D 0 i < 32 * rows D
+  unfolding placeNumber
+  first-there i h = place-lt (rows D) (dummies D + i) (omega (arith, dummies-add D))
+
+  pub place-there : (s i : ℕ) → s < 3 → i < D → placeNumber D s i < reachOf D s
+  unfolding placeOf reachOf
+  place-there zero i u h = first-there i h
+  place-there (suc s) i u h = rw (eqb·suc-zero s) (place-on-circle D (suc s, i) (record { stream = u; place = h }))
+
+-- no stream reaches past a room for one code block
+pub reach-most : {D : ℕ} (s : ℕ) → D ≤ longest → reachOf D s ≤ perBlock
+unfolding reachOf circleLength rows
+reach-most {D} s h = either (eqb s 0)
+  where
+    either : (t : Bool) → cond t (32 * rows D) (circleLength (rows D)) ≤ perBlock
+    either true = omega arith
+    either false = omega arith
+
+-- nor past the reach of stream 2
+pub reach-last : (D s : ℕ) → reachOf D s ≤ circleLength (rows D)
+unfolding reachOf circleLength
+reach-last D s = either (eqb s 0)
+  where
+    either : (t : Bool) → cond t (32 * rows D) (circleLength (rows D)) ≤ 96 * rows D
+    either true = omega arith
+    either false = omega arith
 
 -- the stretch of a stream lies on the circle
 pub along : {long D s i n : ℕ} → Stretch long D s i n → Along long (firstPlaces D s) (rowStep s) i n
@@ -95,3 +121,8 @@ kept-along {long} {D} {s} {i} {n} circle w =
 pub firsts-there : {long D s i n : ℕ} → Stretch long D s i n → firstsWithin D s ≡ firstPlaces D s
 unfolding firstsWithin
 firsts-there {long} {D} {s} w = simp (le-leb 32 D (omega (arith, w .sized .least)), le-leb D longest (w .sized .most), le-leb s 2 (omega (arith, w .stream)))
+
+-- where stream 2 lies, so does each
+pub any-stream : {long D s i n : ℕ} → Stretch long D 2 i n → s < 3 → Stretch long D s i n
+unfolding reachOf
+any-stream {long} {D} {s} w u = record { sized = w .sized; stream = u; within = w .within; room = omega (arith, reach-last D s, w .room) }

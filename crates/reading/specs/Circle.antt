@@ -78,12 +78,16 @@ pub record Streams (D : ℕ) : Type 0 where
   pub most : D ≤ longest
   pub bytes : D % 8 ≡ 4
 
--- stream s has the n places from place i on, and a list of `long` entries has the circle's places
+-- how far the places of stream s reach on the circle: stream 0 has the first 32·R, streams 1 and 2 the others
+unfoldable pub reachOf : ℕ → ℕ → ℕ
+reachOf D s = cond (eqb s 0) (32 * rows D) (circleLength (rows D))
+
+-- stream s has the n places from place i on, and a list of `long` entries has them
 pub record Stretch (long D s i n : ℕ) : Type 0 where
   pub sized : Streams D
   pub stream : s < 3
   pub within : i + n ≤ D
-  pub room : circleLength (rows D) ≤ long
+  pub room : reachOf D s ≤ long
 
 -- `long` entries have the circle of a code block of size K, a multiple of 8 from 40 to 6144, of which at most all are filler
 unfoldable pub countable : ℕ → ℕ → ℕ → Bool

@@ -15,7 +15,7 @@ ghost use Prim.Native.Nat.{_*_, _≤_};
 ghost use Rattle.slots.specs.State.{perBlock};
 ghost use Rattle.packing.specs.Store.{placesIn};
 ghost use Rattle.reading.specs.Circle.{streamsOn, Stretch};
-ghost use Rattle.reading.specs.inner.Form.{circleAt, Unpacks, Circles};
+ghost use Rattle.reading.specs.inner.Form.{circleAt, streamMost, Unpacks, Circles};
 ghost use Rattle.slots.specs.Calls.{readNumber, readOutcome, readOutput, streamsNumber, streamsOutcome, streamsOutput};
 
 // Read's refusals before the room is looked at, for a store of `room` bytes and an output of `size`.
@@ -47,7 +47,7 @@ pub fn read_packed(
     ensures { λ r. ⌜ r ≡ readOutcome state (placesIn true (now (store .entry))) slot terminal (length (now (out .entry))) ⌝ }
     ensures { λ r. ⌜ now (out .exit) ≡ readOutput state (placesIn true (now (store .entry))) slot terminal (now (out .entry)) ⌝ }
 {
-    let mut circle = [0u8; 18528];
+    let mut circle = [0u8; 6176];
     read_form(true, state, slot, terminal, store, &mut circle, out)
 }
 
@@ -61,7 +61,7 @@ fn read_form(
     circle: &mut [u8],
     out: &mut [u8],
 ) -> Outcome
-    requires { ⌜ Unpacks four (length (now circle)) ⌝ }
+    requires { ⌜ Unpacks four streamMost (length (now circle)) ⌝ }
     ensures { λ r. ⌜ r ≡ readOutcome state (placesIn four (now (store .entry))) slot terminal (length (now (out .entry))) ⌝ }
     ensures { λ r. ⌜ now (out .exit) ≡ readOutput state (placesIn four (now (store .entry))) slot terminal (now (out .entry)) ⌝ }
 {
@@ -111,7 +111,7 @@ fn streams_number(
 }
 
 // Writes the three runs of code block i of a store over the front of `out`, of streams of d places, the first f being filler: from the
-// store, or where it keeps four places a byte from `circle`, in which the code block is unpacked.
+// store, or where it keeps four places a byte from `circle`, in which its circle is unpacked: 96 places a row, 24 bytes.
 fn runs_of(
     four: bool,
     i: usize,
@@ -121,16 +121,17 @@ fn runs_of(
     circle: &mut [u8],
     out: &mut [u8],
 )
-    requires { ⌜ Circles four i (now store) (now circle) × (f ≤ d) × (3 * d ≤ length (now out)) × Stretch perBlock d 0 0 d ⌝ }
+    requires { ⌜ Circles four perBlock i (now store) (now circle) × (f ≤ d) × (3 * d ≤ length (now out)) × Stretch perBlock d 2 0 d ⌝ }
     ensures { λ _. ⌜ now (out .exit) ≡ streamsOn (circleAt i (placesIn four (now (store .entry)))) d f ++ drop (3 * d) (now (out .entry)) ⌝ }
 {
     let long = packing::bytes_a_block(four);
     let from = i * long;
-    let to = from + long;
     if four {
+        let to = from + 24 * ((d + 31) / 32);
         packing::unpack_places(&store[from..to], circle);
         circle::three_streams(circle, d, f, out);
     } else {
+        let to = from + long;
         circle::three_streams(&store[from..to], d, f, out);
     }
 }
@@ -178,7 +179,7 @@ fn streams_form(
     circle: &mut [u8],
     out: &mut [u8],
 ) -> Outcome
-    requires { ⌜ Unpacks four (length (now circle)) ⌝ }
+    requires { ⌜ Unpacks four perBlock (length (now circle)) ⌝ }
     ensures { λ r. ⌜ r ≡ streamsOutcome state (length (placesIn four (now (store .entry)))) slot terminal block (length (now (out .entry))) ⌝ }
     ensures { λ r. ⌜ now (out .exit) ≡ streamsOutput state (placesIn four (now (store .entry))) slot terminal block (now (out .entry)) ⌝ }
 {

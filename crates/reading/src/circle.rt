@@ -184,7 +184,7 @@ fn stream(circle: &[u8], d: usize, s: usize, f: usize, out: &mut [u8])
 
 // Writes the three runs of d bytes over the front of `out`.
 pub(crate) fn three_streams(circle: &[u8], d: usize, f: usize, out: &mut [u8])
-    requires { ⌜ (f ≤ d) × (3 * d ≤ length (now out)) × Stretch (length (now circle)) d 0 0 d ⌝ }
+    requires { ⌜ (f ≤ d) × (3 * d ≤ length (now out)) × Stretch (length (now circle)) d 2 0 d ⌝ }
     ensures { λ _. ⌜ now (out .exit) ≡ streamsOn (now (circle .entry)) d f ++ drop (3 * d) (now (out .entry)) ⌝ }
 {
     let mut at = 0;

@@ -18,7 +18,7 @@ ghost use Rattle.laws.specs.Lists.{tabFrom};
 ghost use Rattle.slots.specs.State.{perBlock};
 ghost use Rattle.packing.specs.Store.{placesIn};
 ghost use Rattle.reading.specs.Circle.{keptOn, Stretch};
-ghost use Rattle.reading.specs.inner.Form.{circleAt, Unpacks, Circles};
+ghost use Rattle.reading.specs.inner.Form.{circleAt, streamMost, Unpacks, Circles};
 ghost use Rattle.reading.specs.Room.{roomFits, roomOutput};
 
 // How many data places of a block of `a` bits lack a bit; 0 where `a` is out of range or the room is too short for it.
@@ -81,7 +81,7 @@ fn right_after(lacking: usize, check: usize, right: usize, r: usize, bits: &[u8]
 }
 
 // Fills `out` with what the circle of code block r keeps for the places of stream 0 from `f` on, of streams of k + 4 places: from the room,
-// or where it keeps four places a byte from `circle`, in which the code block is unpacked.
+// or where it keeps four places a byte from `circle`, in which the first of them are unpacked: stream 0 has 32 a row, 8 bytes.
 fn read_data(
     four: bool,
     r: usize,
@@ -91,16 +91,17 @@ fn read_data(
     circle: &mut [u8],
     out: &mut [u8],
 )
-    requires { ⌜ Circles four r (now room) (now circle) × Stretch perBlock (k + 4) 0 f (length (now out)) ⌝ }
+    requires { ⌜ Circles four streamMost r (now room) (now circle) × Stretch perBlock (k + 4) 0 f (length (now out)) ⌝ }
     ensures { λ _. ⌜ now (out .exit) ≡ tabFrom f (length (now (out .entry))) (keptOn (circleAt r (placesIn four (now (room .entry)))) (k + 4) 0) ⌝ }
 {
     let long = bytes_a_block(four);
     let from = r * long;
-    let to = from + long;
     if four {
+        let to = from + 8 * ((k + 35) / 32);
         unpack_places(&room[from..to], circle);
         circle::read_stream(circle, k + 4, 0, f, out);
     } else {
+        let to = from + long;
         circle::read_stream(&room[from..to], k + 4, 0, f, out);
     }
 }
@@ -108,7 +109,7 @@ fn read_data(
 // Puts the sequence as it was heard, the block and its transport check, over the front of `b`, and tells what lacks and what is wrong.
 // Each code block's check bits are read, counted and compared too; the next code block is put over them.
 fn collect(four: bool, a: usize, room: &[u8], circle: &mut [u8], b: &mut [u8]) -> Collected
-    requires { ⌜ (roomFits a (length (placesIn four (now room))) ≡ true) × (a + 48 ≤ length (now b)) × Unpacks four (length (now circle)) ⌝ }
+    requires { ⌜ (roomFits a (length (placesIn four (now room))) ≡ true) × (a + 48 ≤ length (now b)) × Unpacks four streamMost (length (now circle)) ⌝ }
     ensures count { λ r. ⌜ r .lacking ≡ lacking 1 0 a (placesIn four (now (room .entry))) ⌝ }
     ensures right { λ r. ⌜ (r .lacking ≡ 0 → r .right ≡ firstWrong 1 0 a (placesIn four (now (room .entry)))) ⌝ }
     ensures sequence { λ r. ⌜ take (a + 24) (now (b .exit)) ≡ heardSequence 1 0 a (placesIn four (now (room .entry))) ⌝ }
@@ -142,7 +143,7 @@ fn release(
     b: &mut [u8],
     out: &mut [u8],
 ) -> Answer
-    requires { ⌜ (roomFits a (length (placesIn four (now room))) ≡ true) × (a + 48 ≤ length (now b)) × (a ≤ length (now out)) × Unpacks four (length (now circle)) ⌝ }
+    requires { ⌜ (roomFits a (length (placesIn four (now room))) ≡ true) × (a + 48 ≤ length (now b)) × (a ≤ length (now out)) × Unpacks four streamMost (length (now circle)) ⌝ }
     ensures { λ r. ⌜ r ≡ heardAnswer 1 0 a (placesIn four (now (room .entry))) ⌝ }
     ensures { λ r. ⌜ now (out .exit) ≡ roomOutput a (placesIn four (now (room .entry))) (now (out .entry)) ⌝ }
 {
@@ -169,7 +170,7 @@ pub(crate) fn read_room(
     circle: &mut [u8],
     out: &mut [u8],
 ) -> Answer
-    requires { ⌜ (roomFits a (length (placesIn four (now room))) ≡ true) × (a ≤ length (now out)) × Unpacks four (length (now circle)) ⌝ }
+    requires { ⌜ (roomFits a (length (placesIn four (now room))) ≡ true) × (a ≤ length (now out)) × Unpacks four streamMost (length (now circle)) ⌝ }
     ensures { λ r. ⌜ r ≡ heardAnswer 1 0 a (placesIn four (now (room .entry))) ⌝ }
     ensures { λ r. ⌜ now (out .exit) ≡ roomOutput a (placesIn four (now (room .entry))) (now (out .entry)) ⌝ }
 {
@@ -181,7 +182,7 @@ pub(crate) fn read_room(
 }
 
 fn read_short(four: bool, a: usize, room: &[u8], circle: &mut [u8], out: &mut [u8]) -> Answer
-    requires { ⌜ (a ≤ 6120) × (roomFits a (length (placesIn four (now room))) ≡ true) × (a ≤ length (now out)) × Unpacks four (length (now circle)) ⌝ }
+    requires { ⌜ (a ≤ 6120) × (roomFits a (length (placesIn four (now room))) ≡ true) × (a ≤ length (now out)) × Unpacks four streamMost (length (now circle)) ⌝ }
     ensures { λ r. ⌜ r ≡ heardAnswer 1 0 a (placesIn four (now (room .entry))) ⌝ }
     ensures { λ r. ⌜ now (out .exit) ≡ roomOutput a (placesIn four (now (room .entry))) (now (out .entry)) ⌝ }
 {
@@ -190,7 +191,7 @@ fn read_short(four: bool, a: usize, room: &[u8], circle: &mut [u8], out: &mut [u
 }
 
 fn read_long(four: bool, a: usize, room: &[u8], circle: &mut [u8], out: &mut [u8]) -> Answer
-    requires { ⌜ (roomFits a (length (placesIn four (now room))) ≡ true) × (a ≤ length (now out)) × Unpacks four (length (now circle)) ⌝ }
+    requires { ⌜ (roomFits a (length (placesIn four (now room))) ≡ true) × (a ≤ length (now out)) × Unpacks four streamMost (length (now circle)) ⌝ }
     ensures { λ r. ⌜ r ≡ heardAnswer 1 0 a (placesIn four (now (room .entry))) ⌝ }
     ensures { λ r. ⌜ now (out .exit) ≡ roomOutput a (placesIn four (now (room .entry))) (now (out .entry)) ⌝ }
 {

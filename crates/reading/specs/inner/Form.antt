@@ -12,11 +12,15 @@ use Rattle.packing.specs.Store.{placesIn}
 unfoldable pub circleAt : ℕ → List ℕ → List ℕ
 circleAt r places = take perBlock (drop (r * perBlock) places)
 
--- where four places stand in a byte, one code block can be unpacked in a buffer of so many bytes
-abbrev pub Unpacks : Bool → ℕ → Type 0
-Unpacks four long = four ≡ true → long ≡ perBlock
+-- the most places of a stream 0: 193 rows
+abbrev pub streamMost : ℕ
+streamMost = 6176
+
+-- where four places stand in a byte, as many places as are needed can be unpacked in a buffer of so many bytes
+abbrev pub Unpacks : Bool → ℕ → ℕ → Type 0
+Unpacks four needed long = four ≡ true → needed ≤ long
 
 -- a room, or a store, that has a code block r, and the buffer
-pub record Circles (four : Bool) (r : ℕ) (room circle : List ℕ) : Type 0 where
+pub record Circles (four : Bool) (needed r : ℕ) (room circle : List ℕ) : Type 0 where
   pub enough : r * perBlock + perBlock ≤ length (placesIn four room)
-  pub unpacks : Unpacks four (length circle)
+  pub unpacks : Unpacks four needed (length circle)

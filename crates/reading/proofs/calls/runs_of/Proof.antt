@@ -1,12 +1,12 @@
--- `calls::runs_of` meets its contract: the circle is lent from the room, or unpacked first (`Form`).
+-- `calls::runs_of` meets its contract: the circle is lent from the store, or unpacked first (`Form`).
 -- Assumes nothing.
 use mathlib.Core.Path.{_≡_, _∙_, ap}
 use mathlib.Core.List.{List, _++_}
-use Prim.Native.Nat.{ℕ, _+_, _*_, _≤_}
+use Prim.Native.Nat.{ℕ, _+_, _*_, _/_, _≤_}
 use native.Mathlib.Omega.{arith}
 use lib.ListN.{length, drop}
 use Rattle.reading.specs.Circle.{streamsOn}
-use Rattle.reading.proofs.Form.{part-within, part-long, plain-long, plain-circle, packed-circle, stretch-on}
+use Rattle.reading.proofs.Form.{part-within, part-long, plain-long, plain-circle, stretch-on, stretch-in, front-within, streams-front, circle-few, circle-reach}
 use borrow.Author.Needs.{needs}
 use Rattle.reading.proofs.calls.runs_of.Statement.{statement}
 use Rattle.reading.proofs.calls.runs_of.Tie as tie
@@ -16,6 +16,17 @@ within : (c : tie.After-bytes-a-block) → let e = c .before .before .before .be
     e .i * c .bytes-a-block .result + c .bytes-a-block .result ≤ length (e .store .now)
 within c = part-within (c .before .before .before .before .pre .0) (c .bytes-a-block .ensures)
 
+-- those of its circle, which the buffer has room for
+few : (c : tie.Then1) → 24 * ((c .before .before .before .before .before .args .d + 31) / 32) ≤ 4632
+few c = circle-few (c .before .before .before .before .before .pre .3 .sized)
+
+ample : (c : tie.Then1) → let e = c .before .before .before .before .before in 4 * (24 * ((e .args .d + 31) / 32)) ≤ length (e .args .circle .now)
+ample c = omega (arith, few c, c .before .before .before .before .before .pre .0 .unpacks (c .if1 .taken))
+
+there : (c : tie.Then1) → let e = c .before .before .before .before .before .args in
+    e .i * c .before .bytes-a-block .result + 24 * ((e .d + 31) / 32) ≤ length (e .store .now)
+there c = front-within (c .before .before .before .before .before .pre .0) (c .if1 .taken) (c .before .bytes-a-block .ensures) (few c) (ample c)
+
 bytes-a-block-requires : tie.Need-bytes-a-block-requires
 bytes-a-block-requires c κs = search needs
 
@@ -23,7 +34,13 @@ mul-from : tie.Need-mul-from
 mul-from c = omega (arith, within c)
 
 add-to : tie.Need-add-to
-add-to c = omega (arith, within c)
+add-to c = search needs
+
+mul-to : tie.Need-mul-to
+mul-to c = search needs
+
+add-to-2 : tie.Need-add-to-2
+add-to-2 c = omega (arith, there c)
 
 sub-unpack-places : tie.Need-sub-unpack-places
 sub-unpack-places c = search needs
@@ -32,7 +49,7 @@ part-unpack-places-start : tie.Need-part-unpack-places-start
 part-unpack-places-start c = search needs
 
 part-unpack-places-end : tie.Need-part-unpack-places-end
-part-unpack-places-end c = within (c .before)
+part-unpack-places-end c = there c
 
 unpack-places-requires : tie.Need-unpack-places-requires
 unpack-places-requires c κs = search needs
@@ -40,8 +57,11 @@ unpack-places-requires c κs = search needs
 three-streams-requires : tie.Need-three-streams-requires
 three-streams-requires c κs =
     let then = c .before .before .before .before .before .before .before in
-    let e = c .before .before .before .before .before .before .before .before .before .before .before .before in
-    (e .pre .1, e .pre .2, stretch-on (e .pre .3) (omega (arith, c .before .before .before .before .unpack-places .kept .1 .0, e .pre .0 .unpacks (then .if1 .taken))))
+    let e = then .before .before .before .before .before in
+    (e .pre .1, e .pre .2, stretch-in (e .pre .3) (omega (arith, circle-reach (e .args .d), ample then, c .before .before .before .before .unpack-places .kept .1 .0)))
+
+add-to-3 : tie.Need-add-to-3
+add-to-3 c = omega (arith, within (c .before))
 
 sub-three-streams : tie.Need-sub-three-streams
 sub-three-streams c = search needs
@@ -66,10 +86,12 @@ same-length-2 c = search needs
 returns : tie.Need-returns
 returns c =
     let asked = c .before .before .before in
-    let e = asked .before .before .before .before .before .before .before .before .before .before .before .before in
+    let then = asked .before .before .before .before .before .before .before in
+    let e = then .before .before .before .before .before in
     c .before .before .three-streams .ensures
-    ∙ ap (λ (l : List ℕ). streamsOn l (e .args .d) (e .args .f) ++ drop (3 * e .args .d) (e .args .out .now))
-    (packed-circle (e .pre .0) (asked .before .before .before .before .before .before .before .before .bytes-a-block .ensures) (asked .before .before .before .before .before .before .before .if1 .taken) (asked .before .before .before .before .unpack-places .ensures))
+    ∙ ap (λ (l : List ℕ). l ++ drop (3 * e .args .d) (e .args .out .now))
+    (streams-front (e .pre .0) (then .if1 .taken) (then .before .bytes-a-block .ensures) (few then) (ample then) (e .pre .3 .sized)
+    (asked .before .before .before .before .unpack-places .ensures) (e .args .f) (circle-reach (e .args .d)))
 
 same-length-3 : tie.Need-same-length-3
 same-length-3 c = search needs
@@ -89,11 +111,14 @@ runs-of-spec =
     bytes-a-block-requires
     mul-from
     add-to
+    mul-to
+    add-to-2
     sub-unpack-places
     part-unpack-places-start
     part-unpack-places-end
     unpack-places-requires
     three-streams-requires
+    add-to-3
     sub-three-streams
     part-three-streams-start
     part-three-streams-end

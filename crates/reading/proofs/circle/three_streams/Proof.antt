@@ -2,6 +2,7 @@
 -- Assumes nothing.
 use Prim.Native.Nat.{_-_}
 use native.Mathlib.Omega.{arith}
+use Rattle.reading.proofs.Rows.{any-stream}
 use Rattle.reading.proofs.Runs.{Running, running-start, run-within, run-long, running-next, running-finish}
 use Rattle.reading.proofs.circle.three_streams.Statement.{statement}
 use Rattle.reading.proofs.circle.three_streams.Tie as tie
@@ -33,7 +34,7 @@ stream-requires c κs =
     let more = c .before .loop-test .taken in (
       entry .pre .0,
       run-long (c .before .before .loop .inv) more,
-      record { sized = entry .pre .2 .sized; stream = more; within = entry .pre .2 .within; room = entry .pre .2 .room },
+      any-stream (entry .pre .2) more,
     )
 
 add-s : tie.Need-add-s Inv-loop μ-loop

@@ -6,7 +6,7 @@ use Rattle.slots.specs.State.{perBlock}
 use Rattle.packing.specs.Store.{placesIn}
 use lib.ListN.{length}
 use mathlib.Core.Path.{_≡_, refl, _∙_}
-use Rattle.reading.specs.inner.Form.{Unpacks}
+use Rattle.reading.specs.inner.Form.{streamMost, Unpacks}
 use Rattle.reading.proofs.Blocks.{blocks-few}
 use Rattle.reading.proofs.Form.{next-block, circle-mid, stretch-on}
 use Rattle.reading.proofs.Sequence.{Hearing, fit, hearing-start, Turn, turn, part-back, sum-fits, hearing-next, hearing-finish}
@@ -15,7 +15,7 @@ use Rattle.reading.proofs.room.collect.Tie as tie
 
 abbrev Inv-loop : tie.InvT-loop
 Inv-loop four a room circle₀ b₀ s check lacking₀ right₀ at₀ r₀ circle b lacking right at r =
-    Hearing a (placesIn four room) b₀ b lacking right (r * perBlock) at r × Unpacks four (length circle) × (length circle ≡ length circle₀)
+    Hearing a (placesIn four room) b₀ b lacking right (r * perBlock) at r × Unpacks four streamMost (length circle) × (length circle ≡ length circle₀)
 
 abbrev μ-loop : tie.MeasureT-loop
 μ-loop four a room circle₀ b₀ s check lacking₀ right₀ at₀ r₀ circle b lacking right at r = s .blocks - r
@@ -130,7 +130,7 @@ loop-again c =
     (filled .filler-of .ensures) (turns .loop .inv .0) (rw circle-mid at (lent .read-data .ensures)) (c .before .before .before .count-missing .ensures)
     (c .right-after .ensures) in
     let kept = lent .read-data .kept .1 .1 .1 .1 .1 .0 in
-    (rw next-block heard, λ f. kept ∙ turns .loop .inv .1 f, kept ∙ turns .loop .inv .2)
+    (rw next-block heard, λ f. omega (arith, kept, turns .loop .inv .1 f), kept ∙ turns .loop .inv .2)
 
 same-length : tie.Need-same-length Inv-loop μ-loop
 same-length c = c .before .before .loop .inv .2

@@ -1,13 +1,13 @@
--- `room::read_data` meets its contract: the circle is lent from the room, or unpacked first (`Form`).
+-- `room::read_data` meets its contract: the circle is lent from the room, or the places of stream 0 are unpacked first (`Form`).
 -- Assumes nothing.
 use mathlib.Core.Path.{_≡_, _∙_, ap}
 use mathlib.Core.List.{List}
-use Prim.Native.Nat.{ℕ, _+_, _*_, _≤_}
+use Prim.Native.Nat.{ℕ, _+_, _*_, _/_, _≤_}
 use native.Mathlib.Omega.{arith}
 use lib.ListN.{length}
 use Rattle.laws.specs.Lists.{tabFrom}
 use Rattle.reading.specs.Circle.{keptOn}
-use Rattle.reading.proofs.Form.{part-within, part-long, plain-long, plain-circle, packed-circle, stretch-on}
+use Rattle.reading.proofs.Form.{part-within, part-long, plain-long, plain-circle, stretch-on, stretch-in, front-within, data-front, data-few, data-reach}
 use borrow.Author.Needs.{needs}
 use Rattle.reading.proofs.room.read_data.Statement.{statement}
 use Rattle.reading.proofs.room.read_data.Tie as tie
@@ -17,6 +17,17 @@ within : (c : tie.After-bytes-a-block) → let e = c .before .before .before .be
     e .r * c .bytes-a-block .result + c .bytes-a-block .result ≤ length (e .room .now)
 within c = part-within (c .before .before .before .before .pre .0) (c .bytes-a-block .ensures)
 
+-- those of stream 0, which the buffer has room for
+few : (c : tie.Then1) → 8 * ((c .before .before .before .before .before .args .k + 35) / 32) ≤ 1544
+few c = data-few (c .before .before .before .before .before .args .k) (c .before .before .before .before .before .pre .1 .sized)
+
+ample : (c : tie.Then1) → let e = c .before .before .before .before .before in 4 * (8 * ((e .args .k + 35) / 32)) ≤ length (e .args .circle .now)
+ample c = omega (arith, few c, c .before .before .before .before .before .pre .0 .unpacks (c .if1 .taken))
+
+there : (c : tie.Then1) → let e = c .before .before .before .before .before .args in
+    e .r * c .before .bytes-a-block .result + 8 * ((e .k + 35) / 32) ≤ length (e .room .now)
+there c = front-within (c .before .before .before .before .before .pre .0) (c .if1 .taken) (c .before .bytes-a-block .ensures) (omega (arith, few c)) (ample c)
+
 bytes-a-block-requires : tie.Need-bytes-a-block-requires
 bytes-a-block-requires c κs = search needs
 
@@ -24,7 +35,13 @@ mul-from : tie.Need-mul-from
 mul-from c = omega (arith, within c)
 
 add-to : tie.Need-add-to
-add-to c = omega (arith, within c)
+add-to c = search needs
+
+mul-to : tie.Need-mul-to
+mul-to c = search needs
+
+add-to-2 : tie.Need-add-to-2
+add-to-2 c = omega (arith, there c)
 
 sub-unpack-places : tie.Need-sub-unpack-places
 sub-unpack-places c = search needs
@@ -33,7 +50,7 @@ part-unpack-places-start : tie.Need-part-unpack-places-start
 part-unpack-places-start c = search needs
 
 part-unpack-places-end : tie.Need-part-unpack-places-end
-part-unpack-places-end c = within (c .before)
+part-unpack-places-end c = there c
 
 unpack-places-requires : tie.Need-unpack-places-requires
 unpack-places-requires c κs = search needs
@@ -44,8 +61,11 @@ add-read-stream c = search needs
 read-stream-requires : tie.Need-read-stream-requires
 read-stream-requires c κs =
     let then = c .before .before .before .before .before .before .before in
-    let e = c .before .before .before .before .before .before .before .before .before .before .before .before in
-    stretch-on (e .pre .1) (omega (arith, c .before .before .before .before .unpack-places .kept .1 .0, e .pre .0 .unpacks (then .if1 .taken)))
+    let e = then .before .before .before .before .before in
+    stretch-in (e .pre .1) (omega (arith, data-reach (e .args .k), ample then, c .before .before .before .before .unpack-places .kept .1 .0))
+
+add-to-3 : tie.Need-add-to-3
+add-to-3 c = omega (arith, within (c .before))
 
 sub-read-stream : tie.Need-sub-read-stream
 sub-read-stream c = search needs
@@ -73,10 +93,11 @@ same-length-2 c = search needs
 returns : tie.Need-returns
 returns c =
     let asked = c .before .before .before in
-    let e = asked .before .before .before .before .before .before .before .before .before .before .before .before in
+    let then = asked .before .before .before .before .before .before .before in
+    let e = then .before .before .before .before .before in
     c .before .before .read-stream .ensures
-    ∙ ap (λ (l : List ℕ). tabFrom (e .args .f) (length (e .args .out .now)) (keptOn l (e .args .k + 4) 0))
-    (packed-circle (e .pre .0) (asked .before .before .before .before .before .before .before .before .bytes-a-block .ensures) (asked .before .before .before .before .before .before .before .if1 .taken) (asked .before .before .before .before .unpack-places .ensures))
+    ∙ data-front (e .pre .0) (then .if1 .taken) (then .before .bytes-a-block .ensures) (omega (arith, few then)) (ample then) (e .pre .1 .sized)
+    (asked .before .before .before .before .unpack-places .ensures) (e .args .f) (length (e .args .out .now)) (e .pre .1 .within) (data-reach (e .args .k))
 
 same-length-3 : tie.Need-same-length-3
 same-length-3 c = search needs
@@ -96,12 +117,15 @@ read-data-spec =
     bytes-a-block-requires
     mul-from
     add-to
+    mul-to
+    add-to-2
     sub-unpack-places
     part-unpack-places-start
     part-unpack-places-end
     unpack-places-requires
     add-read-stream
     read-stream-requires
+    add-to-3
     sub-read-stream
     part-read-stream-start
     part-read-stream-end
