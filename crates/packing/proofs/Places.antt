@@ -7,11 +7,12 @@ use Prim.Native.Nat.{ℕ, zero, suc, _+_, _*_, _/_, _%_, _≤_, _<_}
 use native.Mathlib.Nat.{add-zero}
 use native.Mathlib.Omega.{arith}
 use lib.Dec.{eqb, eqb→eq, ltb}
+use lib.Bits.{bitAnd}
 use lib.ListN.{getD}
 use borrow.Author.Tests.{ltb-false, le-ltb}
 use Rattle.laws.specs.inner.Computed.{all-below}
 use Rattle.laws.proofs.Computed.{all-below-at}
-use Rattle.packing.specs.Packing.{inTwoBits, fourIn, packedAt, standingAt, placeIn}
+use Rattle.packing.specs.Packing.{inTwoBits, fourIn, packedAt, standingAt, fourApart, placeIn}
 
 -- ---- one place
 
@@ -89,3 +90,22 @@ back b = eqb (fourIn (standingAt 0 b) (standingAt 1 b) (standingAt 2 b) (standin
 pub four-of-byte : (b : ℕ) → b < 256 → fourIn (standingAt 0 b) (standingAt 1 b) (standingAt 2 b) (standingAt 3 b) ≡ b
 unfolding back all-below fourIn standingAt inTwoBits
 four-of-byte b h = eqb→eq (fourIn (standingAt 0 b) (standingAt 1 b) (standingAt 2 b) (standingAt 3 b)) b (all-below-at back 256 tt b h)
+
+-- the four places apart, each in a byte of a word, by one product and a mask, tested for each byte
+parted : ℕ → Bool
+unfolding fourApart standingAt
+parted b = eqb (bitAnd (b * 1074791425 / 64) 50529027) (fourApart b)
+
+pub apart-is : (b : ℕ) → b < 256 → bitAnd (b * 1074791425 / 64) 50529027 ≡ fourApart b
+unfolding parted all-below fourApart standingAt
+apart-is b h = eqb→eq (bitAnd (b * 1074791425 / 64) 50529027) (fourApart b) (all-below-at parted 256 tt b h)
+
+-- and each of its bytes is one of them
+pub apart-bytes : (b : ℕ) → (fourApart b % 256 ≡ standingAt 0 b) × (fourApart b / 256 % 256 ≡ standingAt 1 b) × (fourApart b / 65536 % 256 ≡ standingAt 2 b) × (fourApart b / 16777216 % 256 ≡ standingAt 3 b)
+unfolding fourApart
+apart-bytes b = of (standingAt 0 b) (standingAt 1 b) (standingAt 2 b) (standingAt 3 b) (standing-lt 0 b) (standing-lt 1 b) (standing-lt 2 b) (standing-lt 3 b)
+  where
+    of : (p q r s : ℕ) → p < 4 → q < 4 → r < 4 → s < 4
+        → let w : ℕ = p + 256 * q + 65536 * r + 16777216 * s in
+        (w % 256 ≡ p) × (w / 256 % 256 ≡ q) × (w / 65536 % 256 ≡ r) × (w / 16777216 % 256 ≡ s)
+    of p q r s hp hq hr hs = (omega arith, omega arith, omega arith, omega arith)

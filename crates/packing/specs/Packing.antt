@@ -39,6 +39,10 @@ standingAt (suc zero) b = b / 16 % 4
 standingAt (suc (suc zero)) b = b / 4 % 4
 standingAt (suc (suc (suc k))) b = b % 4
 
+-- the four places of a byte, each in a byte of one word, the first in the lowest
+unfoldable pub fourApart : ℕ → ℕ
+fourApart b = standingAt 0 b + 256 * standingAt 1 b + 65536 * standingAt 2 b + 16777216 * standingAt 3 b
+
 -- place j of a list that is kept packed
 unfoldable pub placeIn : List ℕ → ℕ → ℕ
 placeIn bytes j = standingAt (j % 4) (getD bytes (j / 4) 0)

@@ -5,7 +5,7 @@ use slots::states::PER_BLOCK;
 ghost use mathlib.Core.Path.{_≡_};
 ghost use Prim.Native.Nat.{_/_, min};
 ghost use lib.ListN.{length};
-ghost use Rattle.packing.specs.Packing.{inTwoBits, fourIn, packedOver, unpackedOver};
+ghost use Rattle.packing.specs.Packing.{inTwoBits, fourIn, fourApart, packedOver, unpackedOver};
 ghost use Rattle.packing.specs.Store.{bytesABlock, placesAsked};
 ghost use Rattle.packing.specs.Change.{badBlocks, changeNumber, packNumber, packOutput, unpackNumber, unpackOutput};
 pub use opening::open_down_packed;
@@ -67,6 +67,14 @@ pub fn pack_places(from: &[u8], to: &mut [u8])
     }
 }
 
+// The four places of a byte, each in a byte of one word. The product has the byte four times, ten bits apart, so that each place stands six
+// bits above where it belongs in one of them; four bytes are then written at a time, and many where the machine can.
+fn apart(b: u8) -> u64
+    ensures { λ r. ⌜ r ≡ fourApart b ⌝ }
+{
+    (b as u64 * 0x4010_0401 / 64) & 0x0303_0303
+}
+
 // Unpacks bytes over the front of `to`, as many as there are places for.
 pub fn unpack_places(from: &[u8], to: &mut [u8])
     ensures { λ _. ⌜ now (to .exit) ≡ unpackedOver (min (length (now (from .entry))) (length (now (to .entry)) / 4)) (now (from .entry)) (now (to .entry)) ⌝ }
@@ -75,11 +83,11 @@ pub fn unpack_places(from: &[u8], to: &mut [u8])
     let mut j = 0;
     let mut i = 0;
     while i < n {
-        let b = from[i];
-        to[j] = b / 64 % 4;
-        to[j + 1] = b / 16 % 4;
-        to[j + 2] = b / 4 % 4;
-        to[j + 3] = b % 4;
+        let w = apart(from[i]);
+        to[j] = (w % 256) as u8;
+        to[j + 1] = (w / 256 % 256) as u8;
+        to[j + 2] = (w / 65536 % 256) as u8;
+        to[j + 3] = (w / 16777216 % 256) as u8;
         j += 4;
         i += 1;
     }

@@ -1,10 +1,10 @@
 -- `unpack_places` meets its contract: the places of the bytes passed are unpacked (`Changing`).
 -- Assumes nothing.
-use mathlib.Core.Path.{refl}
-use Prim.Native.Nat.{_-_}
+use mathlib.Core.Path.{_∙_, ap}
+use Prim.Native.Nat.{ℕ, _-_, _/_, _%_}
 use native.Mathlib.Omega.{arith}
-use lib.ListN.{length-set}
-use Rattle.packing.specs.Packing.{standingAt}
+use lib.ListN.{getD, length-set}
+use Rattle.packing.proofs.Places.{apart-bytes}
 use Rattle.packing.proofs.Changing.{Unpacking, unpacking-start, unpacking-next, unpacking-finish}
 use Rattle.packing.proofs.unpack_places.Statement.{statement}
 use Rattle.packing.proofs.unpack_places.Tie as tie
@@ -21,11 +21,20 @@ fewer-requires c κs = tt
 loop-holds : tie.Need-loop-holds Inv-loop μ-loop
 loop-holds c = unpacking-start _ _ _ (omega (arith, c .fewer .ensures)) (omega (arith, c .fewer .ensures))
 
-shared-slice-read-b : tie.Need-shared-slice-read-b Inv-loop μ-loop
-shared-slice-read-b c = omega arith
+shared-slice-read-apart : tie.Need-shared-slice-read-apart Inv-loop μ-loop
+shared-slice-read-apart c = omega arith
+
+apart-requires : tie.Need-apart-requires Inv-loop μ-loop
+apart-requires c κs = tt
+
+cast-to : tie.Need-cast-to Inv-loop μ-loop
+cast-to c = omega arith
 
 slice-write-to : tie.Need-slice-write-to Inv-loop μ-loop
 slice-write-to c = omega arith
+
+cast-to-2 : tie.Need-cast-to-2 Inv-loop μ-loop
+cast-to-2 c = omega arith
 
 add-to : tie.Need-add-to Inv-loop μ-loop
 add-to c = omega arith
@@ -33,11 +42,17 @@ add-to c = omega arith
 slice-write-to-2 : tie.Need-slice-write-to-2 Inv-loop μ-loop
 slice-write-to-2 c = simp length-set (omega arith)
 
+cast-to-3 : tie.Need-cast-to-3 Inv-loop μ-loop
+cast-to-3 c = omega arith
+
 add-to-2 : tie.Need-add-to-2 Inv-loop μ-loop
 add-to-2 c = omega arith
 
 slice-write-to-3 : tie.Need-slice-write-to-3 Inv-loop μ-loop
 slice-write-to-3 c = simp length-set (omega arith)
+
+cast-to-4 : tie.Need-cast-to-4 Inv-loop μ-loop
+cast-to-4 c = omega arith
 
 add-to-3 : tie.Need-add-to-3 Inv-loop μ-loop
 add-to-3 c = omega arith
@@ -55,8 +70,14 @@ loop-less : tie.Need-loop-less Inv-loop μ-loop
 loop-less c = omega arith
 
 loop-again : tie.Need-loop-again Inv-loop μ-loop
-unfolding standingAt
-loop-again c = unpacking-next (c .before .before .loop .inv) (omega arith) refl refl refl refl
+loop-again c =
+    let told = apart-bytes (getD (c .before .before .before .before .before .before .before .args .from .now) (c .before .before .before .loop .i) 0) in
+    let is = c .apart .ensures in
+    unpacking-next (c .before .before .before .loop .inv) (omega arith)
+    (ap (λ (w : ℕ). w % 256) is ∙ told .0)
+    (ap (λ (w : ℕ). w / 256 % 256) is ∙ told .1)
+    (ap (λ (w : ℕ). w / 65536 % 256) is ∙ told .2)
+    (ap (λ (w : ℕ). w / 16777216 % 256) is ∙ told .3)
 
 same-length : tie.Need-same-length Inv-loop μ-loop
 same-length c = c .before .loop .inv .wrote .long
@@ -72,12 +93,17 @@ unpack-places-spec =
     μ-loop
     fewer-requires
     loop-holds
-    shared-slice-read-b
+    shared-slice-read-apart
+    apart-requires
+    cast-to
     slice-write-to
+    cast-to-2
     add-to
     slice-write-to-2
+    cast-to-3
     add-to-2
     slice-write-to-3
+    cast-to-4
     add-to-3
     slice-write-to-4
     add-j
