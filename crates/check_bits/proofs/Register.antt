@@ -55,6 +55,10 @@ module _ (L g : ℕ) where
   unfolding crc
   from-zero bs = refl
 
+  -- so the check of bits in two slices goes on from the first slice's remainder
+  pub check-joined : (x y : List ℕ) {first r : ℕ} → first ≡ crcFrom L g 0 x → r ≡ crcFrom L g first y → r ≡ crc L g (x ++ y)
+  check-joined x y e f = f ∙ ap (λ (s : ℕ). crcFrom L g s y) e ∙ sym (crcFrom-append 0 x y) ∙ from-zero (x ++ y)
+
   pub length-checkBits : (a : List ℕ) → length (checkBits L g a) ≡ L
   unfolding checkBits
   length-checkBits a = length-bitsOf L (crc L g a)

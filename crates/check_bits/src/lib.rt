@@ -2,16 +2,16 @@
 mod table;
 
 ghost use mathlib.Core.Path.{_≡_};
+ghost use mathlib.Core.List.{_++_};
 ghost use Prim.Native.Nat.{_+_, _*_, _%_, _^_, _≤_, _<_};
 ghost use lib.ListN.{length, getD, take, drop};
 ghost use Rattle.laws.specs.Bits.{bitsOf};
-ghost use Rattle.check_bits.specs.CheckBits.{crcFrom, gCRC24A, gCRC24B, gCRC16};
+ghost use Rattle.check_bits.specs.CheckBits.{crcFrom, crc, gCRC24A, gCRC24B, gCRC16};
 ghost use Rattle.check_bits.specs.inner.Stride.{IsTable, FewBits, entries, wordOf, lowest};
 ghost use Rattle.check_bits.specs.Put.{putBits, putCheckBits, putCheckBits16};
 
-// The transport check goes on with `bits` from an earlier remainder, which is 0 before the first bit. The bits by which the length is over a
-// multiple of 24 go first, the others follow in strides; where they are too few for a stride, its table is not made. A number of more than
-// 24 bits, which is no remainder, goes on as the register would.
+// The transport check goes on with `bits` from an earlier remainder, which is 0 before the first bit. A number of more than 24 bits, which is no
+// remainder, goes on as the register would.
 pub fn crc24a(from: u32, bits: &[u8]) -> u32
     ensures { λ r. ⌜ r ≡ crcFrom 24 gCRC24A from (now (bits .entry)) ⌝ }
 {
@@ -22,16 +22,42 @@ pub fn crc24a(from: u32, bits: &[u8]) -> u32
         return one_by_one(24, 0x864CFB, from, bits);
     }
     let near = table::table_a();
+    through_a(&near, from, bits)
+}
+
+// The transport check of bits that lie in two slices: it goes on with `second` from the remainder of `first`. The table that both need is made once.
+pub fn crc24a_two(first: &[u8], second: &[u8]) -> u32
+    ensures { λ r. ⌜ r ≡ crc 24 gCRC24A (now (first .entry) ++ now (second .entry)) ⌝ }
+{
+    if (first.len() < 8) & (second.len() < 8) {
+        let s = one_by_one(24, 0x864CFB, 0, first);
+        return one_by_one(24, 0x864CFB, s, second);
+    }
+    let near = table::table_a();
+    let s = through_a(&near, 0, first);
+    through_a(&near, s, second)
+}
+
+// The same with the table lent. The bits by which the length is over a multiple of 24 go first, the others follow in strides; where they are too few
+// for a stride, its table is not made.
+fn through_a(near: &[u32; 96], from: u32, bits: &[u8]) -> u32
+    requires { ⌜ IsTable 24 gCRC24A (now near) ⌝ }
+    requires { ⌜ from < 2 ^ 24 ⌝ }
+    ensures { λ r. ⌜ r ≡ crcFrom 24 gCRC24A from (now (bits .entry)) ⌝ }
+{
+    if bits.len() < 8 {
+        return one_by_one(24, 0x864CFB, from, bits);
+    }
     if bits.len() < 24 {
-        return few_bits(0x864CFB, &near, from, bits);
+        return few_bits(0x864CFB, near, from, bits);
     }
     let k = bits.len() % 24;
-    let s = leading(0x864CFB, &near, from, k, bits);
+    let s = leading(0x864CFB, near, from, k, bits);
     if bits.len() < 48 {
-        return last_stride(0x864CFB, &near, s, &bits[k..]);
+        return last_stride(0x864CFB, near, s, &bits[k..]);
     }
     let far = table::table_a_48();
-    strides(0x864CFB, &near, &far, s, &bits[k..])
+    strides(0x864CFB, near, &far, s, &bits[k..])
 }
 
 // The check of a code block's bits goes on in the same way; a code block that has one is long.

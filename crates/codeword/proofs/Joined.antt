@@ -1,18 +1,11 @@
--- A block in two slices is their joined list (02, E9): its transport check is one run after the other, and a byte above 1 is one in either.
+-- A block in two slices is their joined list (02, E9): a byte above 1 is one in either.
 -- Assumes nothing.
-use mathlib.Core.Path.{_≡_, refl, sym, _∙_, ap}
+use mathlib.Core.Path.{_≡_, refl, _∙_, ap}
 use mathlib.Core.Bool.{Bool, true, false, _||_}
 use mathlib.Core.List.{List, [], _∷_, _++_}
 use Prim.Native.Nat.{ℕ}
 use lib.Dec.{ltb}
-use Rattle.check_bits.specs.CheckBits.{crcFrom, crc}
-use Rattle.check_bits.proofs.Register.{crcFrom-append, from-zero}
 use Rattle.codeword.specs.Build.{badBits}
-
-module _ (x y : List ℕ) where
-  -- the check goes on from the first slice's remainder
-  pub check-joined : (L g : ℕ) {first r : ℕ} → first ≡ crcFrom L g 0 x → r ≡ crcFrom L g first y → r ≡ crc L g (x ++ y)
-  check-joined L g e f = f ∙ ap (λ (s : ℕ). crcFrom L g s y) e ∙ sym (crcFrom-append L g 0 x y) ∙ from-zero L g (x ++ y)
 
 or-assoc : (a b c : Bool) → (a || (b || c)) ≡ ((a || b) || c)
 or-assoc true b c = refl

@@ -273,8 +273,7 @@ fn write_in(
     requires { ⌜ Spacious (s .long) (length (now d0)) (length (now d1)) (length (now d2)) ⌝ }
     ensures { λ r. ⌜ now (out .exit) ≡ codewordIn soft (now (header .entry) ++ now (payload .entry)) q n version (length (now (out .entry))) ⌝ }
 {
-    let first = check_bits::crc24a(0, header);
-    let remainder = check_bits::crc24a(first, payload);
+    let remainder = check_bits::crc24a_two(header, payload);
     let g = out.len();
     let mut at = 0;
     let mut r = 0;

@@ -6,9 +6,6 @@ use mathlib.Core.Path.{sym, _∙_}
 use mathlib.Core.List.{_++_}
 use Prim.Native.Nat.{_-_}
 use native.Mathlib.Omega.{arith}
-use denote.Ref.{now}
-use Rattle.check_bits.specs.CheckBits.{gCRC24A}
-use Rattle.codeword.proofs.Joined.{check-joined}
 use Rattle.codeword.proofs.Rooms.{Lent, lent, enough}
 use Rattle.codeword.proofs.Segmented.{count-told}
 use Rattle.codeword.proofs.Sent.{size-within}
@@ -17,24 +14,19 @@ use Rattle.codeword.proofs.call.write_in.Statement.{statement}
 use Rattle.codeword.proofs.call.write_in.Tie as tie
 
 abbrev Inv-loop : tie.InvT-loop
-Inv-loop header payload soft q n version s d0₀ d1₀ d2₀ out₀ first remainder g at₀ r₀ d0 d1 d2 out at r =
+Inv-loop header payload soft q n version s d0₀ d1₀ d2₀ out₀ remainder g at₀ r₀ d0 d1 d2 out at r =
     Stretching soft (header ++ payload) q n version out₀ s (s .blocks) remainder g out at r × Lent (s .long) d0₀ d1₀ d2₀ d0 d1 d2
 
 abbrev μ-loop : tie.MeasureT-loop
-μ-loop header payload soft q n version s d0₀ d1₀ d2₀ out₀ first remainder g at₀ r₀ d0 d1 d2 out at r = s .blocks - r
+μ-loop header payload soft q n version s d0₀ d1₀ d2₀ out₀ remainder g at₀ r₀ d0 d1 d2 out at r = s .blocks - r
 
-crc24a-requires : tie.Need-crc24a-requires Inv-loop μ-loop
-crc24a-requires c κs = search needs
-
-crc24a-requires-2 : tie.Need-crc24a-requires-2 Inv-loop μ-loop
-crc24a-requires-2 c κs = search needs
+crc24a-two-requires : tie.Need-crc24a-two-requires Inv-loop μ-loop
+crc24a-two-requires c κs = search needs
 
 loop-holds : tie.Need-loop-holds Inv-loop μ-loop
 loop-holds c =
-    let entry = c .before .before .before .before .before .before .before .before in
-    let given = entry .pre in
-    let check = check-joined (now (entry .args .header)) (now (entry .args .payload)) 24 gCRC24A (c .before .crc24a .ensures) (c .crc24a2 .ensures) in
-    (start (given .0) (given .1 .0) (count-told _ (given .1 .0)) check (search needs), lent (given .1 .1))
+    let given = c .before .before .before .before .before .before .before .pre in
+    (start (given .0) (given .1 .0) (count-told _ (given .1 .0)) (c .crc24a-two .ensures) (search needs), lent (given .1 .1))
 
 share-of-requires : tie.Need-share-of-requires Inv-loop μ-loop
 share-of-requires c κs = search needs
@@ -101,8 +93,7 @@ write-in-spec =
     (tie.spec
     Inv-loop
     μ-loop
-    crc24a-requires
-    crc24a-requires-2
+    crc24a-two-requires
     loop-holds
     share-of-requires
     add-end

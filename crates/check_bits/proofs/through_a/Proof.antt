@@ -1,4 +1,4 @@
--- `check_bits::crc24a` meets its contract: the bits over a multiple of 24 first, then the others from the register after these on.
+-- `check_bits::through_a` meets its contract: the bits over a multiple of 24 first, then the others from the register after these on.
 -- Assumes nothing.
 use mathlib.Core.Path.{_∙_}
 use Prim.Native.Nat.{_%_}
@@ -8,13 +8,13 @@ use Rattle.check_bits.specs.CheckBits.{gCRC24A}
 use Rattle.check_bits.proofs.Running.{Running, rest}
 use Rattle.check_bits.proofs.Padding.{gone}
 use borrow.Author.Needs.{needs}
-use Rattle.check_bits.proofs.crc24a.Statement.{statement}
-use Rattle.check_bits.proofs.crc24a.Tie as tie
+use Rattle.check_bits.proofs.through_a.Statement.{statement}
+use Rattle.check_bits.proofs.through_a.Tie as tie
 
 -- the bits that are left go on from the register after the first ones
-onward : (c : tie.After-leading) → let start = c .before .before .before .before .before .before .before in
+onward : (c : tie.After-leading) → let start = c .before .before .before .before in
     Running 24 24 gCRC24A (start .args .from) (start .args .bits .now) (c .leading .result) (length (start .args .bits .now) % 24)
-onward c = gone (c .before .before .before .before .before .before .before .args .bits .now) (omega arith) (c .leading .ensures)
+onward c = gone (c .before .before .before .before .args .bits .now) (omega arith) (c .leading .ensures)
 
 one-by-one-requires : tie.Need-one-by-one-requires
 one-by-one-requires c κs = search needs
@@ -22,20 +22,11 @@ one-by-one-requires c κs = search needs
 returns : tie.Need-returns
 returns c = search needs
 
-one-by-one-requires-2 : tie.Need-one-by-one-requires-2
-one-by-one-requires-2 c κs = search needs
-
-returns-2 : tie.Need-returns-2
-returns-2 c = search needs
-
-table-a-requires : tie.Need-table-a-requires
-table-a-requires c κs = search needs
-
 few-bits-requires : tie.Need-few-bits-requires
 few-bits-requires c κs = search needs
 
-returns-3 : tie.Need-returns-3
-returns-3 c = search needs
+returns-2 : tie.Need-returns-2
+returns-2 c = search needs
 
 leading-requires : tie.Need-leading-requires
 leading-requires c κs = search needs
@@ -50,10 +41,10 @@ part-last-stride-end : tie.Need-part-last-stride-end
 part-last-stride-end c = search needs
 
 last-stride-requires : tie.Need-last-stride-requires
-last-stride-requires c κs = let led = c .before .before .before in (led .before .before .before .table-a .ensures, onward led .small)
+last-stride-requires c κs = let led = c .before .before in (led .before .before .before .before .pre .0, onward led .small)
 
-returns-4 : tie.Need-returns-4
-returns-4 c = c .last-stride .ensures ∙ rest (onward (c .before .before .before .before))
+returns-3 : tie.Need-returns-3
+returns-3 c = c .last-stride .ensures ∙ rest (onward (c .before .before .before))
 
 table-a-48-requires : tie.Need-table-a-48-requires
 table-a-48-requires c κs = search needs
@@ -69,33 +60,30 @@ part-strides-end c = search needs
 
 strides-requires : tie.Need-strides-requires
 strides-requires c κs =
-    let far = c .before .before .before in
+    let far = c .before .before in
     let led = far .before .before in
-    (led .before .before .before .table-a .ensures, (far .table-a-48 .ensures, onward led .small))
+    (led .before .before .before .before .pre .0, (far .table-a-48 .ensures, onward led .small))
 
-returns-5 : tie.Need-returns-5
-returns-5 c = c .strides .ensures ∙ rest (onward (c .before .before .before .before .before .before))
+returns-4 : tie.Need-returns-4
+returns-4 c = c .strides .ensures ∙ rest (onward (c .before .before .before .before .before))
 
-pub crc24a-spec : {M : Type 1} → statement M
-crc24a-spec =
+pub through-a-spec : {M : Type 1} → statement M
+through-a-spec =
     tie.close
     (tie.spec
     one-by-one-requires
     returns
-    one-by-one-requires-2
-    returns-2
-    table-a-requires
     few-bits-requires
-    returns-3
+    returns-2
     leading-requires
     sub-last-stride
     part-last-stride-start
     part-last-stride-end
     last-stride-requires
-    returns-4
+    returns-3
     table-a-48-requires
     sub-strides
     part-strides-start
     part-strides-end
     strides-requires
-    returns-5)
+    returns-4)
