@@ -5,3 +5,4 @@ pub mod Rooms
 pub mod Carried
 pub mod Stores
 pub mod Opened
+pub mod SmallPlaces

@@ -1,9 +1,10 @@
 // Rooms a quarter the size: four places in a byte, the first in the top two bits, and the change of form of one room, both ways.
 mod opening;
+mod small;
 
 use slots::states::PER_BLOCK;
 ghost use mathlib.Core.Path.{_≡_};
-ghost use Prim.Native.Nat.{_/_, min};
+ghost use Prim.Native.Nat.{_*_, _/_, _≤_, min};
 ghost use lib.ListN.{length};
 ghost use Rattle.packing.specs.Packing.{inTwoBits, fourIn, fourApart, packedOver, unpackedOver};
 ghost use Rattle.packing.specs.Store.{bytesABlock, placesAsked};
@@ -58,6 +59,18 @@ pub fn pack_places(from: &[u8], to: &mut [u8])
     ensures { λ _. ⌜ now (to .exit) ≡ packedOver (min (length (now (from .entry)) / 4) (length (now (to .entry)))) (now (from .entry)) (now (to .entry)) ⌝ }
 {
     let n = fewer(from.len() / 4, to.len());
+    if small::all_small(from) {
+        small::pack_small(n, from, to);
+        return;
+    }
+    pack_any(n, from, to);
+}
+
+// The same for any places, over the first n bytes.
+fn pack_any(n: usize, from: &[u8], to: &mut [u8])
+    requires { ⌜ (4 * n ≤ length (now from)) × (n ≤ length (now to)) ⌝ }
+    ensures { λ _. ⌜ now (to .exit) ≡ packedOver n (now (from .entry)) (now (to .entry)) ⌝ }
+{
     let mut j = 0;
     let mut i = 0;
     while i < n {

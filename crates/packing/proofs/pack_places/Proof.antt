@@ -1,88 +1,45 @@
--- `pack_places` meets its contract: the bytes passed are packed (`Changing`).
+-- `pack_places` meets its contract: either loop packs the bytes that there are of both.
 -- Assumes nothing.
-use Prim.Native.Nat.{_-_}
 use native.Mathlib.Omega.{arith}
-use Rattle.packing.proofs.Changing.{Packing, packing-start, packing-next, packing-finish}
+use borrow.Author.Needs.{needs}
 use Rattle.packing.proofs.pack_places.Statement.{statement}
 use Rattle.packing.proofs.pack_places.Tie as tie
 
-abbrev Inv-loop : tie.InvT-loop
-Inv-loop from to₀ n j₀ i₀ to j i = Packing from to₀ n to j i
+fewer-requires : tie.Need-fewer-requires
+fewer-requires c κs = search needs
 
-abbrev μ-loop : tie.MeasureT-loop
-μ-loop from to₀ n j₀ i₀ to j i = n - i
+all-small-requires : tie.Need-all-small-requires
+all-small-requires c κs = search needs
 
-fewer-requires : tie.Need-fewer-requires Inv-loop μ-loop
-fewer-requires c κs = tt
+pack-small-requires : tie.Need-pack-small-requires
+pack-small-requires c κs =
+    let n = c .before .before .before .fewer .ensures in
+    (c .before .before .all-small .ensures (c .before .if1 .taken), omega (arith, n), omega (arith, n))
 
-loop-holds : tie.Need-loop-holds Inv-loop μ-loop
-loop-holds c = packing-start _ _ _ (omega (arith, c .fewer .ensures)) (omega (arith, c .fewer .ensures))
+same-length : tie.Need-same-length
+same-length c = search needs
 
-shared-slice-read-four-in : tie.Need-shared-slice-read-four-in Inv-loop μ-loop
-shared-slice-read-four-in c = omega arith
+returns : tie.Need-returns
+returns c = rw (← c .before .before .before .before .before .before .fewer .ensures) (c .before .before .pack-small .ensures)
 
-add-four-in : tie.Need-add-four-in Inv-loop μ-loop
-add-four-in c = omega arith
+pack-any-requires : tie.Need-pack-any-requires
+pack-any-requires c κs = let n = c .before .before .before .fewer .ensures in (omega (arith, n), omega (arith, n))
 
-shared-slice-read-four-in-2 : tie.Need-shared-slice-read-four-in-2 Inv-loop μ-loop
-shared-slice-read-four-in-2 c = omega arith
+same-length-2 : tie.Need-same-length-2
+same-length-2 c = search needs
 
-add-four-in-2 : tie.Need-add-four-in-2 Inv-loop μ-loop
-add-four-in-2 c = omega arith
-
-shared-slice-read-four-in-3 : tie.Need-shared-slice-read-four-in-3 Inv-loop μ-loop
-shared-slice-read-four-in-3 c = omega arith
-
-add-four-in-3 : tie.Need-add-four-in-3 Inv-loop μ-loop
-add-four-in-3 c = omega arith
-
-shared-slice-read-four-in-4 : tie.Need-shared-slice-read-four-in-4 Inv-loop μ-loop
-shared-slice-read-four-in-4 c = omega arith
-
-four-in-requires : tie.Need-four-in-requires Inv-loop μ-loop
-four-in-requires c κs = tt
-
-slice-write-to : tie.Need-slice-write-to Inv-loop μ-loop
-slice-write-to c = omega arith
-
-add-j : tie.Need-add-j Inv-loop μ-loop
-add-j c = omega arith
-
-add-i : tie.Need-add-i Inv-loop μ-loop
-add-i c = omega arith
-
-loop-less : tie.Need-loop-less Inv-loop μ-loop
-loop-less c = omega arith
-
-loop-again : tie.Need-loop-again Inv-loop μ-loop
-loop-again c = packing-next (c .before .before .before .before .before .before .loop .inv) (omega arith) (c .four-in .ensures)
-
-same-length : tie.Need-same-length Inv-loop μ-loop
-same-length c = c .before .loop .inv .wrote .long
-
-returns : tie.Need-returns Inv-loop μ-loop
-returns c = rw (← c .before .before .fewer .ensures) (packing-finish (c .before .loop .inv) (omega arith))
+returns-2 : tie.Need-returns-2
+returns-2 c = rw (← c .before .before .before .before .before .before .fewer .ensures) (c .before .before .pack-any .ensures)
 
 pub pack-places-spec : {M : Type 1} → statement M
 pack-places-spec =
     tie.close
     (tie.spec
-    Inv-loop
-    μ-loop
     fewer-requires
-    loop-holds
-    shared-slice-read-four-in
-    add-four-in
-    shared-slice-read-four-in-2
-    add-four-in-2
-    shared-slice-read-four-in-3
-    add-four-in-3
-    shared-slice-read-four-in-4
-    four-in-requires
-    slice-write-to
-    add-j
-    add-i
-    loop-less
-    loop-again
+    all-small-requires
+    pack-small-requires
     same-length
-    returns)
+    returns
+    pack-any-requires
+    same-length-2
+    returns-2)
