@@ -37,19 +37,19 @@ unfoldable pub badBits : List ℕ → Bool
 badBits [] = false
 badBits (x ∷ xs) = ltb 1 x || badBits xs
 
--- Build's refusals in 01's order: 1, 3, 4, 5, 2; room is the length of the output
+-- Build's refusals in 01's order: 1, 3, 4, 5, 2; size is the length of the output
 unfoldable pub buildRules : List ℕ → ℕ → ℕ → ℕ → ℕ → ℕ → List Rule
-buildRules a Q N v G room =
+buildRules a Q N v G size =
     rule (badSize (length a)) 1
     ∷ rule (badAllocation (blocks (length a + 24)) Q N G) 3
     ∷ rule (badVersion v) 4
-    ∷ rule (ltb room G) 5
+    ∷ rule (ltb size G) 5
     ∷ rule (badBits a) 2
     ∷ []
 
 -- the number that Build answers: 0 where it is accepted
 unfoldable pub buildNumber : List ℕ → ℕ → ℕ → ℕ → ℕ → ℕ → ℕ
-buildNumber a Q N v G room = firstOf (buildRules a Q N v G room)
+buildNumber a Q N v G size = firstOf (buildRules a Q N v G size)
 
 -- the output afterwards: the codeword over its first G bytes, or as it was
 unfoldable pub buildOutput : List ℕ → ℕ → ℕ → ℕ → ℕ → List ℕ → List ℕ

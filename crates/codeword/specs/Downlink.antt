@@ -32,21 +32,21 @@ unfoldable pub shareFor : ℕ → ℕ → ℕ → ℕ → ℕ → ℕ → ℕ
 shareFor C release kMIMO processes Nsoft layers =
     cond (eqb C 0 || badReceiver release kMIMO processes) 0 (softShare C release kMIMO processes Nsoft layers)
 
--- its refusals in 02's order: 1, 21, 3, 4, 5, 2; room is the length of the output
+-- its refusals in 02's order: 1, 21, 3, 4, 5, 2; size is the length of the output
 unfoldable pub buildDownRules : List ℕ → ℕ → ℕ → ℕ → ℕ → ℕ → ℕ → ℕ → ℕ → ℕ → ℕ → List Rule
-buildDownRules a release kMIMO processes Nsoft layers Q N v G room =
+buildDownRules a release kMIMO processes Nsoft layers Q N v G size =
     rule (badSize (length a)) 1
     ∷ rule (badBuffer (length a + 24) release kMIMO processes Nsoft layers) 21
     ∷ rule (badAllocation (blocks (length a + 24)) Q N G) 3
     ∷ rule (badVersion v) 4
-    ∷ rule (ltb room G) 5
+    ∷ rule (ltb size G) 5
     ∷ rule (badBits a) 2
     ∷ []
 
 -- the number that it answers: 0 where it is accepted
 unfoldable pub buildDownNumber : List ℕ → ℕ → ℕ → ℕ → ℕ → ℕ → ℕ → ℕ → ℕ → ℕ → ℕ → ℕ
-buildDownNumber a release kMIMO processes Nsoft layers Q N v G room =
-    firstOf (buildDownRules a release kMIMO processes Nsoft layers Q N v G room)
+buildDownNumber a release kMIMO processes Nsoft layers Q N v G size =
+    firstOf (buildDownRules a release kMIMO processes Nsoft layers Q N v G size)
 
 -- the output afterwards: the codeword over its first G bytes, or as it was
 unfoldable pub buildDownOutput : List ℕ → ℕ → ℕ → ℕ → ℕ → ℕ → ℕ → ℕ → ℕ → ℕ → List ℕ → List ℕ

@@ -23,13 +23,13 @@ badRun n = ltb n 17 || ltb 80 n
 unfoldable pub badLength : ℕ → Bool
 badLength E = eqb E 0 || ltb 4096 E
 
--- the refusals of building; room is the length of the output
+-- the refusals of building; size is the length of the output
 unfoldable pub controlRules : List ℕ → ℕ → ℕ → List Rule
-controlRules a E room =
-    rule (badPayload (length a)) 20 ∷ rule (badLength E) 3 ∷ rule (ltb room E) 5 ∷ rule (badBits a) 2 ∷ []
+controlRules a E size =
+    rule (badPayload (length a)) 20 ∷ rule (badLength E) 3 ∷ rule (ltb size E) 5 ∷ rule (badBits a) 2 ∷ []
 
 unfoldable pub controlNumber : List ℕ → ℕ → ℕ → ℕ
-controlNumber a E room = firstOf (controlRules a E room)
+controlNumber a E size = firstOf (controlRules a E size)
 
 -- the output afterwards: the message over its first E bytes, or as it was
 unfoldable pub controlOutput : List ℕ → ℕ → ℕ → List ℕ → List ℕ

@@ -9,9 +9,9 @@ use Rattle.refusals.specs.Refusals.{Rule, rule, firstOf}
 use Rattle.segmentation.specs.Sizes.{badSize, sizesAnswer, valuesOf}
 use Rattle.face.specs.Numbers.{inBytes}
 
--- the number that zemrukste_sizes answers for A and an output of `room` bytes: 1, then 5 where the output is too short
+-- the number that zemrukste_sizes answers for A and an output of `size` bytes: 1, then 5 where the output is too short
 unfoldable pub sizesNumber : ℕ → ℕ → ℕ
-sizesNumber A room = firstOf (rule (badSize A) 1 ∷ rule (ltb room 24) 5 ∷ [])
+sizesNumber A size = firstOf (rule (badSize A) 1 ∷ rule (ltb size 24) 5 ∷ [])
 
 -- the output afterwards: the six numbers, four bytes each, over its first 24 bytes, or as it was
 unfoldable pub sizesBytes : ℕ → List ℕ → List ℕ

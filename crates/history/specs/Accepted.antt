@@ -20,14 +20,14 @@ lentLength state n past = cond (ltb n (storeLength state)) n (n + length past)
 
 -- the state after a history, where the rooms have n bytes: an accepted opening sets the head, an accepted closing clears it
 unfoldable pub headsAfterCall : State → ℕ → Call → State
-headsAfterCall state room (opening link slot terminal A) =
-    cond (eqb (openingNumber link state room slot A) 0)
+headsAfterCall state lent (opening link slot terminal A) =
+    cond (eqb (openingNumber link state lent slot A) 0)
     (withHead state slot (openHead terminal A (shareIn link A)))
     state
-headsAfterCall state room (receiving slot terminal r) = state
-headsAfterCall state room (reading slot terminal size) = state
-headsAfterCall state room (streaming slot terminal block size) = state
-headsAfterCall state room (closing slot terminal) =
+headsAfterCall state lent (receiving slot terminal r) = state
+headsAfterCall state lent (reading slot terminal size) = state
+headsAfterCall state lent (streaming slot terminal block size) = state
+headsAfterCall state lent (closing slot terminal) =
     cond (eqb (closeNumber state slot terminal) 0) (withHead state slot closedHead) state
 
 unfoldable pub headsAfter : ℕ → ℕ → ℕ → History → State
@@ -37,13 +37,13 @@ headsAfter S M n (m ∷ h) =
 
 -- the accepted receptions of a slot since its last accepted opening or closing, latest first, after one more call
 unfoldable pub sinceCall : State → ℕ → ℕ → Call → List Reception → List Reception
-sinceCall state room slot (opening link s terminal A) earlier =
-    cond (eqb s slot && eqb (openingNumber link state room s A) 0) [] earlier
-sinceCall state room slot (receiving s terminal r) earlier =
-    cond (eqb s slot && eqb (receiveNumber state room s terminal (r .Q) (r .N) (r .version) (r .bits)) 0) (r ∷ earlier) earlier
-sinceCall state room slot (reading s terminal size) earlier = earlier
-sinceCall state room slot (streaming s terminal block size) earlier = earlier
-sinceCall state room slot (closing s terminal) earlier =
+sinceCall state lent slot (opening link s terminal A) earlier =
+    cond (eqb s slot && eqb (openingNumber link state lent s A) 0) [] earlier
+sinceCall state lent slot (receiving s terminal r) earlier =
+    cond (eqb s slot && eqb (receiveNumber state lent s terminal (r .Q) (r .N) (r .version) (r .bits)) 0) (r ∷ earlier) earlier
+sinceCall state lent slot (reading s terminal size) earlier = earlier
+sinceCall state lent slot (streaming s terminal block size) earlier = earlier
+sinceCall state lent slot (closing s terminal) earlier =
     cond (eqb s slot && eqb (closeNumber state s terminal) 0) [] earlier
 
 unfoldable pub since : ℕ → ℕ → ℕ → ℕ → History → List Reception

@@ -23,11 +23,11 @@ opensOrCloses (closing slot terminal) = true
 
 -- an accepted opening or closing of the slot
 unfoldable pub restarts : State → ℕ → ℕ → Call → Bool
-restarts state room slot (opening link s terminal A) = eqb s slot && eqb (openingNumber link state room s A) 0
-restarts state room slot (receiving s terminal r) = false
-restarts state room slot (reading s terminal size) = false
-restarts state room slot (streaming s terminal block size) = false
-restarts state room slot (closing s terminal) = eqb s slot && eqb (closeNumber state s terminal) 0
+restarts state lent slot (opening link s terminal A) = eqb s slot && eqb (openingNumber link state lent s A) 0
+restarts state lent slot (receiving s terminal r) = false
+restarts state lent slot (reading s terminal size) = false
+restarts state lent slot (streaming s terminal block size) = false
+restarts state lent slot (closing s terminal) = eqb s slot && eqb (closeNumber state s terminal) 0
 
 -- none of the later calls, made after the history h, is an accepted opening or closing of the slot
 abbrev pub Undisturbed : ℕ → ℕ → ℕ → ℕ → History → History → Type 0

@@ -21,14 +21,14 @@ shareIn (downlink release kMIMO processes Nsoft layers) A =
 
 -- the number of an opening, its outcome, and the store after it
 unfoldable pub openingNumber : Link → State → ℕ → ℕ → ℕ → ℕ
-openingNumber uplink state room slot A = openNumber state room slot A
-openingNumber (downlink release kMIMO processes Nsoft layers) state room slot A =
-    openDownNumber state room slot A release kMIMO processes Nsoft layers
+openingNumber uplink state lent slot A = openNumber state lent slot A
+openingNumber (downlink release kMIMO processes Nsoft layers) state lent slot A =
+    openDownNumber state lent slot A release kMIMO processes Nsoft layers
 
 unfoldable pub openingOutcome : Link → State → ℕ → ℕ → ℕ → ℕ → Outcome
-openingOutcome uplink state room slot terminal A = openOutcome state room slot terminal A
-openingOutcome (downlink release kMIMO processes Nsoft layers) state room slot terminal A =
-    openDownOutcome state room slot terminal A release kMIMO processes Nsoft layers
+openingOutcome uplink state lent slot terminal A = openOutcome state lent slot terminal A
+openingOutcome (downlink release kMIMO processes Nsoft layers) state lent slot terminal A =
+    openDownOutcome state lent slot terminal A release kMIMO processes Nsoft layers
 
 unfoldable pub openingStore : Link → State → ℕ → ℕ → List ℕ → List ℕ
 openingStore uplink state slot A store = openStore state slot A store

@@ -62,18 +62,18 @@ startAfter text from (suc n) = startAfter text (lineNext text from) n
 abbrev pub rowRoom : ℕ
 rowRoom = 147
 
--- how many lines are answered in `room` bytes: a line is answered where rowRoom bytes are left for its row
+-- how many lines are answered in `size` bytes: a line is answered where rowRoom bytes are left for its row
 unfoldable pub answered : ℕ → List (List ℕ) → ℕ
-answered room [] = 0
-answered room (l ∷ ls) = cond (leb rowRoom room) (suc (answered (room - length (sizesRow l)) ls)) 0
+answered size [] = 0
+answered size (l ∷ ls) = cond (leb rowRoom size) (suc (answered (size - length (sizesRow l)) ls)) 0
 
--- of the text from place `from` on, the lines that a call with an output of `room` bytes answers
+-- of the text from place `from` on, the lines that a call with an output of `size` bytes answers
 unfoldable pub answeredLines : List ℕ → ℕ → ℕ → ℕ
-answeredLines text from room = answered room (linesOf (drop from text))
+answeredLines text from size = answered size (linesOf (drop from text))
 
 -- what the call writes
 unfoldable pub writtenRows : List ℕ → ℕ → ℕ → List ℕ
-writtenRows text from room = rowsOf (take (answeredLines text from room) (linesOf (drop from text)))
+writtenRows text from size = rowsOf (take (answeredLines text from size) (linesOf (drop from text)))
 
 -- the output afterwards: all other bytes stay
 unfoldable pub rowsOver : List ℕ → ℕ → List ℕ → List ℕ
@@ -81,13 +81,13 @@ rowsOver text from out = writtenRows text from (length out) ++ drop (length (wri
 
 -- where the next call goes on, and how many bytes were written
 unfoldable pub progressOf : List ℕ → ℕ → ℕ → Progress
-progressOf text from room =
+progressOf text from size =
     record {
-      next = startAfter text from (answeredLines text from room);
-      written = length (writtenRows text from room);
+      next = startAfter text from (answeredLines text from size);
+      written = length (writtenRows text from size);
     }
 
--- what n calls with outputs of `room` bytes write, each going on where the one before it stopped
+-- what n calls with outputs of `size` bytes write, each going on where the one before it stopped
 unfoldable pub callsFrom : List ℕ → ℕ → ℕ → ℕ → List ℕ
-callsFrom text room zero from = []
-callsFrom text room (suc n) from = writtenRows text from room ++ callsFrom text room n (progressOf text from room .next)
+callsFrom text size zero from = []
+callsFrom text size (suc n) from = writtenRows text from size ++ callsFrom text size n (progressOf text from size .next)

@@ -86,10 +86,10 @@ pub record Fitting (D D1 D2 F : ℕ) : Type 0 where
   pub most : D ≤ longest
   pub filler : F < D
 
--- a ring of `room` places is long enough for units that need no more than `need`: all of them fit, or each that begins before place `most`, as none
+-- a ring of `long` places is long enough for units that need no more than `need`: all of them fit, or each that begins before place `most`, as none
 -- has more than 2·R places
-pub record Holds (R most need room : ℕ) : Type 0 where
-  pub fits : room < most + 2 * R → need ≤ room
+pub record Holds (R most need long : ℕ) : Type 0 where
+  pub fits : long < most + 2 * R → need ≤ long
 
 -- the places of a ring that is long enough for E bits: at most those of the circle
 unfoldable pub ringRoom : ℕ → ℕ → ℕ

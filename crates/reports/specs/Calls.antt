@@ -16,7 +16,7 @@ use Rattle.reports.specs.Refusals.{buildRules, partRules}
 
 -- the number that it answers: 0 where it is accepted
 unfoldable pub reportBuildNumber : List ℕ → ℕ → List ℕ → ℕ → ℕ → ℕ → ℕ → ℕ → ℕ
-reportBuildNumber o control a Q N v G room = firstOf (buildRules o control a Q N v G room)
+reportBuildNumber o control a Q N v G size = firstOf (buildRules o control a Q N v G size)
 
 -- first place the control information, then place the data
 unfoldable pub multiplexed : List ℕ → ℕ → List ℕ → ℕ → ℕ → ℕ → ℕ → List ℕ
@@ -38,8 +38,8 @@ pastControl N control received = drop (N * control) received
 
 -- the number that it answers: 19, where two or more messages are nearest, comes last
 unfoldable pub partNumber : ℕ → ℕ → ℕ → ℕ → ℕ → List ℕ → ℕ → ℕ
-partNumber A Q N O control received room =
-    firstOf (partRules A Q N O control received room ++ (rule (nearestMessage O (controlPart N control received) .tied) 19 ∷ []))
+partNumber A Q N O control received size =
+    firstOf (partRules A Q N O control received size ++ (rule (nearestMessage O (controlPart N control received) .tied) 19 ∷ []))
 
 -- the message that is nearest: its O bits
 unfoldable pub nearestReport : ℕ → ℕ → ℕ → List ℕ → List ℕ

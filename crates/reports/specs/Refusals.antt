@@ -28,16 +28,16 @@ shapeRules A Q N O control = rule (badSize A) 1 ∷ rule (badSymbol Q N) 3 ∷ r
 
 -- Build with a report o: then 3 (G), 4, 5, 2; the output has N·control + G bits
 unfoldable pub buildRules : List ℕ → ℕ → List ℕ → ℕ → ℕ → ℕ → ℕ → ℕ → List Rule
-buildRules o control a Q N v G room =
+buildRules o control a Q N v G size =
     shapeRules (length a) Q N (length o) control
     ++ (rule (badAllocation (blocks (length a + 24)) Q N G) 3
     ∷ rule (badVersion v) 4
-    ∷ rule (ltb room (N * control + G)) 5
+    ∷ rule (ltb size (N * control + G)) 5
     ∷ rule (badBits o || badBits a) 2
     ∷ [])
 
 -- the way back before the messages are compared: then 3 (G), 5, 2; G is what the run has past its N·control control bits
 unfoldable pub partRules : ℕ → ℕ → ℕ → ℕ → ℕ → List ℕ → ℕ → List Rule
-partRules A Q N O control received room =
+partRules A Q N O control received size =
     shapeRules A Q N O control
-    ++ (rule (badAllocation (blocks (A + 24)) Q N (length received - N * control)) 3 ∷ rule (ltb room O) 5 ∷ rule (badBits received) 2 ∷ [])
+    ++ (rule (badAllocation (blocks (A + 24)) Q N (length received - N * control)) 3 ∷ rule (ltb size O) 5 ∷ rule (badBits received) 2 ∷ [])

@@ -25,10 +25,10 @@ use Rattle.slots.specs.Answers.{isDone, unlessRefused}
 unfoldable pub withHead : State → ℕ → Head → State
 withHead state slot h = record { slots = state .slots; blocks = state .blocks; heads = set (state .heads) slot h }
 
--- 13, 5 (store), 6: what every call on a store asks first; room is the length of the store
+-- 13, 5 (store), 6: what every call on a store asks first; lent is the length of the store
 unfoldable pub storeRules : State → ℕ → ℕ → List Rule
-storeRules state room slot =
-    rule (badState state) 13 ∷ rule (ltb room (storeLength state)) 5 ∷ rule (not (ltb slot (state .slots))) 6 ∷ []
+storeRules state lent slot =
+    rule (badState state) 13 ∷ rule (ltb lent (storeLength state)) 5 ∷ rule (not (ltb slot (state .slots))) 6 ∷ []
 
 -- 8, 9: the slot is open for this terminal
 unfoldable pub ownerRules : State → ℕ → ℕ → List Rule
@@ -43,8 +43,8 @@ newOutcome S M =
 
 -- 13, 5, 6, 7, 1, 10: what is asked of every opening
 unfoldable pub openRules : State → ℕ → ℕ → ℕ → List Rule
-openRules state room slot A =
-    storeRules state room slot
+openRules state lent slot A =
+    storeRules state lent slot
     ++ (rule (headAt state slot .opened) 7 ∷ rule (badSize A) 1 ∷ rule (tooMany (state .blocks) A) 10 ∷ [])
 
 -- the slot opened: its head holds the terminal, A and the share
@@ -54,11 +54,11 @@ openedFor state slot terminal A soft =
 
 -- Open: the head of an uplink holds the whole share
 unfoldable pub openNumber : State → ℕ → ℕ → ℕ → ℕ
-openNumber state room slot A = firstOf (openRules state room slot A)
+openNumber state lent slot A = firstOf (openRules state lent slot A)
 
 unfoldable pub openOutcome : State → ℕ → ℕ → ℕ → ℕ → Outcome
-openOutcome state room slot terminal A =
-    unlessRefused (openNumber state room slot A) state (openedFor state slot terminal A wholeShare)
+openOutcome state lent slot terminal A =
+    unlessRefused (openNumber state lent slot A) state (openedFor state slot terminal A wholeShare)
 
 unfoldable pub openStore : State → ℕ → ℕ → List ℕ → List ℕ
 openStore state slot A store =
@@ -66,12 +66,12 @@ openStore state slot A store =
 
 -- Open for a downlink: 21 comes last; the head holds ⌊N_IR / C⌋ as it is, also where no circle is so long
 unfoldable pub openDownNumber : State → ℕ → ℕ → ℕ → ℕ → ℕ → ℕ → ℕ → ℕ → ℕ
-openDownNumber state room slot A release kMIMO processes Nsoft layers =
-    firstOf (openRules state room slot A ++ (rule (badBuffer (A + 24) release kMIMO processes Nsoft layers) 21 ∷ []))
+openDownNumber state lent slot A release kMIMO processes Nsoft layers =
+    firstOf (openRules state lent slot A ++ (rule (badBuffer (A + 24) release kMIMO processes Nsoft layers) 21 ∷ []))
 
 unfoldable pub openDownOutcome : State → ℕ → ℕ → ℕ → ℕ → ℕ → ℕ → ℕ → ℕ → ℕ → Outcome
-openDownOutcome state room slot terminal A release kMIMO processes Nsoft layers =
-    unlessRefused (openDownNumber state room slot A release kMIMO processes Nsoft layers) state
+openDownOutcome state lent slot terminal A release kMIMO processes Nsoft layers =
+    unlessRefused (openDownNumber state lent slot A release kMIMO processes Nsoft layers) state
     (openedFor state slot terminal A (softShare (blocks (A + 24)) release kMIMO processes Nsoft layers))
 
 unfoldable pub openDownStore : State → ℕ → ℕ → ℕ → ℕ → ℕ → ℕ → ℕ → List ℕ → List ℕ
@@ -90,9 +90,9 @@ shareAtHead state slot = headAt state slot .share
 
 -- Receive: 13, 5, 6, 8, 9, 3, 4, 2
 unfoldable pub receiveNumber : State → ℕ → ℕ → ℕ → ℕ → ℕ → ℕ → List ℕ → ℕ
-receiveNumber state room slot terminal Q N v bits =
+receiveNumber state lent slot terminal Q N v bits =
     firstOf
-    (storeRules state room slot
+    (storeRules state lent slot
     ++ (ownerRules state slot terminal
     ++ (rule (badAllocation (blocks (sizeAtHead state slot + 24)) Q N (length bits)) 3
     ∷ rule (badVersion v) 4
@@ -116,9 +116,9 @@ receiveOutcome state slot terminal Q N v bits store =
 
 -- Read: 13, 5, 6, 8, 9, 5 (output), then 11 with the count, 16 with the code block, 12; size is the length of the output
 unfoldable pub readNumber : State → ℕ → ℕ → ℕ → ℕ → ℕ
-readNumber state room slot terminal size =
+readNumber state lent slot terminal size =
     firstOf
-    (storeRules state room slot ++ (ownerRules state slot terminal ++ (rule (ltb size (sizeAtHead state slot)) 5 ∷ [])))
+    (storeRules state lent slot ++ (ownerRules state slot terminal ++ (rule (ltb size (sizeAtHead state slot)) 5 ∷ [])))
 
 unfoldable pub readOutcome : State → List ℕ → ℕ → ℕ → ℕ → Outcome
 readOutcome state store slot terminal size =
@@ -137,17 +137,17 @@ readOutput state store slot terminal out =
 
 -- Streams: 13, 5, 6, 8, 9, 14, 5 (output)
 unfoldable pub streamsNumber : State → ℕ → ℕ → ℕ → ℕ → ℕ → ℕ
-streamsNumber state room slot terminal r size =
+streamsNumber state lent slot terminal r size =
     firstOf
-    (storeRules state room slot
+    (storeRules state lent slot
     ++ (ownerRules state slot terminal
     ++ (rule (not (ltb r (blocks (sizeAtHead state slot + 24)))) 14
     ∷ rule (ltb size (3 * (sizeOf (sizeAtHead state slot + 24) r + 4))) 5
     ∷ [])))
 
 unfoldable pub streamsOutcome : State → ℕ → ℕ → ℕ → ℕ → ℕ → Outcome
-streamsOutcome state room slot terminal r size =
-    unlessRefused (streamsNumber state room slot terminal r size) state (record { answer = Done; state = state })
+streamsOutcome state lent slot terminal r size =
+    unlessRefused (streamsNumber state lent slot terminal r size) state (record { answer = Done; state = state })
 
 unfoldable pub streamsOutput : State → List ℕ → ℕ → ℕ → ℕ → List ℕ → List ℕ
 streamsOutput state store slot terminal r out =

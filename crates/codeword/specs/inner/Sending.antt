@@ -44,5 +44,5 @@ pub record Roomy (K d0 d1 d2 : ℕ) : Type 0 where
 
 -- the number of a Build for a downlink whose code blocks have the share `soft`, 0 where the receiver is refused: the longest code block has the most rows
 unfoldable pub numberWith : List ℕ → ℕ → ℕ → ℕ → ℕ → ℕ → ℕ → ℕ
-numberWith a soft Q N v G room =
-    cond (badSize (length a)) 1 (cond (ltb soft (32 * rows (long (length a + 24) + 4))) 21 (buildNumber a Q N v G room))
+numberWith a soft Q N v G size =
+    cond (badSize (length a)) 1 (cond (ltb soft (32 * rows (long (length a + 24) + 4))) 21 (buildNumber a Q N v G size))

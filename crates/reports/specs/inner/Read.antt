@@ -9,8 +9,8 @@ use Rattle.reports.specs.declared.parting.Read.{Read}
 use Rattle.reports.specs.Calls.{controlPart, partNumber}
 
 unfoldable pub readRun : ℕ → ℕ → ℕ → ℕ → ℕ → List ℕ → ℕ → Read
-readRun A Q N O control received room =
+readRun A Q N O control received size =
     record {
-      number = partNumber A Q N O control received room;
-      message = cond (eqb (partNumber A Q N O control received room) 0) (nearestMessage O (controlPart N control received) .message) 0;
+      number = partNumber A Q N O control received size;
+      message = cond (eqb (partNumber A Q N O control received size) 0) (nearestMessage O (controlPart N control received) .message) 0;
     }
