@@ -33,7 +33,6 @@ use Rattle.packing.proofs.Places.{two-bits-keep, place-lt}
 use Rattle.packing.proofs.Forms.{length-packed, length-unpacked, there-and-back}
 use Rattle.packing.proofs.Stores.{getD-unpacked, places-are, places-mid, places-put}
 use Rattle.reading.specs.Circle.{keptOn, missing, missingOn, countable}
-use Rattle.reading.proofs.Form.{unpacked-whole}
 use Rattle.reading.proofs.Sums.{Summing, start, next, finish}
 use Rattle.reading.proofs.Lacking.{countable-is, block-few}
 use Rattle.reading.proofs.Blocks.{few, filler-below}
@@ -99,6 +98,19 @@ packed-there circle part {part′} e h o =
     ∙ ap (λ (n : ℕ). unpacked n (packed (length part) circle)) (length-packed (length part) circle)
     ∙ there-and-back (length part) circle e
     ∙ two-bits-all circle h
+
+-- a buffer in which all of the bytes were unpacked
+unpacked-whole : (part circle : List ℕ) {circle′ : List ℕ} → length circle ≡ 4 * length part
+    → circle′ ≡ unpackedOver (min (length part) (length circle / 4)) part circle → circle′ ≡ placesIn true part
+unfolding unpackedOver placesIn
+unpacked-whole part circle {circle′} e o =
+    o
+    ∙ ap (λ (n : ℕ). unpacked n part ++ drop (4 * n) circle) all
+    ∙ ap (λ (l : List ℕ). unpacked (length part) part ++ l) (drop-of-length-le circle {i = 4 * length part} (omega arith))
+    ∙ append-nil (unpacked (length part) part)
+  where
+    all : min (length part) (length circle / 4) ≡ length part
+    all = omega arith
 
 -- the part is unpacked, takes the bits and is packed again
 module _ {K F soft v : ℕ} (bits part circle : List ℕ) {circle₁ circle₂ part′ : List ℕ} (low : F ≤ K) (ok : Sends (K + 4) F soft v (length circle))
