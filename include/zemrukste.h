@@ -3,7 +3,7 @@
  * reports ahead of it), of DL-SCH data for a receiver with a limited soft buffer, and of downlink
  * control messages (clause 5.3.3).
  *
- * Calls for the cell's scheduler, and for the change of form of a room in a unit with less
+ * Calls for the cell's scheduler, for the slots that hear the cars, and for a unit with less
  * memory. All work on numbers and byte slices alone:
  *
  * - A bit is one byte, 0 or 1.
@@ -13,7 +13,8 @@
  *   asked for. A length beyond what the call needs is fine.
  * - The slices of one call must not overlap. An input is never written.
  * - Every number of a size_t may be given: what is out of range is refused, not undefined.
- * - The calls keep nothing between them: no global state, no heap (their work arrays are on
+ * - The calls keep nothing between them but what lies in the bytes that the caller lends (the
+ *   slots' state and store, below): no global state, no heap (their work arrays are on
  *   the caller's stack: some 41 kilobytes in every build that is accepted, however short its
  *   block, under 1 in one that is refused, at most 3 in any other call), no file or
  *   clock, no error variable. They always return and may be made from several threads at
@@ -49,6 +50,9 @@ extern "C" {
 #define ZEMRUKSTE_ROOM_PER_BLOCK 18528
 #define ZEMRUKSTE_PACKED_PER_BLOCK 4632
 
+/* Bytes of the slots' state. */
+#define ZEMRUKSTE_STATE_LEN 272
+
 /* The numbers given back, and what to do about each. */
 #define ZEMRUKSTE_OK 0
 /* The block's length A is not 1 to 30,576: choose a transport block size in that range. */
@@ -66,16 +70,40 @@ extern "C" {
 #define ZEMRUKSTE_BAD_VERSION 4
 /* The output is too short: lend at least g bytes (zemrukste_build, zemrukste_build_two,
    zemrukste_build_down), n * control + g (zemrukste_report_build), o (zemrukste_report_part),
-   24 (zemrukste_sizes), e (zemrukste_control_build).
+   24 (zemrukste_sizes), e (zemrukste_control_build), A (zemrukste_read), three times D
+   (zemrukste_streams), ZEMRUKSTE_STATE_LEN (zemrukste_new). For the calls on slots it may also
+   be the store: lend S * M rooms.
    For the change of form either buffer is too short: lend a whole room and the whole of its
    other form. */
 #define ZEMRUKSTE_SHORT_OUTPUT 5
-/* m is not 1 to 5: give the M of the state that the room belongs to. */
+/* There is no such slot: slot is below S. */
+#define ZEMRUKSTE_NO_SLOT 6
+/* The slot is open already: close it for its terminal first. */
+#define ZEMRUKSTE_OPEN_ALREADY 7
+/* The slot is closed: open it for the terminal. */
+#define ZEMRUKSTE_CLOSED 8
+/* The slot is another terminal's: find this one's slot, and never act on the answer. */
+#define ZEMRUKSTE_OTHER_TERMINAL 9
+/* A needs more code blocks than a slot has room for: make a state with a larger M. */
+#define ZEMRUKSTE_TOO_MANY_BLOCKS 10
+/* Data places lack a bit: none was heard, or both a 0 and a 1. *count is how many. Wait for the
+   next repeat; if the number stays when all was sent again, the rest is disputed: close the
+   slot, open it again, and let the car send once more. */
+#define ZEMRUKSTE_LACKING 11
+/* All was heard, and the transport check is wrong: close and open the slot, and let the car send
+   again. */
+#define ZEMRUKSTE_WRONG_CHECK 12
+/* The state is none that the calls made, or that of a refused zemrukste_new, or state_len is
+   below ZEMRUKSTE_STATE_LEN: begin with zemrukste_new and hand each call the bytes as the last
+   one left them. For the change of form m is not 1 to 5: give the M of the state that the room
+   belongs to. */
 #define ZEMRUKSTE_BAD_SHAPE 13
-/* The numbers from 6 to 12 and 14 to 16 are those of the calls on slots, which are not declared
-   here; README says what to do about each. 16 is Read's: all data bits were heard, and CRC24B
-   of a code block is wrong; the first such block, counted from 0, comes with it, and no block
-   is released. */
+#define ZEMRUKSTE_BAD_STATE 13
+/* There is no such code block: block is below C of zemrukste_sizes. (15 is a number of the
+   replay of a log alone.) */
+#define ZEMRUKSTE_NO_CODE_BLOCK 14
+/* All data bits were heard, and CRC24B of a code block is wrong; *count is the first such block,
+   counted from 0, and no block is released. As for 12. */
 #define ZEMRUKSTE_WRONG_CODE_BLOCK 16
 /* A report has 1 to 11 bits: correct its length. */
 #define ZEMRUKSTE_BAD_REPORT 17
@@ -262,6 +290,149 @@ uint32_t zemrukste_pack(size_t m, const uint8_t *from, size_t from_len, uint8_t 
                         size_t to_len);
 uint32_t zemrukste_unpack(size_t m, const uint8_t *from, size_t from_len, uint8_t *to,
                           size_t to_len);
+
+/*
+ * The slots: what the cell has heard of each car, until the block can be released. A slot is
+ * opened for one terminal with the length A of its block, receives, is read, and is closed:
+ *
+ *   zemrukste_new                         once, for S slots of M code blocks each
+ *     zemrukste_open (_open_down)         the slot's room is cleared, the slot is the car's
+ *       zemrukste_receive ..              once for each transmission and each repeat
+ *       zemrukste_read                    11: wait for a repeat; 0: the block is released
+ *       zemrukste_streams                 what was heard of a code block, for a decoder chip
+ *     zemrukste_close                     the slot is free; its room stays as it is
+ *
+ * The caller keeps two runs of bytes between the calls and lends both:
+ *
+ *   state, state_len   the state, ZEMRUKSTE_STATE_LEN bytes: 34 numbers of eight bytes, lowest
+ *                      byte first: S, M, then for each of eight heads 1 if it is open, else 0;
+ *                      terminal; A; and its code blocks' share of the soft buffer (18,528 in an
+ *                      uplink, 0 in a closed head). zemrukste_new makes it, zemrukste_open and
+ *                      zemrukste_close change the 32 bytes of their slot's head. Nothing else
+ *                      need be known of it; bytes past the 272 are neither read nor written.
+ *   store, store_len   the rooms, S * M * ZEMRUKSTE_ROOM_PER_BLOCK bytes, slot after slot; what
+ *                      stands in them at first does not matter. Bytes past them stay.
+ *
+ *   slot               which: 0 to S - 1
+ *   terminal           whose: 0 to 65,535
+ *   count              never null; written where the text says so, else as it was
+ *
+ * Any bytes are answered. A state_len below 272 is refused with 13 (by zemrukste_new with 5);
+ * so are bytes that are no state: S or M out of range, and in a head below S a flag above 1, a
+ * terminal above 65,535, or an A or a share that no opening leaves. Heads from S upward are
+ * ignored and left. A refusal writes nothing: neither state nor store nor output nor *count,
+ * but for the *count of 11 and of 16 and for the state that a zemrukste_new refused with 13
+ * leaves, which every call refuses.
+ *
+ * Threads: calls on one state or one store must not run at once, but for those that write
+ * neither, zemrukste_read and zemrukste_streams.
+ *
+ * What is proved of a history of calls holds for a caller who begins with zemrukste_new, hands
+ * each call the state and the store as the last one left them, and writes neither himself. After
+ * each call the bytes stand for the very state that the proved call returns: new-handed,
+ * open-handed, down-handed and close-handed, crates/face/proofs/Handed.antt. So a block is
+ * released exactly when every data bit of it was heard since its opening, and none of another
+ * car's: released-iff and since-opening, crates/history.
+ */
+
+/*
+ * A state of S slots for M code blocks each, all closed: slots is S, 1 to 8, blocks is M, 1 to 5.
+ *
+ * Accepted (0): state[0] to state[271] are the new state. Refused with 5 (state_len below 272):
+ * every byte stays. Refused with 13 (slots or blocks out of range): state[0] to state[271] are
+ * a state of S = 0, which every call refuses. Refusals in their order: 5, 13.
+ */
+uint32_t zemrukste_new(uint8_t *state, size_t state_len, size_t slots, size_t blocks);
+
+/*
+ * Opens a slot for a terminal with a block of a bits, 1 to 30,576.
+ *
+ * Accepted (0): every byte of the slot's room is 2, unheard, and the slot's head is open.
+ * Refused: every byte stays. Refusals in their order: 13, 5, 6, 7, 1, 10.
+ */
+uint32_t zemrukste_open(uint8_t *state, size_t state_len, size_t slot, uint16_t terminal, size_t a,
+                        uint8_t *store, size_t store_len);
+
+/*
+ * The same for a downlink, for a receiver whose soft buffer is limited; release, mimo,
+ * processes, soft and layers are those of zemrukste_build_down.
+ * Refusals in their order: 13, 5, 6, 7, 1, 10, 21.
+ */
+uint32_t zemrukste_open_down(uint8_t *state, size_t state_len, size_t slot, uint16_t terminal,
+                             size_t a, size_t release, size_t mimo, size_t processes, size_t soft,
+                             size_t layers, uint8_t *store, size_t store_len);
+
+/*
+ * Puts the bits of one transmission where zemrukste_build (zemrukste_build_down) of the opened
+ * block would have taken them from.
+ *
+ *   q, n, version      as the transmission was sent
+ *   bits, bits_len     its G bits, one a byte; G is bits_len
+ *
+ * Accepted (0): *count is how many data places lack a bit now; a place that has heard both a 0
+ * and a 1 since the opening is disputed and lacks one. Of the store only places that the
+ * transmission has a bit for are written. Refused: every byte and *count stay.
+ * Refusals in their order: 13, 5, 6, 8, 9, 3, 4, 2.
+ */
+uint32_t zemrukste_receive(const uint8_t *state, size_t state_len, size_t slot, uint16_t terminal,
+                           size_t q, size_t n, size_t version, const uint8_t *bits, size_t bits_len,
+                           uint8_t *store, size_t store_len, size_t *count);
+
+/*
+ * Reads the block of an open slot; the slot stays open.
+ *
+ * Accepted (0): out[0] to out[A - 1] are the block, one bit a byte; the others and *count stay.
+ * Refused with 11: *count is how many data places lack a bit. Refused with 16: *count is the
+ * first code block whose check is wrong. Any other refusal leaves *count; each leaves out.
+ * Refusals in their order: 13, 5 (store), 6, 8, 9, 5 (output), 11, 16, 12.
+ */
+uint32_t zemrukste_read(const uint8_t *state, size_t state_len, size_t slot, uint16_t terminal,
+                        const uint8_t *store, size_t store_len, uint8_t *out, size_t out_len,
+                        size_t *count);
+
+/*
+ * The three streams of code block `block` as they were heard, for a decoder.
+ *
+ * Accepted (0): out[0] to out[3 * D - 1] are three runs of D bytes, D being the code block's size
+ * and 4: 0 or 1 for a bit that was heard, 2 for a place that lacks one, 0 for filler, which is
+ * not sent. The others stay. Refused: every byte of out stays.
+ * Refusals in their order: 13, 5 (store), 6, 8, 9, 14, 5 (output).
+ */
+uint32_t zemrukste_streams(const uint8_t *state, size_t state_len, size_t slot, uint16_t terminal,
+                           size_t block, const uint8_t *store, size_t store_len, uint8_t *out,
+                           size_t out_len);
+
+/*
+ * Closes a slot for its terminal; the room is not written.
+ *
+ * Accepted (0): the slot's head is closed. Refused: every byte stays.
+ * Refusals in their order: 13, 6, 8, 9.
+ */
+uint32_t zemrukste_close(uint8_t *state, size_t state_len, size_t slot, uint16_t terminal);
+
+/*
+ * The same calls for a unit with less memory: a store with four places a byte, in the packed
+ * form of zemrukste_pack, S * M * ZEMRUKSTE_PACKED_PER_BLOCK bytes. State, answers and outputs
+ * are those of the plain call on the store that zemrukste_unpack gives, and the store afterwards
+ * is the packed form of what that call leaves. zemrukste_new and zemrukste_close serve both.
+ * Some 19 kilobytes more of the stack are used by the packed reads and streams.
+ */
+uint32_t zemrukste_open_packed(uint8_t *state, size_t state_len, size_t slot, uint16_t terminal,
+                               size_t a, uint8_t *store, size_t store_len);
+uint32_t zemrukste_open_down_packed(uint8_t *state, size_t state_len, size_t slot,
+                                    uint16_t terminal, size_t a, size_t release, size_t mimo,
+                                    size_t processes, size_t soft, size_t layers, uint8_t *store,
+                                    size_t store_len);
+uint32_t zemrukste_receive_packed(const uint8_t *state, size_t state_len, size_t slot,
+                                  uint16_t terminal, size_t q, size_t n, size_t version,
+                                  const uint8_t *bits, size_t bits_len, uint8_t *store,
+                                  size_t store_len, size_t *count);
+uint32_t zemrukste_read_packed(const uint8_t *state, size_t state_len, size_t slot,
+                               uint16_t terminal, const uint8_t *store, size_t store_len,
+                               uint8_t *out, size_t out_len, size_t *count);
+uint32_t zemrukste_streams_packed(const uint8_t *state, size_t state_len, size_t slot,
+                                  uint16_t terminal, size_t block, const uint8_t *store,
+                                  size_t store_len, uint8_t *out, size_t out_len);
 
 #ifdef __cplusplus
 }

@@ -2,6 +2,7 @@
 mod calls;
 mod control;
 mod numbers;
+mod packed;
 mod state;
 
 ghost use mathlib.Core.List.{_++_};
