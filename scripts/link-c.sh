@@ -4,14 +4,20 @@
 need gcc gcc
 
 link_c() {
+    # The compiler's own headers are used, without a C library's. As C++ only the headers are told so: the main of a
+    # free-standing C++ program is no C function, and nothing would call it.
+    local alone=(-ffreestanding)
     linked=target/face/$1
-    [ "${2:-c}" = c ] || linked=$linked-$2
+    if [ "${2:-c}" != c ]; then
+        alone=(-U__STDC_HOSTED__ -D__STDC_HOSTED__=0 -Wno-builtin-macro-redefined)
+        linked=$linked-$2
+    fi
     mkdir -p target/face || return 1
     if [ -z "${face_built:-}" ]; then
         rt staticlib face || return 1
         face_built=1
     fi
-    "$toolchain/bin/clang" --target=x86_64-unknown-linux-gnu -O2 -fPIC -ffreestanding -Wall -Wextra \
+    "$toolchain/bin/clang" --target=x86_64-unknown-linux-gnu -O2 -fPIC "${alone[@]}" -Wall -Wextra \
         -isystem "$(gcc -print-file-name=include)" -Iinclude -x "${2:-c}" -c "face/$1.c" -o "$linked.o" || return 1
     "$kit/on/$(uname -m)/bin/rattle-link" --target x86_64-unknown-linux-gnu --toolchain "$toolchain" \
         -o "$linked" "$linked.o" target/staticlib/libface.a
