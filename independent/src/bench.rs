@@ -8,8 +8,9 @@
 //! the least time a call stands.
 
 use crate::segmentation::Segmentation;
-use crate::slots::{self, Refusal, State, ROOM_OF_BLOCK};
-use crate::soft_buffer::Receiver;
+use crate::packing::{self, PACKED_OF_BLOCK};
+use crate::slots::{self, Head, Refusal, State, ROOM_OF_BLOCK};
+use crate::soft_buffer::{Receiver, WHOLE_SHARE};
 use crate::older::black_box;
 use crate::{codeword, control, fast, fast_control, fast_report, fast_slots, report, xorshift};
 use std::time::{Duration, Instant};
@@ -108,6 +109,7 @@ mod library {
         pub fn heard_receive(
             m: usize,
             a: usize,
+            share: usize,
             q: usize,
             n: usize,
             version: usize,
@@ -117,9 +119,33 @@ mod library {
             store_len: usize,
             lacking: *mut usize,
         ) -> u32;
+        pub fn heard_receive_packed(
+            m: usize,
+            a: usize,
+            share: usize,
+            q: usize,
+            n: usize,
+            version: usize,
+            bits: *const u8,
+            bits_len: usize,
+            store: *mut u8,
+            store_len: usize,
+            lacking: *mut usize,
+        ) -> u32;
+        pub fn heard_read_packed(
+            m: usize,
+            a: usize,
+            share: usize,
+            store: *const u8,
+            store_len: usize,
+            out: *mut u8,
+            out_len: usize,
+            lacking: *mut usize,
+        ) -> u32;
         pub fn heard_read(
             m: usize,
             a: usize,
+            share: usize,
             store: *const u8,
             store_len: usize,
             out: *mut u8,
@@ -138,17 +164,27 @@ pub enum Timed {
     BuildDown50,
     BuildDown32,
     Receive,
+    /// For the same downlinks.
+    ReceiveDown50,
+    ReceiveDown32,
     Read,
+    /// On rooms of four places a byte.
+    ReceivePacked,
+    ReadPacked,
     Control,
 }
 
-pub const ALL: [Timed; 7] = [
+pub const ALL: [Timed; 11] = [
     Timed::Build,
     Timed::BuildTwo,
     Timed::BuildDown50,
     Timed::BuildDown32,
     Timed::Receive,
+    Timed::ReceiveDown50,
+    Timed::ReceiveDown32,
     Timed::Read,
+    Timed::ReceivePacked,
+    Timed::ReadPacked,
     Timed::Control,
 ];
 
@@ -160,7 +196,11 @@ impl Timed {
             Timed::BuildDown50 => "build-down-50",
             Timed::BuildDown32 => "build-down-32",
             Timed::Receive => "receive",
+            Timed::ReceiveDown50 => "receive-down-50",
+            Timed::ReceiveDown32 => "receive-down-32",
             Timed::Read => "read",
+            Timed::ReceivePacked => "receive-packed",
+            Timed::ReadPacked => "read-packed",
             Timed::Control => "control",
         }
     }
@@ -181,8 +221,10 @@ impl Timed {
             Timed::Build | Timed::BuildTwo | Timed::BuildDown50 | Timed::BuildDown32 => {
                 [vec![least(a)], short(a, 72), vec![mother_code(a)], short(a, 300), most(a)].concat()
             }
-            Timed::Receive => [vec![mother_code(a)], short(a, 300), most(a)].concat(),
-            Timed::Read | Timed::Control => vec![mother_code(a)],
+            Timed::Receive | Timed::ReceiveDown50 | Timed::ReceiveDown32 | Timed::ReceivePacked => {
+                [vec![mother_code(a)], short(a, 300), most(a)].concat()
+            }
+            Timed::Read | Timed::ReadPacked | Timed::Control => vec![mother_code(a)],
         };
         [16, 40, 1_000, 6_120, codeword::A_MAX].into_iter().flat_map(rows).collect()
     }
@@ -192,17 +234,23 @@ impl Timed {
         if let Timed::Control = self {
             return Ok(control_runners(block, row.g));
         }
-        let mut bits = vec![0; codeword::G_MAX];
-        let built = codeword::build_into(&block, Q, N, VERSION, row.g, &mut bits);
-        built.map_err(|number| format!("A {}, G {}: refused with {number}", row.a, row.g))?;
-        bits.truncate(row.g);
+        let rows = codeword::rows_of(&Segmentation::of(row.a + 24));
+        let share = match self {
+            Timed::ReceiveDown50 => 50 * rows[rows.len() - 1],
+            Timed::ReceiveDown32 => 32 * rows[rows.len() - 1],
+            _ => WHOLE_SHARE,
+        };
+        let built = codeword::build_in(share, &block, Q, N, VERSION, row.g);
+        let bits = built.map_err(|number| format!("A {}, G {}: refused with {number}", row.a, row.g))?;
         Ok(match self {
             Timed::Build => build_runners(block, row.g),
             Timed::BuildTwo => build_two_runners(block, row.g),
             Timed::BuildDown50 => build_down_runners(block, 50, row.g),
             Timed::BuildDown32 => build_down_runners(block, 32, row.g),
-            Timed::Receive => receive_runners(row.a, bits),
+            Timed::Receive | Timed::ReceiveDown50 | Timed::ReceiveDown32 => receive_runners(row.a, share, bits),
+            Timed::ReceivePacked => receive_packed_runners(row.a, bits),
             Timed::Read | Timed::Control => read_runners(row.a, bits),
+            Timed::ReadPacked => read_packed_runners(row.a, bits),
         })
     }
 }
@@ -228,11 +276,13 @@ type Answer = (u32, usize);
 struct Runner {
     call: Box<dyn FnMut(&mut [u8]) -> Answer>,
     output: Vec<u8>,
+    /// What stands in the output before the first call.
+    fill: u8,
 }
 
 impl Runner {
     fn of(length: usize, call: impl FnMut(&mut [u8]) -> Answer + 'static) -> Runner {
-        Runner { call: Box::new(call), output: vec![0; length] }
+        Runner { call: Box::new(call), output: vec![0; length], fill: 7 }
     }
 
     fn call(&mut self) -> Answer {
@@ -379,15 +429,16 @@ fn build_down_runners(block: Vec<u8>, places: usize, g: usize) -> [Runner; 3] {
 
 /// A slot for the code blocks of A, open; a store full of anything but bits is as good as a
 /// cleared one.
-fn open_slot(a: usize) -> State {
+fn open_slot(a: usize, share: usize) -> State {
     let m = Segmentation::of(a + 24).blocks;
-    let (state, _) = slots::new(1, m);
-    slots::open(state, &mut vec![0; m * ROOM_OF_BLOCK], 0, TERMINAL, a).0
+    let (mut state, _) = slots::new(1, m);
+    state.heads[0] = Head { open: true, terminal: TERMINAL, a, share };
+    state
 }
 
 /// Opening is in no one's time.
-fn receive_runners(a: usize, bits: Vec<u8>) -> [Runner; 3] {
-    let state = open_slot(a);
+fn receive_runners(a: usize, share: usize, bits: Vec<u8>) -> [Runner; 3] {
+    let state = open_slot(a, share);
     let [rattle, fast, literal] = [bits.clone(), bits.clone(), bits];
     let length = state.m * ROOM_OF_BLOCK;
     [
@@ -399,6 +450,7 @@ fn receive_runners(a: usize, bits: Vec<u8>) -> [Runner; 3] {
                 library::heard_receive(
                     state.m,
                     state.heads[0].a,
+                    state.heads[0].share,
                     Q,
                     N,
                     VERSION,
@@ -420,8 +472,88 @@ fn receive_runners(a: usize, bits: Vec<u8>) -> [Runner; 3] {
     ]
 }
 
+/// The literal program unpacks the whole store, receives and packs it again.
+fn receive_packed_runners(a: usize, bits: Vec<u8>) -> [Runner; 3] {
+    let state = open_slot(a, WHOLE_SHARE);
+    let [rattle, fast, literal] = [bits.clone(), bits.clone(), bits];
+    let length = state.m * PACKED_OF_BLOCK;
+    let mut room = vec![0; state.m * ROOM_OF_BLOCK];
+    let runners = [
+        Runner::of(length, move |store| {
+            let (state, bits) = (black_box(&state), black_box(&rattle));
+            let mut lacking = 0;
+            // Slices of Rust and a number of its own, as above.
+            let number = unsafe {
+                library::heard_receive_packed(
+                    state.m,
+                    state.heads[0].a,
+                    state.heads[0].share,
+                    Q,
+                    N,
+                    VERSION,
+                    bits.as_ptr(),
+                    bits.len(),
+                    store.as_mut_ptr(),
+                    store.len(),
+                    &mut lacking,
+                )
+            };
+            (number, lacking)
+        }),
+        Runner::of(length, move |store| {
+            told(fast_slots::receive_packed(black_box(&state), store, 0, TERMINAL, Q, N, VERSION, black_box(&fast)))
+        }),
+        Runner::of(length, move |store| {
+            packing::unpack(state.m, store, &mut room).expect("the rooms fit");
+            let heard = slots::receive(state, &mut room, 0, TERMINAL, Q, N, VERSION, black_box(&literal)).1;
+            packing::pack(state.m, &room, store).expect("the rooms fit");
+            told(heard)
+        }),
+    ];
+    // A packed store that has heard nothing.
+    runners.map(|runner| Runner { fill: packing::packed([slots::UNHEARD; 4]), ..runner })
+}
+
+fn read_packed_runners(a: usize, bits: Vec<u8>) -> [Runner; 3] {
+    let state = open_slot(a, WHOLE_SHARE);
+    let mut room = vec![slots::UNHEARD; state.m * ROOM_OF_BLOCK];
+    let _ = slots::receive(state, &mut room, 0, TERMINAL, Q, N, VERSION, &bits);
+    let mut store = vec![0; state.m * PACKED_OF_BLOCK];
+    packing::pack(state.m, &room, &mut store).expect("the rooms fit");
+    let mut workspace = fast_slots::Workspace::default();
+    let [rattle, fast, literal] = [store.clone(), store.clone(), store];
+    let done = |answer: slots::Answer| told(answer.map(|()| 0));
+    [
+        Runner::of(codeword::A_MAX, move |out| {
+            let (state, store) = (black_box(&state), black_box(&rattle));
+            let mut lacking = 0;
+            // Slices of Rust and a number of its own, as above.
+            let number = unsafe {
+                library::heard_read_packed(
+                    state.m,
+                    state.heads[0].a,
+                    state.heads[0].share,
+                    store.as_ptr(),
+                    store.len(),
+                    out.as_mut_ptr(),
+                    out.len(),
+                    &mut lacking,
+                )
+            };
+            (number, lacking)
+        }),
+        Runner::of(codeword::A_MAX, move |out| {
+            done(workspace.read_packed(black_box(&state), black_box(&fast), 0, TERMINAL, out))
+        }),
+        Runner::of(codeword::A_MAX, move |out| {
+            packing::unpack(state.m, black_box(&literal), &mut room).expect("the rooms fit");
+            done(slots::read(state, &room, 0, TERMINAL, out).1)
+        }),
+    ]
+}
+
 fn read_runners(a: usize, bits: Vec<u8>) -> [Runner; 3] {
-    let state = open_slot(a);
+    let state = open_slot(a, WHOLE_SHARE);
     let mut store = vec![slots::UNHEARD; state.m * ROOM_OF_BLOCK];
     let _ = slots::receive(state, &mut store, 0, TERMINAL, Q, N, VERSION, &bits);
     let mut workspace = fast_slots::Workspace::default();
@@ -436,6 +568,7 @@ fn read_runners(a: usize, bits: Vec<u8>) -> [Runner; 3] {
                 library::heard_read(
                     state.m,
                     state.heads[0].a,
+                    state.heads[0].share,
                     store.as_ptr(),
                     store.len(),
                     out.as_mut_ptr(),
@@ -631,7 +764,7 @@ fn calls_in_a_batch(runner: &mut Runner) -> u32 {
 /// Calls each once, on outputs full of what is no bit.
 fn called_alike(runners: &mut [Runner; 3]) -> Result<(), String> {
     for (runner, name) in runners.iter_mut().zip(NAMES) {
-        runner.output.fill(7);
+        runner.output.fill(runner.fill);
         let answer = runner.call();
         if answer != (0, 0) {
             return Err(format!("{name} answers {} with {}", answer.0, answer.1));
@@ -654,7 +787,7 @@ pub fn only(name: &str, timed: Timed, rows: &[Row], calls: u32) -> Result<(), St
     let who = NAMES.iter().position(|known| *known == name).ok_or(format!("no such program: {name}"))?;
     for &row in rows {
         let runner = &mut timed.runners(row)?[who];
-        runner.output.fill(7);
+        runner.output.fill(runner.fill);
         runner.time(calls);
     }
     Ok(())

@@ -144,11 +144,25 @@ pub fn build_down_into(
     let rows = rows_of(&segmentation_of(block.len())?);
     let share = receiver.share(&rows)?;
     check(block, q, n, version, g, output.len())?;
+    output[..g].copy_from_slice(&build_in(share, block, q, n, version, g)?);
+    Ok(())
+}
+
+/// The codeword where each code block has this share of a soft buffer, which is long enough.
+pub fn build_in(
+    share: usize,
+    block: &[u8],
+    q: usize,
+    n: usize,
+    version: usize,
+    g: usize,
+) -> Result<Vec<u8>, u8> {
+    check(block, q, n, version, g, g)?;
+    let rows = rows_of(&segmentation_of(block.len())?);
     let shares = rate::shares(g, n * q, rows.len());
     let mut matched = Vec::new();
     for ((d, r), e_length) in streams(block).iter().zip(rows).zip(shares) {
         matched.push(rate::match_cut(d, n_cb(share, r), version, e_length));
     }
-    output[..g].copy_from_slice(&concatenate(&matched));
-    Ok(())
+    Ok(concatenate(&matched))
 }

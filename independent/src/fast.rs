@@ -202,7 +202,7 @@ impl Workspace {
 }
 
 /// The unit that k_0 of a circle cut at N_cb is the head of.
-fn start_unit(n_cb: usize, rows: usize, version: usize) -> usize {
+pub(crate) fn start_unit(n_cb: usize, rows: usize, version: usize) -> usize {
     let columns = 2 * n_cb.div_up(8 * rows) * version + 2;
     if columns < COLUMNS {
         columns
@@ -210,10 +210,6 @@ fn start_unit(n_cb: usize, rows: usize, version: usize) -> usize {
         COLUMNS / 2 + columns / 2
     }
 }
-
-/// The unit of the circle that each version starts with: R * (24 * v + 2) is always the
-/// head of a column.
-pub(crate) const START: [usize; 4] = [2, 26, 32 + 9, 32 + 21];
 
 /// The first row of a column that lies behind the first `absent` places.
 pub(crate) fn first_row(absent: usize, column: usize) -> usize {
@@ -286,7 +282,7 @@ impl Layout {
     }
 
     /// How many of the first `places` of a column of streams 1 and 2 are kept, not all of them.
-    fn kept_before(&self, column: usize, places: usize) -> usize {
+    pub(crate) fn kept_before(&self, column: usize, places: usize) -> usize {
         let of_1 = places.div_up(2).saturating_sub(first_row(self.dummies + self.filler, column));
         let of_2 = (places / 2).saturating_sub(first_row(self.dummies - 1, column));
         of_1 + of_2

@@ -1,7 +1,7 @@
 //! Compares another program that speaks the protocol `replay` with this one: whole histories
 //! of calls, every answer byte for byte. Both keep one store over all of them.
 
-use crate::history::{self, History, RELEASED};
+use crate::history::{self, History, CHANGES, RELEASED};
 use crate::replay::Replay;
 use std::io::{BufRead, BufReader, BufWriter, Read, Write};
 use std::process::{Child, ChildStdin, Command, Stdio};
@@ -17,11 +17,13 @@ const PROGRESS: usize = 200;
 const SHOWN: usize = 5;
 
 /// The words of the calls, in the order in which their counts are printed.
-const WORDS: [&str; 9] =
-    ["new", "open", "receive", "read", "streams", "close", "build", "sizes", "worst"];
+const WORDS: [&str; 13] = [
+    "new", "open", "open-down", "receive", "read", "streams", "close", "build", "build-down", "sizes", "worst",
+    "pack", "unpack",
+];
 
-/// The largest refusal number.
-const NUMBERS: usize = 16;
+/// The refusal numbers that a log can meet.
+const NUMBERS: [usize; 17] = [1, 2, 3, 4, 5, 6, 7, 8, 9, 10, 11, 12, 13, 14, 15, 16, 21];
 
 pub struct Options {
     pub seed: u64,
@@ -84,7 +86,7 @@ fn send(input: ChildStdin, chosen: &[Numbered]) {
 fn receive(other: &mut Child, chosen: &[Numbered], report: &mut Report) {
     let output = other.stdout.take().expect("the program's output is a pipe");
     let mut output = BufReader::with_capacity(1 << 16, output);
-    let mut sound = Replay::default();
+    let mut sound = Twins { changing: Replay::default(), plain: Replay::default() };
     for (done, (number, lines)) in (1..).zip(chosen) {
         match hold(&mut output, lines, &mut sound, &mut report.tally) {
             Ok(None) => report.passed += 1,
@@ -106,12 +108,12 @@ fn receive(other: &mut Child, chosen: &[Numbered], report: &mut Report) {
 fn hold(
     output: &mut impl BufRead,
     lines: &History,
-    sound: &mut Replay,
+    sound: &mut Twins,
     tally: &mut Tally,
 ) -> Result<Option<Difference>, String> {
     let mut first = None;
     for (at, line) in lines.iter().enumerate() {
-        let answer = sound.answer(line);
+        let answer = sound.answer(line)?;
         tally.note(line, answer.as_deref());
         if at > 0 && lines[at - 1] == RELEASED.as_bytes() {
             tally.promise(answer.as_deref());
@@ -131,6 +133,24 @@ fn hold(
         }
     }
     Ok(first)
+}
+
+/// This program on all lines, and on all but those that change the form of the rooms.
+struct Twins {
+    changing: Replay,
+    plain: Replay,
+}
+
+impl Twins {
+    /// The answer to a line, the same in either form.
+    fn answer(&mut self, line: &[u8]) -> Result<Option<String>, String> {
+        let answer = self.changing.answer(line);
+        let change = CHANGES.iter().any(|change| change.as_bytes() == line);
+        if !change && self.plain.answer(line) != answer {
+            return Err(format!("{}: this program answers otherwise in another form", shortened(line)));
+        }
+        Ok(answer)
+    }
 }
 
 /// Where a history first went another way.
@@ -168,7 +188,7 @@ fn shortened(bytes: &[u8]) -> String {
 #[derive(Default)]
 struct Tally {
     accepted: [usize; WORDS.len()],
-    refused: [usize; NUMBERS],
+    refused: [usize; NUMBERS.len()],
     silent: usize,
     /// Reads that must give the block, and those of them that did not.
     promised: usize,
@@ -192,21 +212,22 @@ impl Tally {
         };
         let mut fields = answer.split('\t');
         if fields.next() == Some("ok") {
-            let kind =
-                WORDS.iter().position(|word| line.starts_with(word.as_bytes()) && line[word.len()] == b' ');
+            let called = line.split(|byte| *byte == b' ').next();
+            let kind = WORDS.iter().position(|word| called == Some(word.as_bytes()));
             self.accepted[kind.expect("only a call is accepted")] += 1;
         } else {
             let number: usize =
                 fields.next().and_then(|field| field.parse().ok()).expect("a refusal has its number");
-            self.refused[number - 1] += 1;
+            let kind = NUMBERS.iter().position(|known| *known == number);
+            self.refused[kind.expect("no other number is met")] += 1;
         }
     }
 
     /// The counts in two lines and what never occurred.
     fn text(&self) -> (String, Vec<String>) {
         let accepted: Vec<(String, usize)> = WORDS.map(String::from).into_iter().zip(self.accepted).collect();
-        let numbers = (1..=NUMBERS).map(|number| number.to_string());
-        let refused: Vec<(String, usize)> = numbers.zip(self.refused).collect();
+        let numbers = NUMBERS.map(|number| number.to_string());
+        let refused: Vec<(String, usize)> = numbers.into_iter().zip(self.refused).collect();
         let list = |counts: &[(String, usize)]| {
             let parts = counts.iter().map(|(what, count)| format!("{what}: {count}"));
             parts.collect::<Vec<String>>().join(", ")

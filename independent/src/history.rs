@@ -4,12 +4,14 @@
 //! The maker keeps in mind what it has opened and for whom, so that most calls make sense; it
 //! answers nothing itself, and where it is mistaken the history is only less orderly.
 
-use crate::codeword::{self, segmentation_of, A_MAX, G_MAX};
+use crate::codeword::{self, rows_of, segmentation_of, A_MAX, G_MAX};
 use crate::crc;
 use crate::older::Upwards;
 use crate::rate;
 use crate::replay::{is_silent, run, LINE_MAX};
 use crate::segmentation::{self, Segmentation};
+use crate::slots;
+use crate::soft_buffer::{n_cb, Receiver, WHOLE_SHARE};
 use crate::turbo;
 use crate::worst::{self, Worst, THREE};
 use crate::xorshift::{self, Generator};
@@ -32,8 +34,17 @@ const TERMINALS: [usize; 5] = [0, 1, 7, 256, 65_535];
 const QS: [usize; 3] = [2, 4, 6];
 const NS: [usize; 4] = [1, 2, 3, 4];
 
+/// The soft bits of a receiver that K_C divides, under Release 11: by 5, and by 2 up to two layers.
+const DIVIDED: [usize; 2] = [35_982_720, 3_654_144];
+
 /// Stands before a read that request E8 of 02 says must give the block.
 pub const RELEASED: &str = "# released";
+
+/// The lines that change the form of the rooms.
+pub const CHANGES: [&str; 2] = ["pack", "unpack"];
+
+/// Kinds of receivers.
+const CUTS: usize = 9;
 
 /// The order in which a car sends the versions, most often.
 const USUAL_ORDER: [usize; 4] = [0, 2, 3, 1];
@@ -54,7 +65,11 @@ fn history(number: usize, seed: u64) -> History {
         _ if number % 40 == 3 => maker.large(1),
         _ if number % 10 == 4 => maker.repeats(),
         _ if number % 40 == 5 => maker.checks(2 + number / 40 % 2),
+        _ if number % 10 == 6 => maker.cuts(),
         _ => maker.small(),
+    }
+    if number % 3 == 2 {
+        maker.strew();
     }
     // The last line of a comparison lacks its newline, and must show whether it counts.
     if maker.lines.last().map_or(false, |line| is_silent(line)) {
@@ -68,6 +83,8 @@ fn history(number: usize, seed: u64) -> History {
 struct Car {
     terminal: usize,
     block: Vec<u8>,
+    /// Each code block's share of the soft buffer.
+    share: usize,
     order: [usize; 4],
     /// Transmissions so far.
     sent: usize,
@@ -80,10 +97,15 @@ impl Car {
         segmentation_of(self.block.len()).expect("A is in range")
     }
 
-    /// 3 * D - 2 * F over all code blocks: what one turn of every circle sends.
+    /// What one turn of every circle sends: 3 * D - 2 * F for a code block whose circle is whole.
     fn turn(&self) -> usize {
         let s = self.segmentation();
-        (0..s.blocks).map(|r| 3 * (s.size(r) + 4) - 2 * s.filler_in(r)).sum()
+        (0..s.blocks).map(|r| slots::turn(&s, r, self.share)).sum()
+    }
+
+    /// A true transmission.
+    fn build(&self, q: usize, n: usize, version: usize, g: usize) -> Result<Vec<u8>, u8> {
+        codeword::build_in(self.share, &self.block, q, n, version, g)
     }
 
     /// A G that gives each code block a whole turn.
@@ -179,6 +201,17 @@ impl Maker {
         self.say("open 0 7 6121");
         self.say(format!("receive 0 7 2 1 0 {}", "1".repeat(18_840)));
         self.say("read 0 7"); // 16 with 0
+        self.say("pack");
+        self.say("read 0 7"); // 16 with 0
+        self.say("new 2 2");
+        self.say("unpack"); // 5
+        self.say("new 0 1"); // 13
+        self.say("unpack"); // 13
+        self.say("new 1 1");
+        self.say("unpack");
+        self.say("open-down 0 7 16 8 1 8 511 1"); // 21: N_cb is 63, R is 2
+        self.say("open-down 0 7 16 8 1 8 512 1");
+        self.say("build-down 8 1 8 512 1 2 1 0 24 1");
     }
 
     /// Lines at their limit and past it, the longest reception and the longest blocks.
@@ -260,7 +293,7 @@ impl Maker {
             let g = self.car(0).whole(q * n);
             let version = self.random.below(4);
             let wrong = wrong.iter().map(|r| (*r, check)).collect::<Vec<_>>();
-            let bits = self.codeword_of(&b, (q * n, version, g), &wrong);
+            let bits = self.codeword_of(&b, WHOLE_SHARE, (q * n, version, g), &wrong);
             self.receive(0, (q, n, version), bits);
             self.own(0, "read", "");
             if self.random.below(2) == 0 {
@@ -331,6 +364,93 @@ impl Maker {
         }
     }
 
+    /// Downlinks whose circles are cut, at each place of a code block's circle that matters, beside
+    /// an uplink where there is room: all versions in some order, the last with a whole turn.
+    fn cuts(&mut self) {
+        self.begin_with(&[(3, 1), (2, 1), (1, 1), (1, 2), (1, 3)]);
+        let blocks = 1 + self.random.below(self.m);
+        let (from, to) = [(1, 400), (6_121, 12_216), (12_217, 18_336)][blocks - 1];
+        for kind in 0..CUTS {
+            let slot = self.random.below(self.s);
+            let (a, terminal) = (self.between(from, to), self.random.choose(&TERMINALS));
+            if blocks > 1 && self.random.below(2) > 0 {
+                continue;
+            }
+            if self.cars[slot].is_some() {
+                self.close(slot);
+            }
+            let receiver = self.receiver(a, kind);
+            self.open_down(slot, terminal, a, &receiver);
+            for _ in 0..3 {
+                if self.cars[slot].is_some() {
+                    self.transmit(slot);
+                }
+                let other = self.random.below(self.s);
+                if other != slot {
+                    self.slot_step(other);
+                }
+            }
+            if self.cars[slot].is_some() {
+                self.finish(slot);
+            }
+            match self.random.below(4) {
+                0 => self.sizes(),
+                1 => self.worst(),
+                _ => self.build(),
+            }
+        }
+    }
+
+    /// A receiver for a block of A bits: where the cut lies on the circle of one of the code blocks
+    /// is chosen by the kind; the last two kinds are refused.
+    fn receiver(&mut self, a: usize, kind: usize) -> Receiver {
+        let rows = rows_of(&segmentation_of(a).expect("A is in range"));
+        let r = self.random.choose(&rows);
+        let column = 2 * self.random.below(32) + 32;
+        let share = match kind {
+            0 => 32 * r,
+            1 => 32 * r + 1,
+            2 => column * r + self.between(1, 2 * r - 1),
+            3 => column * r,
+            4 => 96 * r - 1,
+            5 => 96 * r,
+            6 => 96 * r + self.between(1, 400_000),
+            _ => self.random.choose(&[0, 1, 32 * r - 1]),
+        };
+        let (mimo, processes) = (self.between(1, 2), self.random.choose(&[1, 2, 7, 8, 9, 15, 999_999]));
+        let parts = rows.len() * mimo * processes.min(8);
+        let soft = share * parts + self.random.below(parts);
+        let release = self.random.choose(&[8, 11]);
+        let mut receiver = Receiver { release, mimo, processes, soft, layers: self.random.below(5) };
+        match kind {
+            6 if self.random.below(2) == 0 => receiver.soft = self.random.choose(&DIVIDED),
+            8 => match self.random.below(3) {
+                0 => receiver.release = self.random.choose(&[0, 7, 9, 10, 12, 999_999]),
+                1 => receiver.mimo = self.random.choose(&[0, 3, 999_999]),
+                _ => receiver.processes = 0,
+            },
+            _ => {}
+        }
+        receiver
+    }
+
+    // Twins.
+
+    /// Changes of form strewn between the lines: every other answer stays.
+    fn strew(&mut self) {
+        let often = self.random.choose(&[2, 4, 10]);
+        let lines = std::mem::take(&mut self.lines);
+        for line in lines {
+            // A read of which something is promised stands behind its mark.
+            let marked = self.lines.last().map_or(false, |last| last == RELEASED.as_bytes());
+            if !marked && self.random.below(often) == 0 {
+                let change = self.random.choose(&CHANGES);
+                self.say(change);
+            }
+            self.lines.push(line);
+        }
+    }
+
     // Beginnings.
 
     /// No New: what the history before left open may be met.
@@ -361,8 +481,8 @@ impl Maker {
         match self.random.below(100) {
             0..=5 => self.unreadable(),
             6..=7 => self.silent(),
-            8..=10 => self.build(),
-            11..=12 => self.sizes(),
+            8..=11 => self.build(),
+            12 => self.sizes(),
             13..=14 => self.no_such_slot(),
             15 => self.begin_with(&FITTING),
             16 if self.random.below(4) == 0 => self.begin_with(&OUT_OF_RANGE),
@@ -396,9 +516,18 @@ impl Maker {
                 let a = self.random.choose(&[0, A_MAX + 1, 65_536, 999_999, A_MAX, 6_121, 12_217, 18_337]);
                 self.say(format!("open {slot} {terminal} {a}"));
             }
-            _ => {
+            2 => {
+                let far = self.random.choose(&[0, A_MAX + 1, 999_999, 6_121, 18_337]);
+                self.say(format!("open-down {slot} {terminal} {far} 11 1 8 999999 2"));
+            }
+            chosen => {
                 let most = self.random.choose(&[16, 40, 80, 80, 200, 600]);
                 let a = self.between(1, most);
+                if chosen > 6 {
+                    let kind = self.random.below(CUTS);
+                    let receiver = self.receiver(a, kind);
+                    return self.open_down(slot, terminal, a, &receiver);
+                }
                 self.open(slot, terminal, a);
             }
         }
@@ -406,19 +535,33 @@ impl Maker {
 
     fn open(&mut self, slot: usize, terminal: usize, a: usize) {
         self.say(format!("open {slot} {terminal} {a}"));
+        self.take(slot, terminal, a, WHOLE_SHARE);
+    }
+
+    fn open_down(&mut self, slot: usize, terminal: usize, a: usize, receiver: &Receiver) {
+        self.say(format!("open-down {slot} {terminal} {a} {}", words(receiver)));
+        let rows = rows_of(&segmentation_of(a).expect("A is in range"));
+        if let Ok(share) = receiver.share(&rows) {
+            self.take(slot, terminal, a, share);
+        }
+    }
+
+    /// The slot is this car's.
+    fn take(&mut self, slot: usize, terminal: usize, a: usize, share: usize) {
         let block = self.block(a);
         let mut order = USUAL_ORDER;
         if self.random.below(3) == 0 {
             order = [0; 4].map(|_| self.random.below(4));
         }
-        self.cars[slot] = Some(Car { terminal, block, order, sent: 0, last: None });
+        self.cars[slot] = Some(Car { terminal, block, share, order, sent: 0, last: None });
     }
 
     fn open_again(&mut self, slot: usize) {
         let own = self.car(slot).terminal;
         let terminal = self.random.choose(&[own, 0, 7]);
         let a = self.random.choose(&[0, 1, 16, 40, A_MAX + 1]);
-        self.say(format!("open {slot} {terminal} {a}"));
+        let (verb, receiver) = self.random.choose(&[("open", ""), ("open-down", " 11 1 8 0 2")]);
+        self.say(format!("{verb} {slot} {terminal} {a}{receiver}"));
     }
 
     fn close(&mut self, slot: usize) {
@@ -456,6 +599,7 @@ impl Maker {
         let call = self.random.choose(&[
             "open S 7 16",
             "open S 7 0",
+            "open-down S 7 16 11 1 8 0 1",
             "receive S 7 2 1 0 01",
             "read S 7",
             "close S 7",
@@ -471,7 +615,7 @@ impl Maker {
         let g = self.some_length(slot, q * n);
         let car = self.car(slot);
         let version = car.version();
-        if let Ok(bits) = codeword::build(&car.block, q, n, version, g) {
+        if let Ok(bits) = car.build(q, n, version, g) {
             self.receive(slot, (q, n, version), bits);
         }
     }
@@ -510,7 +654,7 @@ impl Maker {
 
     /// A true transmission with Q = 2 and N = 1, then a read.
     fn hear(&mut self, slot: usize, version: usize, g: usize) {
-        let bits = codeword::build(&self.car(slot).block, 2, 1, version, g);
+        let bits = self.car(slot).build(2, 1, version, g);
         self.receive(slot, (2, 1, version), bits.expect("G is even and long enough"));
         self.own(slot, "read", "");
     }
@@ -547,7 +691,7 @@ impl Maker {
             Slip::CodeBlockChecks => self.some_checks(self.car(slot).segmentation().blocks),
             _ => Vec::new(),
         };
-        let mut bits = self.codeword_of(&b, (symbol, version, g), &wrong);
+        let mut bits = self.codeword_of(&b, self.car(slot).share, (symbol, version, g), &wrong);
         let flips = match slip {
             Slip::OneBit => 1,
             Slip::ManyBits => 1 + bits.len() / 5,
@@ -576,6 +720,7 @@ impl Maker {
     fn codeword_of(
         &mut self,
         b: &[u8],
+        share: usize,
         (symbol, version, g): (usize, usize, usize),
         wrong: &[(usize, Check)],
     ) -> Vec<u8> {
@@ -592,7 +737,8 @@ impl Maker {
             }
         }
         for (r, c) in code_blocks.into_iter().enumerate() {
-            codeword.extend(rate::match_block(&turbo::encode(&c, s.filler_in(r)), version, shares[r]));
+            let cut = n_cb(share, rate::rows(s.size(r) + 4));
+            codeword.extend(rate::match_cut(&turbo::encode(&c, s.filler_in(r)), cut, version, shares[r]));
         }
         codeword
     }
@@ -641,7 +787,7 @@ impl Maker {
         let turn = self.car(slot).turn();
         if turn < 1_000 && self.random.below(2) == 0 {
             let rounds = self.between(1, 4);
-            if let Ok(turns) = codeword::build(&self.car(slot).block, q, n, version, rounds * turn) {
+            if let Ok(turns) = self.car(slot).build(q, n, version, rounds * turn) {
                 bits = [turns, bits].concat();
             }
         }
@@ -690,7 +836,13 @@ impl Maker {
             4 => block[a - 1] = self.between(2, 9) as u8,
             _ => {}
         }
-        self.say(format!("build {q} {n} {version} {g} {}", run(&block)));
+        let call = format!("{q} {n} {version} {g} {}", run(&block));
+        if self.random.below(2) == 0 {
+            return self.say(format!("build {call}"));
+        }
+        let kind = self.random.below(CUTS);
+        let receiver = words(&self.receiver(a, kind));
+        self.say(format!("build-down {receiver} {call}"));
     }
 
     fn sizes(&mut self) {
@@ -737,6 +889,8 @@ impl Maker {
             format!("build 2 1 0 24 {bits}"),
             "sizes 16".to_string(),
             "worst 16 2 1".to_string(),
+            format!("open-down {slot} {terminal} 16 8 2 8 35982720 4"),
+            format!("build-down 11 1 8 35982720 2 2 1 0 24 {bits}"),
         ];
         let line = calls[self.random.below(calls.len())].clone().into_bytes();
         let spoiled = self.spoil(line);
@@ -765,7 +919,10 @@ impl Maker {
             12 => line.make_ascii_uppercase(),
             13 => line[0] += 1,
             14 => line = self.far_terminal(),
-            _ => line = self.random.choose(&[" ", "call", "ok", "-", "0", "new", "\t", "\r"]).into(),
+            _ => line = self.random.choose(&[
+                " ", "call", "ok", "-", "0", "new", "\t", "\r", "pack ", " unpack", "pack 0", "Pack", "packs",
+                "unpack\r", "open-down", "build-down 11 1 8 123456789 2 2 1 0 24 1",
+            ]).into(),
         }
         line
     }
@@ -778,6 +935,7 @@ impl Maker {
             "read 0 T",
             "streams 0 T 0",
             "close 0 T",
+            "open-down 0 T 16 11 1 8 999999 2",
         ]);
         let terminal = self.random.choose(&["65536", "65537", "99999", "131072", "999999", "1000000", "00"]);
         call.replace('T', terminal).into_bytes()
@@ -818,4 +976,10 @@ impl Maker {
     fn bits(&mut self, length: usize) -> String {
         run(&self.block(length))
     }
+}
+
+/// A receiver as the words of a line.
+fn words(receiver: &Receiver) -> String {
+    let Receiver { release, mimo, processes, soft, layers } = receiver;
+    format!("{release} {mimo} {processes} {soft} {layers}")
 }

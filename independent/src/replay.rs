@@ -1,53 +1,69 @@
 //! The line protocol `replay`: the calls of 01 as lines, each answered with one line.
 //!
 //! Words are parted by one blank, a line is ended by byte 10 alone; a last line may lack it.
-//! Numbers are decimal, 1 to 6 digits with no leading zero (0 itself allowed). BITS is a run
-//! of at least one digit: 0 and 1 are bits, 2 to 9 bytes of that value.
+//! Numbers are decimal, 1 to 6 digits with no leading zero (0 itself allowed), SOFT to 8 digits.
+//! BITS is a run of at least one digit: 0 and 1 are bits, 2 to 9 bytes of that value.
 //!
 //! ```text
 //! new S M                                    ok
 //! open SLOT TERMINAL A                       ok
+//! open-down SLOT TERMINAL A RECEIVER         ok, each code block's share of the soft buffer
 //! receive SLOT TERMINAL Q N VERSION BITS     ok, how many data places lack a bit
 //! read SLOT TERMINAL                         ok, the A bits
 //! streams SLOT TERMINAL BLOCK                ok, the three runs of 0, 1 and 2
 //! close SLOT TERMINAL                        ok
 //! build Q N VERSION G BITS                   ok, the codeword
+//! build-down RECEIVER Q N VERSION G BITS     ok, the codeword
 //! sizes A                                    ok, C, longs, long, shorts, short, filler
 //! worst A Q N                                ok, the least G of three, the least G of one
+//! pack                                       ok: every room four places a byte from now on
+//! unpack                                     ok: every room a place a byte from now on
 //! ```
 //!
+//! RECEIVER is RELEASE MIMO PROCESSES SOFT LAYERS.
 //! Fields of an answer are parted by one tab. A refusal is `refused`, the number, and the
 //! count with 11 or the code block with 16; a line that can't be read is refused with 15 and
 //! changes nothing. An empty line and one that begins with `#` have no answer. Before the
 //! first `new` the state is that of a refused New. The store has room for S * M = 3, begins as zeros and is never cleared.
+//! So has a second one for packed rooms. A change of form acts on the state's rooms, refused with
+//! 13 where M is out of range and then with 5 where they do not fit; where the rooms have that form
+//! already nothing changes.
 
 use crate::codeword;
+use crate::packing::{self, PACKED_OF_BLOCK};
 use crate::sizes::{self, UNREADABLE};
 use crate::slots::{self, Refusal, State, ROOM_OF_BLOCK};
+use crate::soft_buffer::Receiver;
 use crate::worst;
 use std::io::{self, BufRead, ErrorKind};
 
-/// Bytes of the store.
+/// Bytes of the store, and of that for packed rooms.
 pub const STORE: usize = 3 * ROOM_OF_BLOCK;
+pub const PACKED_STORE: usize = 3 * PACKED_OF_BLOCK;
 
 /// The longest line that can be read, its newline not counted.
 pub const LINE_MAX: usize = 200_000;
 
-/// The most digits of a number.
+/// The most digits of a number, and of soft bits.
 pub const DIGITS_MAX: usize = 6;
+pub const SOFT_DIGITS_MAX: usize = 8;
 
 /// A line that could be read.
 #[derive(Clone, Debug, PartialEq, Eq)]
 pub enum Call {
     New { s: usize, m: usize },
     Open { slot: usize, terminal: u16, a: usize },
+    OpenDown { slot: usize, terminal: u16, a: usize, receiver: Receiver },
     Receive { slot: usize, terminal: u16, q: usize, n: usize, version: usize, bits: Vec<u8> },
     Read { slot: usize, terminal: u16 },
     Streams { slot: usize, terminal: u16, code_block: usize },
     Close { slot: usize, terminal: u16 },
     Build { q: usize, n: usize, version: usize, g: usize, block: Vec<u8> },
+    BuildDown { receiver: Receiver, q: usize, n: usize, version: usize, g: usize, block: Vec<u8> },
     Sizes { a: usize },
     Worst { a: usize, q: usize, n: usize },
+    Pack,
+    Unpack,
 }
 
 impl Call {
@@ -62,6 +78,12 @@ impl Call {
             [b"open", slot, car, a] => {
                 Call::Open { slot: number(slot)?, terminal: terminal(car)?, a: number(a)? }
             }
+            [b"open-down", slot, car, a, release, mimo, processes, soft, layers] => Call::OpenDown {
+                slot: number(slot)?,
+                terminal: terminal(car)?,
+                a: number(a)?,
+                receiver: receiver([release, mimo, processes, soft, layers])?,
+            },
             [b"receive", slot, car, q, n, version, bits] => Call::Receive {
                 slot: number(slot)?,
                 terminal: terminal(car)?,
@@ -82,21 +104,46 @@ impl Call {
                 g: number(g)?,
                 block: digits(bits)?,
             },
+            [b"build-down", release, mimo, processes, soft, layers, q, n, version, g, bits] => Call::BuildDown {
+                receiver: receiver([release, mimo, processes, soft, layers])?,
+                q: number(q)?,
+                n: number(n)?,
+                version: number(version)?,
+                g: number(g)?,
+                block: digits(bits)?,
+            },
             [b"sizes", a] => Call::Sizes { a: number(a)? },
             [b"worst", a, q, n] => Call::Worst { a: number(a)?, q: number(q)?, n: number(n)? },
+            [b"pack"] => Call::Pack,
+            [b"unpack"] => Call::Unpack,
             _ => return None,
         })
     }
 }
 
 fn number(word: &[u8]) -> Option<usize> {
-    let well_formed = (1..=DIGITS_MAX).contains(&word.len()) && (word[0] != b'0' || word.len() == 1);
+    number_to(DIGITS_MAX, word)
+}
+
+/// A number of at most so many digits.
+fn number_to(most: usize, word: &[u8]) -> Option<usize> {
+    let well_formed = (1..=most).contains(&word.len()) && (word[0] != b'0' || word.len() == 1);
     let values = digits(word).filter(|_| well_formed)?;
     Some(values.into_iter().fold(0, |value, digit| 10 * value + usize::from(digit)))
 }
 
 fn terminal(word: &[u8]) -> Option<u16> {
     number(word).and_then(|value| u16::try_from(value).ok())
+}
+
+fn receiver([release, mimo, processes, soft, layers]: [&[u8]; 5]) -> Option<Receiver> {
+    Some(Receiver {
+        release: number(release)?,
+        mimo: number(mimo)?,
+        processes: number(processes)?,
+        soft: number_to(SOFT_DIGITS_MAX, soft)?,
+        layers: number(layers)?,
+    })
 }
 
 /// The values of a run of at least one digit.
@@ -108,15 +155,21 @@ fn digits(word: &[u8]) -> Option<Vec<u8>> {
 /// What stands behind `ok`, or what the call is refused with.
 pub type Outcome = Result<Vec<String>, Refusal>;
 
-/// The state and the store that a run of lines works on.
+/// The state and the stores that a run of lines works on.
 pub struct Replay {
     pub state: State,
+    /// A place a byte.
     pub store: Vec<u8>,
+    /// Four places a byte.
+    pub packed_store: Vec<u8>,
+    /// Whether the rooms are in the packed store.
+    pub packed: bool,
 }
 
 impl Default for Replay {
     fn default() -> Replay {
-        Replay { state: State::default(), store: vec![0; STORE] }
+        let (store, packed_store) = (vec![0; STORE], vec![0; PACKED_STORE]);
+        Replay { state: State::default(), store, packed_store, packed: false }
     }
 }
 
@@ -137,14 +190,17 @@ impl Replay {
         match call {
             Call::New { s, m } => self.go_on(slots::new(*s, *m)),
             Call::Open { slot, terminal, a } => {
-                let after = slots::open(self.state, &mut self.store, *slot, *terminal, *a);
-                self.go_on(after)
+                let opened = self.on_rooms(|state, store| slots::open(state, store, *slot, *terminal, *a));
+                opened.map(|()| Vec::new())
+            }
+            Call::OpenDown { slot, terminal, a, receiver } => {
+                self.on_rooms(|state, store| slots::open_down(state, store, *slot, *terminal, *a, receiver))?;
+                Ok(vec![self.state.heads[*slot].share.to_string()])
             }
             Call::Receive { slot, terminal, q, n, version, bits } => {
-                let store = &mut self.store;
-                let (state, lacking) =
-                    slots::receive(self.state, store, *slot, *terminal, *q, *n, *version, bits);
-                self.state = state;
+                let lacking = self.on_rooms(|state, store| {
+                    slots::receive(state, store, *slot, *terminal, *q, *n, *version, bits)
+                });
                 Ok(vec![lacking?.to_string()])
             }
             Call::Read { slot, terminal } => self.read(*slot, *terminal),
@@ -152,6 +208,11 @@ impl Replay {
             Call::Close { slot, terminal } => self.go_on(slots::close(self.state, *slot, *terminal)),
             Call::Build { q, n, version, g, block } => {
                 Ok(vec![run(&codeword::build(block, *q, *n, *version, *g)?)])
+            }
+            Call::BuildDown { receiver, q, n, version, g, block } => {
+                let mut output = vec![0; codeword::G_MAX];
+                codeword::build_down_into(block, receiver, *q, *n, *version, *g, &mut output)?;
+                Ok(vec![run(&output[..*g])])
             }
             Call::Sizes { a } => {
                 let s = sizes::sizes(*a)?;
@@ -162,6 +223,8 @@ impl Replay {
                 let least = worst::worst(*a, *q, *n)?;
                 Ok(vec![least.three.to_string(), least.one.to_string()])
             }
+            Call::Pack => self.change(true),
+            Call::Unpack => self.change(false),
         }
     }
 
@@ -171,9 +234,59 @@ impl Replay {
         answer.map(|()| Vec::new())
     }
 
+    /// A call on the rooms, whichever their form.
+    fn on_rooms<T>(&mut self, call: impl FnOnce(State, &mut [u8]) -> (State, T)) -> T {
+        let mut places = self.places();
+        let (state, answer) = call(self.state, &mut places);
+        self.state = state;
+        self.keep(&places);
+        answer
+    }
+
+    /// The places of the store in use, one a byte.
+    pub fn places(&self) -> Vec<u8> {
+        match self.packed {
+            true => self.packed_store.iter().flat_map(|byte| packing::unpacked(*byte)).collect(),
+            false => self.store.clone(),
+        }
+    }
+
+    /// Keeps places in the store in use.
+    pub fn keep(&mut self, places: &[u8]) {
+        if !self.packed {
+            return self.store.copy_from_slice(places);
+        }
+        for (byte, four) in self.packed_store.iter_mut().zip(places.chunks_exact(4)) {
+            *byte = packing::packed([four[0], four[1], four[2], four[3]]);
+        }
+    }
+
+    /// Every room of the state in the other form; where the rooms have that form already nothing
+    /// changes.
+    fn change(&mut self, packed: bool) -> Outcome {
+        let State { s, m, .. } = self.state;
+        if !(1..=slots::BLOCKS_MAX).contains(&m) {
+            return Err(slots::BAD_STATE.into());
+        }
+        if s * m * ROOM_OF_BLOCK > self.store.len() || s * m * PACKED_OF_BLOCK > self.packed_store.len() {
+            return Err(slots::SHORT_STORE.into());
+        }
+        let changed = if packed == self.packed { 0 } else { s };
+        for slot in 0..changed {
+            let room = &mut self.store[slot * m * ROOM_OF_BLOCK..];
+            let packed_room = &mut self.packed_store[slot * m * PACKED_OF_BLOCK..];
+            match packed {
+                true => packing::pack(m, room, packed_room)?,
+                false => packing::unpack(m, packed_room, room)?,
+            }
+        }
+        self.packed = packed;
+        Ok(Vec::new())
+    }
+
     fn read(&mut self, slot: usize, terminal: u16) -> Outcome {
         let mut output = vec![0; codeword::A_MAX];
-        let (state, answer) = slots::read(self.state, &self.store, slot, terminal, &mut output);
+        let (state, answer) = slots::read(self.state, &self.places(), slot, terminal, &mut output);
         self.state = state;
         answer?;
         Ok(vec![run(&output[..state.heads[slot].a])])
@@ -182,7 +295,7 @@ impl Replay {
     fn streams(&mut self, slot: usize, terminal: u16, code_block: usize) -> Outcome {
         let mut output = vec![0; ROOM_OF_BLOCK];
         let (state, answer) =
-            slots::streams(self.state, &self.store, slot, terminal, code_block, &mut output);
+            slots::streams(self.state, &self.places(), slot, terminal, code_block, &mut output);
         self.state = state;
         answer?;
         let d = sizes::sizes(state.heads[slot].a)?.size(code_block) + 4;

@@ -6,6 +6,7 @@ use crate::older::Upwards;
 use crate::replay::{is_silent, next_line, text, Call, End, Outcome, Replay, LINE_MAX};
 use crate::sizes::{sizes, UNREADABLE};
 use crate::slots::{self, Head, Refusal, State, ROOM_OF_BLOCK, SLOTS_MAX};
+use crate::soft_buffer::WHOLE_SHARE;
 use std::io::{self, BufReader, Read, Write};
 
 #[derive(Clone, Copy, Debug, PartialEq, Eq)]
@@ -41,6 +42,10 @@ pub enum Fault {
     FirstBlockAlone,
     NoShortSize,
     WorstByLongest,
+    CutIgnored,
+    Release8Divided,
+    FirstRoomChanged,
+    DisputeLost,
     LeadingZeros,
     TerminalWraps,
     BlanksJoined,
@@ -55,7 +60,7 @@ pub enum Fault {
 use Fault::*;
 
 /// The faults by their names.
-pub const FAULTS: [(&str, Fault); 40] = [
+pub const FAULTS: [(&str, Fault); 44] = [
     ("open_keeps", OpenKeeps),                     // open does not clear the room: June
     ("open_clears_one_block", OpenClearsOneBlock), // or its first code block alone
     ("first_bit_stays", FirstBitStays),            // of two different bits the earlier one is kept
@@ -87,6 +92,10 @@ pub const FAULTS: [(&str, Fault); 40] = [
     ("first_block_alone", FirstBlockAlone),        // streams gives code block 0 whichever is asked
     ("no_short_size", NoShortSize),                // K- is 0 wherever there are no short blocks
     ("worst_by_longest", WorstByLongest),          // every code block counts as the longest for worst
+    ("cut_ignored", CutIgnored),                   // a downlink is received as if no circle were cut
+    ("release_8_divided", Release8Divided),        // K_C divides under Release 8 too
+    ("first_room_changed", FirstRoomChanged),      // a change of form leaves the other rooms behind
+    ("dispute_lost", DisputeLost),                 // a change of form makes disputed places unheard
     ("leading_zeros", LeadingZeros),               // numbers may begin with 0
     ("terminal_wraps", TerminalWraps),             // terminal 65,536 is 0
     ("blanks_joined", BlanksJoined),               // several blanks are one, outer ones none
@@ -183,14 +192,18 @@ impl Spoiled {
         let call = self.misheard(call);
         let before = self.sound.state;
         let store = match call {
-            Call::Open { .. } | Call::Receive { .. } | Call::Read { .. } => self.sound.store.clone(),
+            Call::Open { .. } | Call::Receive { .. } | Call::Read { .. } => self.sound.places(),
             _ => Vec::new(),
         };
         if let (NextRoom, Call::Read { slot, .. }) = (self.fault, &call) {
             self.lay_over(*slot);
         }
-        if let (ThirdBitHeals, Call::Receive { .. }) = (self.fault, &call) {
-            self.replace_disputed(slots::UNHEARD);
+        match (self.fault, &call) {
+            (ThirdBitHeals, Call::Receive { .. }) | (DisputeLost, Call::Pack | Call::Unpack) => {
+                self.replace_disputed(slots::UNHEARD)
+            }
+            (FirstRoomChanged, Call::Pack | Call::Unpack) if before.s * before.m <= 3 => self.sound.state.s = before.s.min(1),
+            _ => {}
         }
         let outcome = self.sound.call(&call);
         match call {
@@ -207,11 +220,15 @@ impl Spoiled {
                 }
                 return self.ownership(terminal, outcome);
             }
-            Call::Build { version, .. } => return self.late_allocation(version, outcome),
+            Call::OpenDown { slot, .. } if self.fault == CutIgnored && outcome.is_ok() => {
+                self.sound.state.heads[slot].share = WHOLE_SHARE;
+            }
+            Call::Build { version, .. } | Call::BuildDown { version, .. } => return self.late_allocation(version, outcome),
             Call::Sizes { .. } if self.fault == NoShortSize => return outcome.map(no_short_size),
             Call::Sizes { .. } => {}
             Call::Worst { a, q, n } if self.fault == WorstByLongest => return by_longest(a, q, n, outcome),
-            Call::Worst { .. } => {}
+            Call::Pack | Call::Unpack if self.fault == FirstRoomChanged => self.sound.state = before,
+            Call::Worst { .. } | Call::OpenDown { .. } | Call::Pack | Call::Unpack => {}
         }
         outcome
     }
@@ -219,6 +236,7 @@ impl Spoiled {
     /// The call as a fault takes it.
     fn misheard(&self, mut call: Call) -> Call {
         match (&mut call, self.fault) {
+            (Call::OpenDown { receiver, .. }, Release8Divided) if receiver.release == 8 => receiver.release = 11,
             (Call::Receive { version, .. }, AlwaysVersion0) if *version < 4 => *version = 0,
             (Call::Receive { slot, q, n, bits, .. }, FirstTurnAlone) => self.cut_to_a_turn(*slot, *q * *n, bits),
             (
@@ -239,7 +257,9 @@ impl Spoiled {
         let length = m * ROOM_OF_BLOCK;
         if slot < s && s * length <= self.sound.store.len() {
             let next = (slot + 1) % s * length;
-            self.sound.store.copy_within(next..next + length, slot * length);
+            let mut places = self.sound.places();
+            places.copy_within(next..next + length, slot * length);
+            self.sound.keep(&places);
         }
     }
 
@@ -263,11 +283,13 @@ impl Spoiled {
         if outcome.is_ok() {
             let room = slot * self.sound.state.m * ROOM_OF_BLOCK;
             let rest = room + ROOM_OF_BLOCK..room + self.sound.state.m * ROOM_OF_BLOCK;
+            let mut places = self.sound.places();
             match self.fault {
-                OpenKeeps => self.sound.store.copy_from_slice(store),
-                OpenClearsOneBlock => self.sound.store[rest.clone()].copy_from_slice(&store[rest]),
+                OpenKeeps => places.copy_from_slice(store),
+                OpenClearsOneBlock => places[rest.clone()].copy_from_slice(&store[rest]),
                 _ => self.lacking[slot] = data_places(a),
             }
+            self.sound.keep(&places);
         }
         outcome
     }
@@ -277,21 +299,23 @@ impl Spoiled {
             Call::Receive { slot, terminal, version, bits, .. } => (slot, terminal, version, bits),
             _ => return outcome,
         };
+        let mut places = self.sound.places();
+        let bytes = places.iter_mut().zip(store);
         match (self.fault, &outcome) {
             (FirstBitStays, Ok(_)) => {
-                let bytes = self.sound.store.iter_mut().zip(store);
                 bytes.filter(|(_, then)| **then < 2).for_each(|(now, then)| *now = *then);
+                self.sound.keep(&places);
             }
             (LaterBitWins, Ok(_)) => {
-                let bytes = self.sound.store.iter_mut().zip(store);
                 let contradicted = bytes.filter(|(now, then)| **now == slots::DISPUTED && **then < 2);
                 contradicted.for_each(|(now, then)| *now = 1 - *then);
+                self.sound.keep(&places);
             }
             (ThirdBitHeals, _) => {
-                let bytes = self.sound.store.iter_mut().zip(store);
                 let untouched =
                     bytes.filter(|(now, then)| **now == slots::UNHEARD && **then == slots::DISPUTED);
                 untouched.for_each(|(now, then)| *now = *then);
+                self.sound.keep(&places);
             }
             (DisputedHeard, Ok(_)) => {
                 let lacking = match self.undisputed(*slot, *terminal) {
@@ -319,7 +343,7 @@ impl Spoiled {
     }
 
     fn after_read(&mut self, slot: usize, terminal: u16, store: Vec<u8>, outcome: Outcome) -> Outcome {
-        self.sound.store = store;
+        self.sound.keep(&store);
         match (self.fault, &outcome) {
             (CheckSkipped, Err(Refusal::Number(slots::CHECK_WRONG))) => self.unchecked(slot, terminal),
             (BlockChecksSkipped, Err(Refusal::CodeBlockWrong(_))) => self.transport_checked(slot, terminal),
@@ -386,16 +410,17 @@ impl Spoiled {
     }
 
     fn replace_disputed(&mut self, by: u8) {
-        let disputed = self.sound.store.iter_mut().filter(|byte| **byte == slots::DISPUTED);
-        disputed.for_each(|byte| *byte = by);
+        let mut places = self.sound.places();
+        places.iter_mut().filter(|byte| **byte == slots::DISPUTED).for_each(|byte| *byte = by);
+        self.sound.keep(&places);
     }
 
     /// What a read gives where every disputed place has heard a 0.
     fn undisputed(&mut self, slot: usize, terminal: u16) -> Outcome {
-        let store = self.sound.store.clone();
+        let places = self.sound.places();
         self.replace_disputed(0);
         let outcome = self.sound.call(&Call::Read { slot, terminal });
-        self.sound.store = store;
+        self.sound.keep(&places);
         outcome
     }
 
@@ -419,7 +444,8 @@ impl Spoiled {
 
     /// How many data places a reception hears in an empty store.
     fn heard_alone(&self, call: &Call, data_places: usize) -> usize {
-        let mut empty = Replay { state: self.sound.state, store: vec![2; self.sound.store.len()] };
+        let mut empty = Replay { state: self.sound.state, ..Replay::default() };
+        empty.store.fill(slots::UNHEARD);
         let lacking = empty.call(call).map(|fields| fields[0].parse().unwrap_or(0));
         data_places - lacking.unwrap_or(data_places)
     }
@@ -485,7 +511,7 @@ fn data_places(a: usize) -> usize {
 
 /// The line with its numbers, though not its BITS, as a lax reader takes them.
 fn without_leading_zeros(words: &[&[u8]]) -> Vec<u8> {
-    let has_bits = [&b"receive"[..], b"build"].contains(&words[0]);
+    let has_bits = [&b"receive"[..], b"build", b"build-down"].contains(&words[0]);
     let numbers = 1..words.len() - usize::from(has_bits && words.len() > 1);
     let mut lax = words.to_vec();
     for word in &mut lax[numbers] {

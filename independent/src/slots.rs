@@ -5,11 +5,12 @@
 //! circle place j of code block r; which stream place that is comes from the rate
 //! matcher itself, run on labels in the bits' stead.
 
-use crate::codeword::{allocation_fits, segmentation_of};
+use crate::codeword::{allocation_fits, rows_of, segmentation_of};
 use crate::codeword::{BAD_ALLOCATION, BAD_BIT, BAD_VERSION, SHORT_OUTPUT};
 use crate::crc;
 use crate::rate;
 use crate::segmentation::Segmentation;
+use crate::soft_buffer::{n_cb, Receiver, WHOLE_SHARE};
 
 /// S and M are at most these, and so many heads are in a state.
 pub const SLOTS_MAX: usize = 8;
@@ -39,12 +40,14 @@ pub const BAD_CODE_BLOCK: u8 = 14;
 /// The refusal number of 02, E1.
 pub const CODE_BLOCK_WRONG: u8 = 16;
 
-/// One slot's head: closed, or open with a terminal number and A.
+/// One slot's head: closed, or open with a terminal number, A and each code block's share of the
+/// soft buffer (02, E6).
 #[derive(Clone, Copy, Debug, Default, PartialEq, Eq)]
 pub struct Head {
     pub open: bool,
     pub terminal: u16,
     pub a: usize,
+    pub share: usize,
 }
 
 /// S, M and eight heads. Heads from S upward are ignored.
@@ -100,25 +103,52 @@ pub fn new(s: usize, m: usize) -> (State, Answer) {
 
 /// Open: the whole room is cleared, then the slot is open.
 pub fn open(state: State, store: &mut [u8], slot: usize, terminal: u16, a: usize) -> (State, Answer) {
-    let answer = may_open(&state, store, slot, a);
+    let share = may_open(&state, store, slot, a).map(|_| WHOLE_SHARE);
+    opened(state, store, slot, terminal, a, share)
+}
+
+/// Open for a downlink (02, E6): 21 comes last. The head keeps the share as it was divided.
+pub fn open_down(
+    state: State,
+    store: &mut [u8],
+    slot: usize,
+    terminal: u16,
+    a: usize,
+    receiver: &Receiver,
+) -> (State, Answer) {
+    let share = may_open(&state, store, slot, a).and_then(|rows| Ok(receiver.share(&rows)?));
+    opened(state, store, slot, terminal, a, share)
+}
+
+/// The room cleared and the head open, where there is a share.
+fn opened(
+    state: State,
+    store: &mut [u8],
+    slot: usize,
+    terminal: u16,
+    a: usize,
+    share: Result<usize, Refusal>,
+) -> (State, Answer) {
     let mut after = state;
-    if answer.is_ok() {
+    let answer = share.map(|share| {
         state.room_mut(store, slot).fill(UNHEARD);
-        after.heads[slot] = Head { open: true, terminal, a };
-    }
+        after.heads[slot] = Head { open: true, terminal, a, share };
+    });
     (after, answer)
 }
 
-fn may_open(state: &State, store: &[u8], slot: usize, a: usize) -> Answer {
+/// What every Open asks. Gives the rows of each code block.
+fn may_open(state: &State, store: &[u8], slot: usize, a: usize) -> Result<Vec<usize>, Refusal> {
     state.check_with(store)?;
     state.check_slot(slot)?;
     if state.heads[slot].open {
-        return refuse(ALREADY_OPEN);
+        return Err(ALREADY_OPEN.into());
     }
-    if segmentation_of(a)?.blocks > state.m {
-        return refuse(TOO_MANY_BLOCKS);
+    let segmentation = segmentation_of(a)?;
+    if segmentation.blocks > state.m {
+        return Err(TOO_MANY_BLOCKS.into());
     }
-    Ok(())
+    Ok(rows_of(&segmentation))
 }
 
 /// Receive: the bits go one by one to the places Build would have taken them from. Gives how
@@ -137,12 +167,13 @@ pub fn receive(
     let answer = may_receive(&state, store, slot, terminal, (q, n, version), bits);
     let answer = answer.map(|segmentation| {
         let room = state.room_mut(store, slot);
+        let share = state.heads[slot].share;
         let shares = rate::shares(bits.len(), n * q, segmentation.blocks);
         let mut rest = bits;
         for (r, e_length) in shares.into_iter().enumerate() {
             let (stretch, later) = rest.split_at(e_length);
             let part = &mut room[r * ROOM_OF_BLOCK..][..ROOM_OF_BLOCK];
-            for (place, bit) in walked(&segmentation, r, version, e_length).into_iter().zip(stretch) {
+            for (place, bit) in walked(&segmentation, r, share, version, e_length).into_iter().zip(stretch) {
                 part[place] = met(part[place], *bit);
             }
             rest = later;
@@ -290,8 +321,11 @@ impl State {
     }
 
     fn is_broken(&self, head: &Head) -> bool {
-        let fits = segmentation_of(head.a).map_or(false, |segmentation| segmentation.blocks <= self.m);
-        head.open && !fits
+        let fits = |segmentation: Segmentation| {
+            let long_enough = |rows: &usize| n_cb(head.share, *rows) >= rate::COLUMNS * rows;
+            segmentation.blocks <= self.m && rows_of(&segmentation).iter().all(long_enough)
+        };
+        head.open && !segmentation_of(head.a).map_or(false, fits)
     }
 
     /// 13, then 5 for the store.
@@ -347,11 +381,30 @@ fn labelled_circle(segmentation: &Segmentation, r: usize) -> Vec<Option<Label>> 
     rate::circle(&[0, 1, 2].map(stream))
 }
 
-/// The circle places of code block r in the order of the walk.
-pub fn walked(segmentation: &Segmentation, r: usize, version: usize, e_length: usize) -> Vec<usize> {
+/// The circle places of code block r in the order of the walk, the circle being cut where the
+/// code block's share of the soft buffer ends.
+pub fn walked(
+    segmentation: &Segmentation,
+    r: usize,
+    share: usize,
+    version: usize,
+    e_length: usize,
+) -> Vec<usize> {
+    let circle = cut_circle(segmentation, r, share);
+    let rows = rate::rows(segmentation.size(r) + 4);
+    rate::walk(&circle, rate::start_in(circle.len(), rows, version), e_length)
+}
+
+/// The bits that one turn round the circle of code block r sends.
+pub fn turn(segmentation: &Segmentation, r: usize, share: usize) -> usize {
+    cut_circle(segmentation, r, share).iter().flatten().count()
+}
+
+/// The places of code block r before its cut, those without a bit left empty.
+fn cut_circle(segmentation: &Segmentation, r: usize, share: usize) -> Vec<Option<usize>> {
     let labels = labelled_circle(segmentation, r).into_iter().enumerate();
-    let circle: Vec<Option<usize>> = labels.map(|(place, label)| label.map(|_| place)).collect();
-    rate::walk(&circle, rate::start(circle.len(), version), e_length)
+    let cut = n_cb(share, rate::rows(segmentation.size(r) + 4));
+    labels.take(cut).map(|(place, label)| label.map(|_| place)).collect()
 }
 
 /// Where in the room the data places of code block r are, in the order of stream 0.

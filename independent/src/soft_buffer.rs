@@ -5,6 +5,9 @@ use crate::rate::COLUMNS;
 /// 02's refusal number for a receiver.
 pub const BAD_BUFFER: u8 = 21;
 
+/// The share of an uplink's code blocks: no circle has more places, K_w of the largest K.
+pub const WHOLE_SHARE: usize = 18_528;
+
 /// M_limit.
 const M_LIMIT: usize = 8;
 

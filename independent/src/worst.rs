@@ -7,6 +7,7 @@ use crate::codeword::{segmentation_of, A_MAX, BAD_ALLOCATION};
 use crate::rate;
 use crate::segmentation::Segmentation;
 use crate::slots::{data_places, walked, ROOM_OF_BLOCK};
+use crate::soft_buffer::WHOLE_SHARE;
 use crate::table::TABLE;
 
 /// The versions of the three.
@@ -64,7 +65,7 @@ pub fn heard(s: &Segmentation, unit: usize, sent: &[(usize, usize)]) -> (usize, 
         let mut reached = vec![false; ROOM_OF_BLOCK];
         for (version, g) in sent {
             let e_length = rate::shares(*g, unit, s.blocks)[r];
-            walked(s, r, *version, e_length).into_iter().for_each(|place| reached[place] = true);
+            walked(s, r, WHOLE_SHARE, *version, e_length).into_iter().for_each(|place| reached[place] = true);
         }
         let places = data_places(s, r);
         heard += places.iter().filter(|place| reached[**place - r * ROOM_OF_BLOCK]).count();
@@ -92,7 +93,7 @@ pub fn worst_order(s: &Segmentation, unit: usize, g: usize) -> ([usize; 3], [usi
 pub fn needed(s: &Segmentation, versions: &[usize]) -> usize {
     let mut first = vec![usize::MAX; ROOM_OF_BLOCK];
     for version in versions {
-        let turn = walked(s, 0, *version, whole(s, 0));
+        let turn = walked(s, 0, WHOLE_SHARE, *version, whole(s, 0));
         (1..).zip(turn).for_each(|(bits, place)| first[place] = first[place].min(bits));
     }
     data_places(s, 0).into_iter().map(|place| first[place]).max().expect("a code block has data")

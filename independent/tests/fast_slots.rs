@@ -4,12 +4,14 @@
 use independent::codeword::{build, G_MAX};
 use independent::crc;
 use independent::fast_slots::{self, Workspace};
+use independent::packing;
 use independent::rate;
 use independent::segmentation::{self, Segmentation};
 use independent::sizes::sizes;
 use independent::slots::{self, Head, Refusal, State, ROOM_OF_BLOCK, UNHEARD};
 use independent::table::TABLE;
 use independent::turbo;
+use independent::soft_buffer::WHOLE_SHARE;
 use independent::xorshift::{self, Generator};
 
 const CAR: u16 = 7;
@@ -44,6 +46,7 @@ impl Both {
 
     fn receive(&mut self, [q, n, version]: [usize; 3], bits: &[u8]) -> Result<usize, Refusal> {
         let Both { state, slot, .. } = *self;
+        let mut packed = packed(&self.literal);
         let answer = slots::receive(state, &mut self.literal, slot, CAR, q, n, version, bits).1;
         assert_eq!(
             fast_slots::receive(&state, &mut self.quick, slot, CAR, q, n, version, bits),
@@ -52,6 +55,8 @@ impl Both {
             bits.len()
         );
         assert!(self.quick == self.literal, "{state:?}, {q} {n} {version}, G = {}", bits.len());
+        assert_eq!(fast_slots::receive_packed(&state, &mut packed, slot, CAR, q, n, version, bits), answer);
+        assert!(packed == self::packed(&self.literal), "{state:?}, {q} {n} {version}, G = {}", bits.len());
         answer
     }
 
@@ -61,6 +66,10 @@ impl Both {
         let mut quick = literal.clone();
         let answer = slots::read(state, &self.literal, slot, CAR, &mut literal).1;
         assert_eq!(self.workspace.read(&state, &self.quick, slot, CAR, &mut quick), answer);
+        assert!(quick == literal, "{state:?}");
+        let mut quick = vec![FILL; room];
+        let again = self.workspace.read_packed(&state, &packed(&self.literal), slot, CAR, &mut quick);
+        assert_eq!(again, answer);
         assert!(quick == literal, "{state:?}");
         answer.map(|()| literal)
     }
@@ -73,6 +82,11 @@ impl Both {
         assert!(output[..block.len()] == *block);
         Ok(())
     }
+}
+
+/// The packed form of a store, as far as it makes whole bytes.
+fn packed(store: &[u8]) -> Vec<u8> {
+    store.chunks_exact(4).map(|four| packing::packed([four[0], four[1], four[2], four[3]])).collect()
 }
 
 /// 3 * D - 2 * F over all code blocks: what one turn of every circle sends.
@@ -96,6 +110,42 @@ fn every_row_of_the_table_with_and_without_filler() {
             let turn = mother_code(a);
             for (version, g) in [(b % 4, turn / 3), ((b + 1) % 4, turn + 48)] {
                 let _ = Both::of(a).hear(&block, [2, 1, version], allowed(g, 2, 1, a));
+            }
+        }
+    }
+}
+
+#[test]
+fn circles_that_are_cut() {
+    let mut random = Generator::new(23);
+    for a in [1, 16, 40, 488, 6_120, 6_121, 12_217] {
+        let rows = rate::rows(sizes(a).unwrap().long + 4);
+        let column = 32 + 2 * random.below(32);
+        for share in [
+            32 * rows,
+            32 * rows + 1,
+            50 * rows,
+            column * rows + 1 + random.below(2 * rows - 1),
+            column * rows,
+            96 * rows - 1,
+            96 * rows,
+            96 * rows + 77,
+        ] {
+            for version in 0..4 {
+                let mut both = Both::of(a);
+                both.state.heads[0].share = share;
+                let turn = (0..sizes(a).unwrap().blocks).map(|r| slots::turn(&sizes(a).unwrap(), r, share));
+                let turn = turn.sum::<usize>();
+                let g = random.choose(&[turn / 3, turn + 8, 2 * turn + 2, 3 * turn + 24]);
+                let bits = xorshift::block(allowed(g, 2, 1, a), random.number());
+                let _ = both.receive([2, 1, version], &bits);
+                let block = xorshift::block(a, random.number());
+                let g = allowed(2 * turn, 2, 1, a);
+                let mut both = Both::of(a);
+                both.state.heads[0].share = share;
+                let bits = independent::codeword::build_in(share, &block, 2, 1, version, g).unwrap();
+                assert_eq!(both.receive([2, 1, version], &bits), Ok(0));
+                assert_eq!(both.read(a), Ok(block));
             }
         }
     }
@@ -247,7 +297,7 @@ fn the_partner_s_check_is_seen_but_on_zeros() {
 
 #[test]
 fn refusals_in_their_order() {
-    let head = |open, terminal, a| Head { open, terminal, a };
+    let head = |open, terminal, a, share| Head { open, terminal, a, share };
     let sizes = [0, 1, 6_120, 6_121, 30_576, 30_577, usize::MAX];
     let mut random = Generator::new(4);
     for _ in 0..20_000 {
@@ -257,6 +307,7 @@ fn refusals_in_their_order() {
                 random.below(2) == 0,
                 random.below(2) as u16,
                 [40, sizes[random.below(7)]][random.below(2)],
+                [WHOLE_SHARE, WHOLE_SHARE, 96, 6_176, 95, 0][random.below(6)],
             );
         }
         let mut literal = vec![FILL; random.below(9) * random.below(6) * ROOM_OF_BLOCK];

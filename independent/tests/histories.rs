@@ -136,9 +136,12 @@ fn the_first_history_meets_every_refusal() {
     let answers = all(1, 1)[0].iter().filter_map(|line| replay.answer(line)).collect::<Vec<String>>();
     let numbers = answers.iter().filter_map(|answer| answer.strip_prefix("refused\t"));
     let expected =
-        ["13", "13", "5", "6", "8", "1", "10", "7", "9", "11\t40", "3", "4", "2", "14", "12", "15", "11\t18", "11\t1", "11\t1", "16\t0"];
+        [
+            "13", "13", "5", "6", "8", "1", "10", "7", "9", "11\t40", "3", "4", "2", "14", "12", "15", "11\t18", "11\t1",
+            "11\t1", "16\t0", "16\t0", "5", "13", "13", "21",
+        ];
     assert_eq!(numbers.collect::<Vec<&str>>(), expected);
-    assert_eq!(answers.iter().filter(|answer| answer.starts_with("ok")).count(), answers.len() - 20);
+    assert_eq!(answers.iter().filter(|answer| answer.starts_with("ok")).count(), answers.len() - 25);
 }
 
 /// What a comparison meets, by the answers of this program: a kind and C, counted.
@@ -154,6 +157,7 @@ fn met() -> HashMap<(String, usize), usize> {
             };
             let slot = match call {
                 Some(Call::Open { slot, .. } | Call::Receive { slot, .. } | Call::Read { slot, .. }) => slot,
+                Some(Call::OpenDown { slot, .. }) => slot,
                 Some(Call::Streams { slot, .. }) => slot,
                 _ => usize::MAX,
             };
@@ -179,14 +183,18 @@ fn every_answer_is_met() {
     let met = met();
     let total =
         |kind: &str| met.iter().filter(|(key, _)| key.0 == kind).map(|(_, count)| count).sum::<usize>();
-    let calls: [(&str, &[u8]); 9] = [
+    let calls: [(&str, &[u8]); 13] = [
         ("new", &[13]),
         ("open", &[13, 5, 6, 7, 1, 10]),
+        ("open-down", &[13, 5, 6, 7, 1, 10, 21]),
         ("receive", &[13, 5, 6, 8, 9, 3, 4, 2]),
         ("read", &[13, 5, 6, 8, 9, 11, 16, 12]),
         ("streams", &[13, 5, 8, 9, 14]),
         ("close", &[13, 6, 8, 9]),
         ("build", &[1, 3, 4, 2]),
+        ("build-down", &[1, 21, 3, 4, 2]),
+        ("pack", &[13, 5]),
+        ("unpack", &[13, 5]),
         ("sizes", &[1]),
         ("worst", &[1, 3]),
     ];
@@ -199,7 +207,7 @@ fn every_answer_is_met() {
     assert!(total("refused 15") > 1_000);
     for blocks in 1..=3 {
         let count = |kind: &str| met.get(&(kind.to_string(), blocks)).copied().unwrap_or(0);
-        for kind in ["open ok", "receive ok", "read ok", "read refused 11", "read refused 12", "streams ok"] {
+        for kind in ["open ok", "open-down ok", "receive ok", "read ok", "read refused 11", "read refused 12", "streams ok"] {
             assert!(count(kind) >= 10, "{kind} with C = {blocks}: {}", count(kind));
         }
         let wrong = count("read refused 16");

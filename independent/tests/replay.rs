@@ -401,7 +401,7 @@ fn example(name: &str) -> String {
 
 #[test]
 fn the_stories_are_answered_as_they_say() {
-    for name in ["june", "partner"] {
+    for name in ["june", "partner", "dispute", "downlink", "packed"] {
         let (log, answers) = (example(&format!("{name}.txt")), example(&format!("{name}-answers.txt")));
         let mut replay = Replay::default();
         let given: Vec<String> = log.lines().filter_map(|line| replay.answer(line.as_bytes())).collect();

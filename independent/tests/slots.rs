@@ -4,8 +4,9 @@
 use independent::codeword::{build, streams as built_streams, G_MAX};
 use independent::older::Upwards;
 use independent::sizes::sizes;
-use independent::slots::{close, new, open, read, receive, streams};
+use independent::slots::{close, new, open, open_down, read, receive, streams};
 use independent::slots::{Answer, Head, Refusal, State, DISPUTED, ROOM_OF_BLOCK};
+use independent::soft_buffer::{Receiver, WHOLE_SHARE};
 use independent::xorshift::{self, Generator};
 use std::collections::HashMap;
 
@@ -203,7 +204,7 @@ fn opening_clears_the_whole_room_and_no_other() {
     assert_eq!(answer, Ok(()));
     assert!(store[room..2 * room].iter().all(|byte| *byte == 2));
     assert!(store[..room].iter().chain(&store[2 * room..]).all(|byte| *byte == FILL));
-    let head = Head { open: true, terminal: 0, a: 16 };
+    let head = Head { open: true, terminal: 0, a: 16, share: WHOLE_SHARE };
     assert_eq!((state.heads[1], state.heads[0], state.heads[2]), (head, Head::default(), Head::default()));
 }
 
@@ -303,9 +304,9 @@ fn refusals_in_their_order() {
     let (state, _) = new(2, 2);
     let enough = 4 * ROOM_OF_BLOCK;
     let mut broken = state;
-    broken.heads[1] = Head { open: true, terminal: CAR, a: 0 };
+    broken.heads[1] = Head { open: true, terminal: CAR, a: 0, share: WHOLE_SHARE };
     let mut own = state;
-    own.heads[0] = Head { open: true, terminal: CAR, a: 6_121 };
+    own.heads[0] = Head { open: true, terminal: CAR, a: 6_121, share: WHOLE_SHARE };
     // Nothing is looked at before 13, then the store, then the slot number.
     let mut asked = all_wrong();
     assert_eq!(answers(broken, enough - 1, 2, OTHER, &asked), [13; 5]);
@@ -381,14 +382,14 @@ fn an_open_slot_is_not_opened_again_not_even_by_its_own_car() {
 
 #[test]
 fn states_that_no_call_made() {
-    let good = Head { open: true, terminal: CAR, a: 16 };
+    let good = Head { open: true, terminal: CAR, a: 16, share: WHOLE_SHARE };
     let mut made = State { s: 2, m: 1, heads: [Head::default(); 8] };
     made.heads[0] = good;
     // Heads from S upward, however broken, are ignored and come back unchanged.
-    made.heads[2] = Head { open: true, terminal: 1, a: 0 };
-    made.heads[7] = Head { open: true, terminal: 2, a: usize::MAX };
+    made.heads[2] = Head { open: true, terminal: 1, a: 0, share: WHOLE_SHARE };
+    made.heads[7] = Head { open: true, terminal: 2, a: usize::MAX, share: WHOLE_SHARE };
     // A closed head with stray numbers is not broken and comes back as it came.
-    made.heads[1] = Head { open: false, terminal: 5, a: 99_999 };
+    made.heads[1] = Head { open: false, terminal: 5, a: 99_999, share: 3 };
     let mut store = vec![FILL; 2 * ROOM_OF_BLOCK];
     let block = xorshift::block(16, 1);
     assert_eq!(hear(made, &mut store, &block, 0, 132), Ok(0));
@@ -400,13 +401,19 @@ fn states_that_no_call_made() {
     assert_eq!(close(made, 1, 5), (made, refused(8)));
     let (after, answer) = open(made, &mut store, 1, OTHER, 6_120);
     expected = made;
-    expected.heads[1] = Head { open: true, terminal: OTHER, a: 6_120 };
+    expected.heads[1] = Head { open: true, terminal: OTHER, a: 6_120, share: WHOLE_SHARE };
     assert_eq!((after, answer), (expected, Ok(())));
     // A head below S whose A is out of range or too large for M breaks every slot.
     for a in [0, 6_121, 30_577, usize::MAX] {
         let mut broken = made;
-        broken.heads[1] = Head { open: true, terminal: OTHER, a };
+        broken.heads[1] = Head { open: true, terminal: OTHER, a, share: WHOLE_SHARE };
         assert_eq!(answers(broken, 2 * ROOM_OF_BLOCK, 0, CAR, &all_wrong()), [13; 5]);
+    }
+    // So does one whose share is below 32 * R: R is 2 for A = 16.
+    for (share, number) in [(0, 13), (63, 13), (64, 9), (usize::MAX, 9)] {
+        let mut broken = made;
+        broken.heads[1] = Head { open: true, terminal: OTHER, a: 16, share };
+        assert_eq!(read(broken, &store, 1, CAR, &mut []).1, refused(number), "{share}");
     }
     for (s, m) in [(0, 1), (9, 1), (usize::MAX, 1), (1, 0), (1, 6), (1, usize::MAX)] {
         let broken = State { s, m, heads: made.heads };
@@ -585,5 +592,52 @@ fn check_streams(state: State, store: &[u8], slot: usize, own: &Known) {
             let expected = own.heard.get(&(r, stream, place)).copied().unwrap_or(if absent { 0 } else { 2 });
             assert_eq!(*byte, expected, "block {r} stream {stream} place {place}");
         }
+    }
+}
+
+/// A receiver under Release 8 with 8 processes.
+fn receiver(soft: usize) -> Receiver {
+    Receiver { release: 8, mimo: 1, processes: 8, soft, layers: 1 }
+}
+
+#[test]
+fn a_downlink_s_head_keeps_the_share() {
+    let (state, mut store) = cell(2);
+    for (a, soft, answer) in [
+        (16, 511, Err(21)),
+        (16, 512, Ok(64)),
+        (16, 519, Ok(64)),
+        (16, 800_000, Ok(100_000)),
+        (6_121, 16 * 3_168 - 1, Err(21)), // R is 97 and 99, the share is of two code blocks
+        (6_121, 16 * 3_168, Ok(3_168)),
+        (0, 0, Err(1)),
+        (12_217, 0, Err(10)),
+    ] {
+        let (after, given) = open_down(state, &mut store, 0, CAR, a, &receiver(soft));
+        let shares = given.map(|()| after.heads[0].share).map_err(Refusal::number);
+        assert_eq!(shares, answer, "{a} {soft}");
+    }
+    let eleven = Receiver { release: 11, soft: 35_982_720, layers: 2, ..receiver(0) };
+    let shares = [8, 11].map(|release| {
+        open_down(state, &mut store, 0, CAR, 16, &Receiver { release, ..eleven }).0.heads[0].share
+    });
+    assert_eq!(shares, [4_497_840, 899_568]);
+}
+
+/// One turn of a circle cut at 32 * R is stream 0 alone, whose places are all heard by then.
+#[test]
+fn the_least_share_sends_stream_0_alone() {
+    let block = xorshift::block(16, 1);
+    for version in 0..4 {
+        let (state, mut store) = cell(1);
+        let (state, _) = open_down(state, &mut store, 0, CAR, 16, &receiver(512));
+        let mut bits = vec![0; 44];
+        independent::codeword::build_down_into(&block, &receiver(512), 2, 1, version, 44, &mut bits).unwrap();
+        assert_eq!(receive(state, &mut store, 0, CAR, 2, 1, version, &bits).1, Ok(0));
+        assert_eq!(block_read(state, &store, 16), Ok(block.clone()));
+        let mut runs = [FILL; 132];
+        assert_eq!(streams(state, &store, 0, CAR, 0, &mut runs).1, Ok(()));
+        assert!(runs[44..].iter().all(|byte| *byte == 2));
+        assert!(store[64..].iter().all(|byte| *byte == 2));
     }
 }

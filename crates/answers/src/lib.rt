@@ -3,13 +3,13 @@ use planning::WorstAnswer;
 use segmentation::SizesAnswer;
 use slots::Answer;
 ghost use mathlib.Core.Path.{_≡_};
-ghost use mathlib.Core.List.{_++_};
+ghost use mathlib.Core.List.{_∷_, [], _++_};
 ghost use Prim.Native.Nat.{_+_, _≤_};
 ghost use lib.Dec.{leb};
 ghost use lib.ListN.{length};
 ghost use Rattle.lines.specs.Numbers.{numbersRow};
 ghost use Rattle.lines.specs.Put.{putAt, endAt};
-ghost use Rattle.answers.specs.Rows.{digitsOf, answerRow, refusalRow, runRow, runsRow};
+ghost use Rattle.answers.specs.Rows.{acceptedRow, digitsOf, answerRow, refusalRow, runRow, runsRow};
 ghost use Rattle.answers.specs.SizesRow.{sizesRow};
 ghost use Rattle.answers.specs.WorstRow.{worstRow};
 
@@ -39,6 +39,15 @@ pub fn put_answer(answer: Answer, out: &mut [u8]) -> usize
             put_told(b"refused\t", &numbers, out)
         }
     }
+}
+
+// The row of an accepted call that gives a number.
+pub fn put_number(number: usize, out: &mut [u8]) -> usize
+    ensures { λ r. ⌜ r ≡ endAt 0 (acceptedRow (number ∷ [])) (now (out .entry)) ⌝ }
+    ensures { λ r. ⌜ now (out .exit) ≡ putAt 0 (acceptedRow (number ∷ [])) (now (out .entry)) ⌝ }
+{
+    let numbers = [number];
+    put_told(b"ok\t", &numbers, out)
 }
 
 // The row of a refusal by its number alone.

@@ -1,4 +1,4 @@
-// Replays a log of the yard: each line of standard input is one call of 01, and its answer one line of standard output.
+// Replays a log of the yard: each line of standard input is one call of 01 or a change of form, and its answer one line of standard output.
 use libc::STDIN_FILENO;
 use libc::STDOUT_FILENO;
 use slots::State;
@@ -9,24 +9,28 @@ ghost use lib.ListN.{length};
 // So much of a line is kept as shows that it is too long to be read.
 const KEPT: usize = 200001;
 
-// Where a text's unfinished last line starts, with the state after its whole lines; `going` until an answer can't be written.
+// Where a text's unfinished last line starts, with the state and the form of the rooms after its whole lines; `going` until an answer
+// can't be written.
 struct Progress {
     state: State,
+    four: bool,
     next: usize,
     going: bool,
 }
 
-// The state after a line's call, and whether its answer could be written.
+// The state and the form after a line, and whether its answer could be written.
 struct Told {
     state: State,
+    four: bool,
     going: bool,
 }
 
 fn main() {
     let mut text = text_room();
-    let mut store = store_room();
+    let mut plain = plain_room();
+    let mut packed = packed_room();
     let mut out = answer_room();
-    replay_input(&mut text, &mut store, &mut out);
+    replay_input(&mut text, &mut plain, &mut packed, &mut out);
 }
 
 // Room for the longest line that is read, and for what comes behind it.
@@ -37,10 +41,17 @@ fn text_room() -> [u8; 262144]
 }
 
 // Room for S·M at most 3; a larger S·M meets number 5.
-fn store_room() -> [u8; 55584]
+fn plain_room() -> [u8; 55584]
     ensures { λ r. ⌜ 55584 ≡ length r ⌝ }
 {
     [0; 55584]
+}
+
+// The same for rooms with four places a byte.
+fn packed_room() -> [u8; 13896]
+    ensures { λ r. ⌜ 13896 ≡ length r ⌝ }
+{
+    [0; 13896]
 }
 
 // Room for the longest answer: a codeword of 172,800 bits with `ok`, a tab and a newline.
@@ -52,11 +63,12 @@ fn answer_room() -> [u8; 172804]
 
 // Before the first `new` the state is that of a refused New. A proved loop has to end, and nothing says that an input does: so it
 // counts its turns down, from a number that no run uses up.
-fn replay_input(text: &mut [u8], store: &mut [u8], out: &mut [u8])
+fn replay_input(text: &mut [u8], plain: &mut [u8], packed: &mut [u8], out: &mut [u8])
     requires { ⌜ 200001 < length (now text) ⌝ }
 {
     let begun = slots::new(0, 0);
     let mut state = begun.state;
+    let mut four = false;
     let mut have = 0;
     let mut got = read_more(text, 0);
     let mut turns = u64::MAX;
@@ -66,16 +78,17 @@ fn replay_input(text: &mut [u8], store: &mut [u8], out: &mut [u8])
         }
         turns -= 1;
         let end = have + got;
-        let progress = replay_lines(state, &text[..end], store, out);
+        let progress = replay_lines(state, four, &text[..end], plain, packed, out);
         if !progress.going {
             return;
         }
         state = progress.state;
+        four = progress.four;
         have = keep(text, progress.next, end);
         got = read_more(text, have);
     }
     if have > 0 {
-        answer(state, &text[..have], store, out);
+        answer(state, four, &text[..have], plain, packed, out);
     }
 }
 
@@ -89,19 +102,29 @@ fn read_more(text: &mut [u8], have: usize) -> usize
 }
 
 // Answers each whole line of the text.
-fn replay_lines(state: State, text: &[u8], store: &mut [u8], out: &mut [u8]) -> Progress
+fn replay_lines(
+    state: State,
+    four: bool,
+    text: &[u8],
+    plain: &mut [u8],
+    packed: &mut [u8],
+    out: &mut [u8],
+) -> Progress
     ensures { λ r. ⌜ r .next ≤ length (now (text .entry)) ⌝ }
 {
     let mut after = state;
+    let mut form = four;
     let mut next = 0;
     let mut end = lines::line_end(text, 0);
     while end < text.len() {
-        let told = answer(after, &text[next..end], store, out);
+        let told = answer(after, form, &text[next..end], plain, packed, out);
         after = told.state;
+        form = told.four;
         next = end + 1;
         if !told.going {
             return Progress {
                 state: after,
+                four: form,
                 next,
                 going: false,
             };
@@ -110,19 +133,29 @@ fn replay_lines(state: State, text: &[u8], store: &mut [u8], out: &mut [u8]) -> 
     }
     Progress {
         state: after,
+        four: form,
         next,
         going: true,
     }
 }
 
-// Makes a line's call and writes its answer.
-fn answer(state: State, line: &[u8], store: &mut [u8], out: &mut [u8]) -> Told {
-    let step = yard::replay_line(state, line, store, out);
+// Makes a line's call or change and writes its answer.
+fn answer(
+    state: State,
+    four: bool,
+    line: &[u8],
+    plain: &mut [u8],
+    packed: &mut [u8],
+    out: &mut [u8],
+) -> Told {
+    let step = yard::replay_line(state, four, line, plain, packed, out);
     let after = step.state;
+    let form = step.four;
     let written = step.written;
     let going = io::write_all(STDOUT_FILENO, &out[..written]);
     Told {
         state: after,
+        four: form,
         going,
     }
 }

@@ -20,7 +20,7 @@ use Rattle.requests.specs.Request.{longestLine, isSilent, rightWords, ri
 pub record Asked (l : List ℕ) (v : Verb) : Type 0 where
   pub short : length l ≤ longestLine
   pub formed : wellFormed l (formOf v) ≡ true
-  pub numbers-are : requestOf l .numbers ≡ fields l
+  pub numbers-are : requestOf l .numbers ≡ fields l (formOf v)
 
 module _ (l : List ℕ) (v : Verb) (is : requestOf l .verb ≡ v) (known : formOf v .known ≡ true) where
   -- a line that asks for no call has not this verb
@@ -37,7 +37,7 @@ module _ (l : List ℕ) (v : Verb) (is : requestOf l .verb ≡ v) (known : formO
       record {
         short = ltb-false _ _ eb;
         formed = ap (λ (u : Verb). wellFormed l (formOf u)) (sym same) ∙ ec;
-        numbers-are = simp (ea, eb, ec);
+        numbers-are = rw (← same) (simp (ea, eb, ec));
       }
 
   pub asked : Asked l v
@@ -47,7 +47,7 @@ module _ (l : List ℕ) (v : Verb) (is : requestOf l .verb ≡ v) (known : formO
   pub terminal-fits : formOf v .terminal ≡ true → getD (requestOf l .numbers) 1 0 ≤ 65535
   unfolding wellFormed rightTerminal fields formOf
   terminal-fits has =
-      rw (asked .numbers-are) (leb-true _ _ (go (formOf v .known) (rightWords l (formOf v)) (leb (numberAt l 2) 65535) (rightBits l (formOf v)) (rw has at (asked .formed))))
+      rw (asked .numbers-are) (leb-true _ _ (go (formOf v .known) (rightWords l (formOf v)) (leb (numberAt l (formOf v) 2) 65535) (rightBits l (formOf v)) (rw has at (asked .formed))))
     where
       go : (k w t b : Bool) → (k && (w && ((not true || t) && b))) ≡ true → t ≡ true
       go true true true b h = refl

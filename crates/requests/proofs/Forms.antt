@@ -1,4 +1,4 @@
--- Laws of what follows a verb: at most 5 numbers, the words of a line counted, and numbers said one after another.
+-- Laws of what follows a verb: at most 9 numbers, the words of a line counted, and numbers said one after another.
 -- Assumes nothing.
 use mathlib.Core.Path.{_≡_, sym, _∙_, ap}
 use mathlib.Core.Bool.{Bool, true, false, cond, _&&_}
@@ -10,28 +10,32 @@ use lib.Dec.{eqb}
 use lib.ListN.{length}
 use mir.Val.{boolByte}
 use Rattle.requests.specs.declared.Verb.{Verb}
-use Rattle.requests.specs.declared.Verb.the-variants.{New, Open, Close, Receive, Read, Streams, Build, Sizes, Worst, Nothing, Unreadable}
+use Rattle.requests.specs.declared.Verb.the-variants.{New, Open, OpenDown, Close, Receive, Read, Streams, Build, BuildDown, Sizes, Worst, Pack, Unpack, Nothing, Unreadable}
 use Rattle.requests.specs.declared.Form.{Form}
 use Rattle.requests.specs.Words.{wordsOf, wordAt}
 use Rattle.requests.specs.Verbs.{formOf}
 use Rattle.requests.specs.Numbers.{saysNumber, saidFrom, fields}
 use Rattle.requests.specs.Request.{wellFormed, bare, askedFor}
 
-numbers-le : (v : Verb) → formOf v .numbers ≤ 5
+numbers-le : (v : Verb) → formOf v .numbers ≤ 9
 unfolding formOf
 numbers-le New = omega arith
 numbers-le Open = omega arith
+numbers-le OpenDown = omega arith
 numbers-le Close = omega arith
 numbers-le Receive = omega arith
 numbers-le Read = omega arith
 numbers-le Streams = omega arith
 numbers-le Build = omega arith
+numbers-le BuildDown = omega arith
 numbers-le Sizes = omega arith
 numbers-le Worst = omega arith
+numbers-le Pack = omega arith
+numbers-le Unpack = omega arith
 numbers-le Nothing = omega arith
 numbers-le Unreadable = omega arith
 
-pub few : (v : Verb) {f : Form} → f ≡ formOf v → f .numbers ≤ 5
+pub few : (v : Verb) {f : Form} → f ≡ formOf v → f .numbers ≤ 9
 few v e = rw e (numbers-le v)
 
 -- the test of the number of words
@@ -42,7 +46,7 @@ counted n false l e = ap (λ (k : ℕ). eqb k (n + 1 + 0)) e
 
 -- the call that a line of the right form asks for
 pub asked : (l : List ℕ) (v : Verb) {f : Form} {numbers last : List ℕ}
-    → f ≡ formOf v → wellFormed l f ≡ true → numbers ≡ fields l → last ≡ wordAt l (f .numbers + 1)
+    → f ≡ formOf v → wellFormed l f ≡ true → numbers ≡ fields l f → last ≡ wordAt l (f .numbers + 1)
     → record { verb = v; numbers = numbers; bits = length l - length last } ≡ askedFor l v
 unfolding askedFor
 asked l v e t n w = rw (n, w, ← e, t)
@@ -52,30 +56,30 @@ unfolding askedFor
 not-asked l v e t = rw (← e, t)
 
 -- the words before word `at` said numbers
-pub record Saying (l : List ℕ) (i n at : ℕ) : Type 0 where
+pub record Saying (l : List ℕ) (f : Form) (i n at : ℕ) : Type 0 where
   pub within : at ≤ i + n
-  pub told : saidFrom l at (i + n - at) ≡ saidFrom l i n
+  pub told : saidFrom l f at (i + n - at) ≡ saidFrom l f i n
 
-pub start : (l : List ℕ) (i n : ℕ) → Saying l i n i
-start l i n = record { within = omega arith; told = ap (saidFrom l i) (omega arith) }
+pub start : (l : List ℕ) (f : Form) (i n : ℕ) → Saying l f i n i
+start l f i n = record { within = omega arith; told = ap (saidFrom l f i) (omega arith) }
 
-turn : (l : List ℕ) (i n : ℕ) → 0 < n → saidFrom l i n ≡ (saysNumber l i && saidFrom l (i + 1) (n - 1))
+turn : (l : List ℕ) (f : Form) (i n : ℕ) → 0 < n → saidFrom l f i n ≡ (saysNumber l f i && saidFrom l f (i + 1) (n - 1))
 unfolding saidFrom
-turn l i zero h = absurd (omega arith)
-turn l i (suc n) h =
+turn l f i zero h = absurd (omega arith)
+turn l f i (suc n) h =
     let same : n ≡ suc n - 1 = omega arith in
-    rw (add-one i) (ap (λ (k : ℕ). saysNumber l i && saidFrom l (suc i) k) same)
+    rw (add-one i) (ap (λ (k : ℕ). saysNumber l f i && saidFrom l f (suc i) k) same)
 
-module _ {l : List ℕ} {i n at : ℕ} (r : Saying l i n at) where
-  pub next : at < i + n → saysNumber l at ≡ true → Saying l i n (at + 1)
+module _ {l : List ℕ} {f : Form} {i n at : ℕ} (r : Saying l f i n at) where
+  pub next : at < i + n → saysNumber l f at ≡ true → Saying l f i n (at + 1)
   next h e = record {
     within = omega arith;
-    told = ap (saidFrom l (at + 1)) (omega arith) ∙ sym (simp e at (turn l at (i + n - at) (omega arith))) ∙ r .told;
+    told = ap (saidFrom l f (at + 1)) (omega arith) ∙ sym (simp e at (turn l f at (i + n - at) (omega arith))) ∙ r .told;
   }
 
-  pub unsaid : at < i + n → saysNumber l at ≡ false → false ≡ saidFrom l i n
-  unsaid h e = sym (simp e at (turn l at (i + n - at) (omega arith))) ∙ r .told
+  pub unsaid : at < i + n → saysNumber l f at ≡ false → false ≡ saidFrom l f i n
+  unsaid h e = sym (simp e at (turn l f at (i + n - at) (omega arith))) ∙ r .told
 
-  pub finish : i + n ≤ at → true ≡ saidFrom l i n
+  pub finish : i + n ≤ at → true ≡ saidFrom l f i n
   unfolding saidFrom
-  finish h = let none : 0 ≡ i + n - at = omega arith in ap (saidFrom l at) none ∙ r .told
+  finish h = let none : 0 ≡ i + n - at = omega arith in ap (saidFrom l f at) none ∙ r .told

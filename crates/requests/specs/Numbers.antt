@@ -1,11 +1,13 @@
--- The numbers of a line of the yard's log: decimal, 1 to 6 digits, no leading zero.
+-- The numbers of a line of the yard's log: decimal, 1 to 6 digits, soft bits to 8, no leading zero.
 -- Assumes nothing.
-use mathlib.Core.Bool.{Bool, true, false, _&&_}
+use mathlib.Core.Bool.{Bool, true, false, cond, _&&_}
 use mathlib.Core.List.{List, [], _∷_}
 use Prim.Native.Nat.{ℕ, zero, suc}
+use lib.Dec.{eqb}
 use Rattle.lines.specs.declared.Line.{Line}
 use Rattle.lines.specs.declared.Line.the-variants.{Read, Unreadable}
 use Rattle.lines.specs.Line.{lineOf}
+use Rattle.requests.specs.declared.Form.{Form}
 use Rattle.requests.specs.Words.{wordAt}
 
 unfoldable pub isNumber : Line → Bool
@@ -16,19 +18,33 @@ unfoldable pub valueOf : Line → ℕ
 valueOf (Read n) = n
 valueOf Unreadable = 0
 
+-- how many digits word i may have: soft bits more than the other numbers
+unfoldable pub digitsAt : Form → ℕ → ℕ
+digitsAt f i = cond (eqb i (f .soft)) 8 6
+
 -- word i of a line says a number
-unfoldable pub saysNumber : List ℕ → ℕ → Bool
-saysNumber l i = isNumber (lineOf 6 (wordAt l i))
+unfoldable pub saysNumber : List ℕ → Form → ℕ → Bool
+saysNumber l f i = isNumber (lineOf (digitsAt f i) (wordAt l i))
 
 -- the number that word i says, 0 where it says none
-unfoldable pub numberAt : List ℕ → ℕ → ℕ
-numberAt l i = valueOf (lineOf 6 (wordAt l i))
+unfoldable pub numberAt : List ℕ → Form → ℕ → ℕ
+numberAt l f i = valueOf (lineOf (digitsAt f i) (wordAt l i))
 
 -- n words from word i on say numbers
-unfoldable pub saidFrom : List ℕ → ℕ → ℕ → Bool
-saidFrom l i zero = true
-saidFrom l i (suc n) = saysNumber l i && saidFrom l (suc i) n
+unfoldable pub saidFrom : List ℕ → Form → ℕ → ℕ → Bool
+saidFrom l f i zero = true
+saidFrom l f i (suc n) = saysNumber l f i && saidFrom l f (suc i) n
 
--- what words 1 to 5 say
-unfoldable pub fields : List ℕ → List ℕ
-fields l = numberAt l 1 ∷ numberAt l 2 ∷ numberAt l 3 ∷ numberAt l 4 ∷ numberAt l 5 ∷ []
+-- what words 1 to 9 say
+unfoldable pub fields : List ℕ → Form → List ℕ
+fields l f =
+    numberAt l f 1
+    ∷ numberAt l f 2
+    ∷ numberAt l f 3
+    ∷ numberAt l f 4
+    ∷ numberAt l f 5
+    ∷ numberAt l f 6
+    ∷ numberAt l f 7
+    ∷ numberAt l f 8
+    ∷ numberAt l f 9
+    ∷ []

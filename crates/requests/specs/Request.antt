@@ -23,11 +23,11 @@ isSilent l = eqb (length l) 0 || eqb (getD l 0 0) 35
 
 -- the words of a line are the verb, its numbers and, where it has them, BITS
 unfoldable pub rightWords : List ℕ → Form → Bool
-rightWords l f = eqb (length (wordsOf l)) (f .numbers + 1 + cond (f .bits) 1 0) && saidFrom l 1 (f .numbers)
+rightWords l f = eqb (length (wordsOf l)) (f .numbers + 1 + cond (f .bits) 1 0) && saidFrom l f 1 (f .numbers)
 
 -- a terminal is a 16-bit number
 unfoldable pub rightTerminal : List ℕ → Form → Bool
-rightTerminal l f = not (f .terminal) || leb (numberAt l 2) 65535
+rightTerminal l f = not (f .terminal) || leb (numberAt l f 2) 65535
 
 unfoldable pub rightBits : List ℕ → Form → Bool
 rightBits l f = not (f .bits) || isRun (wordAt l (f .numbers + 1))
@@ -38,13 +38,13 @@ wellFormed l f = f .known && (rightWords l f && (rightTerminal l f && rightBits 
 
 -- a request without numbers or bits
 unfoldable pub bare : Verb → Request
-bare v = record { verb = v; numbers = replicate {A = ℕ} 5 0; bits = 0 }
+bare v = record { verb = v; numbers = replicate {A = ℕ} 9 0; bits = 0 }
 
 -- a call's numbers, and the start of its last word if that is BITS, else the line's end
 unfoldable pub askedFor : List ℕ → Verb → Request
 askedFor l v =
     cond (wellFormed l (formOf v))
-    (record { verb = v; numbers = fields l; bits = length l - length (wordAt l (formOf v .numbers + 1)) })
+    (record { verb = v; numbers = fields l (formOf v); bits = length l - length (wordAt l (formOf v .numbers + 1)) })
     (bare Unreadable)
 
 -- what a line, without its newline, asks for

@@ -8,38 +8,44 @@ ghost use mathlib.Core.Bool.{cond};
 ghost use Prim.Native.Nat.{_≤_};
 ghost use lib.Dec.{leb};
 ghost use lib.ListN.{length};
-ghost use Rattle.requests.specs.Numbers.{saysNumber, saidFrom, numberAt, fields};
+ghost use Rattle.requests.specs.Numbers.{digitsAt, saysNumber, saidFrom, numberAt, fields};
 ghost use Rattle.requests.specs.Request.{isSilent, rightWords, rightTerminal, rightBits, wellFormed, bare, askedFor, requestOf, bitsFrom, bitsOver};
 
 // What a line asks for.
 pub enum Verb {
     New,
     Open,
+    OpenDown,
     Close,
     Receive,
     Read,
     Streams,
     Build,
+    BuildDown,
     Sizes,
     Worst,
+    Pack,
+    Unpack,
     // an empty line or a comment
     Nothing,
     // a line that can't be read
     Unreadable,
 }
 
-// What follows a verb: so many numbers, the second of them a terminal or not, and then BITS or not.
+// What follows a verb: so many numbers, the second of them a terminal or not, one of them soft bits (its word, 0 for none), and then
+// BITS or not.
 pub struct Form {
     pub known: bool,
     pub numbers: usize,
     pub terminal: bool,
+    pub soft: usize,
     pub bits: bool,
 }
 
-// A line as a call: the verb, what its words 1 to 5 say as numbers (0 where one says none), and where its BITS start.
+// A line as a call: the verb, what its words 1 to 9 say as numbers (0 where one says none), and where its BITS start.
 pub struct Request {
     pub verb: Verb,
-    pub numbers: [usize; 5],
+    pub numbers: [usize; 9],
     pub bits: usize,
 }
 
@@ -48,6 +54,9 @@ const LONGEST: usize = 200000;
 
 // The digits that a number may have.
 const MOST_DIGITS: usize = 6;
+
+// The digits that soft bits may have.
+const SOFT_DIGITS: usize = 8;
 
 const MOST_TERMINAL: usize = 65535;
 
@@ -78,7 +87,7 @@ fn asked_for(line: &[u8], verb: Verb) -> Request
     let bits = line.len() - last.len();
     Request {
         verb,
-        numbers: fields(line),
+        numbers: fields(line, form),
         bits,
     }
 }
@@ -99,14 +108,14 @@ fn bare(verb: Verb) -> Request
 {
     Request {
         verb,
-        numbers: [0; 5],
+        numbers: [0; 9],
         bits: 0,
     }
 }
 
 // Whether a line has the words that its verb asks for.
 fn well_formed(line: &[u8], form: Form) -> bool
-    requires { ⌜ form .numbers ≤ 5 ⌝ }
+    requires { ⌜ form .numbers ≤ 9 ⌝ }
     ensures { λ r. ⌜ r ≡ wellFormed (now (line .entry)) form ⌝ }
 {
     form.known
@@ -114,35 +123,35 @@ fn well_formed(line: &[u8], form: Form) -> bool
 }
 
 fn right_words(line: &[u8], form: Form) -> bool
-    requires { ⌜ form .numbers ≤ 5 ⌝ }
+    requires { ⌜ form .numbers ≤ 9 ⌝ }
     ensures { λ r. ⌜ r ≡ rightWords (now (line .entry)) form ⌝ }
 {
     words::word_count(line) == form.numbers + 1 + form.bits as usize
-        && said_from(line, 1, form.numbers)
+        && said_from(line, form, 1, form.numbers)
 }
 
 fn right_terminal(line: &[u8], form: Form) -> bool
     ensures { λ r. ⌜ r ≡ rightTerminal (now (line .entry)) form ⌝ }
 {
-    !form.terminal || number_at(line, 2) <= MOST_TERMINAL
+    !form.terminal || number_at(line, form, 2) <= MOST_TERMINAL
 }
 
 fn right_bits(line: &[u8], form: Form) -> bool
-    requires { ⌜ form .numbers ≤ 5 ⌝ }
+    requires { ⌜ form .numbers ≤ 9 ⌝ }
     ensures { λ r. ⌜ r ≡ rightBits (now (line .entry)) form ⌝ }
 {
     !form.bits || words::is_run(words::word(line, form.numbers + 1))
 }
 
 // Whether n words from word i on say numbers.
-fn said_from(line: &[u8], i: usize, n: usize) -> bool
-    requires { ⌜ (i ≤ 5) × (n ≤ 5) ⌝ }
-    ensures { λ r. ⌜ r ≡ saidFrom (now (line .entry)) i n ⌝ }
+fn said_from(line: &[u8], form: Form, i: usize, n: usize) -> bool
+    requires { ⌜ (i ≤ 9) × (n ≤ 9) ⌝ }
+    ensures { λ r. ⌜ r ≡ saidFrom (now (line .entry)) form i n ⌝ }
 {
     let mut at = i;
     let end = i + n;
     while at < end {
-        if !says_number(line, at) {
+        if !says_number(line, form, at) {
             return false;
         }
         at += 1;
@@ -150,36 +159,51 @@ fn said_from(line: &[u8], i: usize, n: usize) -> bool
     true
 }
 
-// Whether word i says a number.
-fn says_number(line: &[u8], i: usize) -> bool
-    ensures { λ r. ⌜ r ≡ saysNumber (now (line .entry)) i ⌝ }
+// How many digits word i may have.
+fn digits_at(form: Form, i: usize) -> usize
+    ensures { λ r. ⌜ r ≡ digitsAt form i ⌝ }
 {
-    match lines::read_number(words::word(line, i), MOST_DIGITS) {
+    if i == form.soft {
+        SOFT_DIGITS
+    } else {
+        MOST_DIGITS
+    }
+}
+
+// Whether word i says a number.
+fn says_number(line: &[u8], form: Form, i: usize) -> bool
+    ensures { λ r. ⌜ r ≡ saysNumber (now (line .entry)) form i ⌝ }
+{
+    match lines::read_number(words::word(line, i), digits_at(form, i)) {
         Line::Read(_) => true,
         Line::Unreadable => false,
     }
 }
 
 // The number that word i says, 0 where it says none.
-fn number_at(line: &[u8], i: usize) -> usize
-    ensures { λ r. ⌜ r ≡ numberAt (now (line .entry)) i ⌝ }
+fn number_at(line: &[u8], form: Form, i: usize) -> usize
+    ensures { λ r. ⌜ r ≡ numberAt (now (line .entry)) form i ⌝ }
 {
-    match lines::read_number(words::word(line, i), MOST_DIGITS) {
+    match lines::read_number(words::word(line, i), digits_at(form, i)) {
         Line::Read(n) => n,
         Line::Unreadable => 0,
     }
 }
 
-// What words 1 to 5 say.
-fn fields(line: &[u8]) -> [usize; 5]
-    ensures { λ r. ⌜ r ≡ fields (now (line .entry)) ⌝ }
+// What words 1 to 9 say.
+fn fields(line: &[u8], form: Form) -> [usize; 9]
+    ensures { λ r. ⌜ r ≡ fields (now (line .entry)) form ⌝ }
 {
     [
-        number_at(line, 1),
-        number_at(line, 2),
-        number_at(line, 3),
-        number_at(line, 4),
-        number_at(line, 5),
+        number_at(line, form, 1),
+        number_at(line, form, 2),
+        number_at(line, form, 3),
+        number_at(line, form, 4),
+        number_at(line, form, 5),
+        number_at(line, form, 6),
+        number_at(line, form, 7),
+        number_at(line, form, 8),
+        number_at(line, form, 9),
     ]
 }
 

@@ -1,3 +1,6 @@
 pub mod Wrote
 pub mod Given
 pub mod Steps
+pub mod Changed
+pub mod ChangeLine
+pub mod Lines

@@ -1,4 +1,4 @@
--- Laws of a line's step by its verb (`stepOf`): from what the verb's own call gave to what the line's definition says.
+-- Laws of a call's step by its verb (`callStep`): from what the verb's own call gave to what the line's definition says.
 -- Assumes nothing.
 use mathlib.Core.Path.{_≡_, refl, sym, _∙_, ap}
 use mathlib.Core.Bool.{Bool, true, false, cond}
@@ -13,6 +13,7 @@ use Rattle.slots.specs.Answers.{unlessRefused}
 use Rattle.slots.specs.Reading.{lacking}
 use Rattle.slots.specs.Calls.{sizeAtHead, receiveNumber, receiveStore, receiveOutcome}
 use native.Mathlib.Omega.{arith}
+use Rattle.packing.specs.Store.{placesIn}
 use Rattle.lines.specs.Put.{putOver, putAt, endAt}
 use Rattle.lines.proofs.Putting.{put-fits, end-fits}
 use Rattle.requests.specs.declared.Verb.{Verb}
@@ -20,7 +21,7 @@ use Rattle.requests.specs.declared.Request.{Request}
 use Rattle.requests.specs.Request.{requestOf, bitsFrom}
 use Rattle.answers.specs.Rows.{answerRow}
 use Rattle.yard.specs.declared.Step.{Step}
-use Rattle.yard.specs.Step.{rowBy, stateBy, storeBy, bitsOf, rowOfLine, stepOf, storeAfter, outAfter}
+use Rattle.yard.specs.Step.{rowBy, stateBy, storeBy, bitsOf, callRow, callState, callStep, callStore}
 
 -- nothing is put
 pub end-nothing : (out : List ℕ) → 0 ≡ endAt 0 [] out
@@ -40,48 +41,65 @@ received-state state slot terminal Q N v bits store = go (eqb (receiveNumber sta
     go true = refl
     go false = refl
 
+-- steps of the same state, form and row
+pub same-step : {s s′ : State} {f f′ : Bool} {w w′ : ℕ} → s ≡ s′ → f ≡ f′ → w ≡ w′
+    → _≡_ {A = Step} (record { state = s; four = f; written = w }) (record { state = s′; four = f′; written = w′ })
+same-step a b c = rw (a, b, c)
+
 -- a line whose request has verb v
-module _ (state : State) (store line out : List ℕ) (request : Request) (v : Verb) (read : request ≡ requestOf line) (is : request .verb ≡ v) where
+module _ (state : State) (four : Bool) (store line out : List ℕ) (request : Request) (v : Verb) (read : request ≡ requestOf line) (is : request .verb ≡ v) where
   verb-is : requestOf line .verb ≡ v
   verb-is = ap (λ (r : Request). r .verb) (sym read) ∙ is
 
   -- what the line's call gave, as its verb's definitions say it
   pub by-verb : (step : Step) (store′ out′ : List ℕ)
-      → step .state ≡ stateBy v (request .numbers) state store
-      → step .written ≡ endAt 0 (rowBy v (request .numbers) (bitsFrom line (request .bits)) state store) out
-      → store′ ≡ storeBy v (request .numbers) (bitsFrom line (request .bits)) state store
-      → out′ ≡ putAt 0 (rowBy v (request .numbers) (bitsFrom line (request .bits)) state store) out
-      → (step ≡ stepOf state store line out) × ((store′ ≡ storeAfter state store line) × (out′ ≡ outAfter state store line out))
-  unfolding stepOf storeAfter outAfter rowOfLine bitsOf
-  by-verb step store′ out′ s w t o = rw (verb-is, ← read) (step-is, (t, o))
+      → step .state ≡ stateBy v (request .numbers) state (placesIn four store)
+      → step .four ≡ four
+      → step .written ≡ endAt 0 (rowBy v (request .numbers) (bitsFrom line (request .bits)) state (placesIn four store)) out
+      → store′ ≡ storeBy v (request .numbers) (bitsFrom line (request .bits)) state four store
+      → out′ ≡ putAt 0 (rowBy v (request .numbers) (bitsFrom line (request .bits)) state (placesIn four store)) out
+      → (step ≡ callStep state four store line out) × ((store′ ≡ callStore state four store line) × (out′ ≡ putAt 0 (callRow state four store line) out))
+  unfolding callStep callStore callRow callState bitsOf
+  by-verb step store′ out′ s f w t o = rw (verb-is, ← read) (step-is, (t, o))
     where
-      step-is : step ≡ record { state = stateBy v (request .numbers) state store; written = endAt 0 (rowBy v (request .numbers) (bitsFrom line (request .bits)) state store) out }
-      step-is = simp (← s, ← w)
+      step-is : step ≡ record { state = stateBy v (request .numbers) state (placesIn four store); four = four; written = endAt 0 (rowBy v (request .numbers) (bitsFrom line (request .bits)) state (placesIn four store)) out }
+      step-is = same-step s f w
 
-  -- the line's call gave the outcome X, and its row was put
-  pub by-outcome : (X : Outcome) (step : Step) (store′ out′ : List ℕ) {o : Outcome} → o ≡ X
-      → ((step .state ≡ o .state) × (step .written ≡ endAt 0 (answerRow (o .answer)) out)) × (out′ ≡ putAt 0 (answerRow (o .answer)) out)
-      → X .state ≡ stateBy v (request .numbers) state store
-      → answerRow (X .answer) ≡ rowBy v (request .numbers) (bitsFrom line (request .bits)) state store
-      → store′ ≡ storeBy v (request .numbers) (bitsFrom line (request .bits)) state store
-      → (step ≡ stepOf state store line out) × ((store′ ≡ storeAfter state store line) × (out′ ≡ outAfter state store line out))
-  by-outcome X step store′ out′ e told s r t =
+  -- the line's call gave the outcome X, and the row that tells it was put
+  pub by-told : (row : Outcome → List ℕ) (X : Outcome) (step : Step) (store′ out′ : List ℕ) {o : Outcome} → o ≡ X
+      → ((step .state ≡ o .state) × (step .four ≡ four) × (step .written ≡ endAt 0 (row o) out)) × (out′ ≡ putAt 0 (row o) out)
+      → X .state ≡ stateBy v (request .numbers) state (placesIn four store)
+      → row X ≡ rowBy v (request .numbers) (bitsFrom line (request .bits)) state (placesIn four store)
+      → store′ ≡ storeBy v (request .numbers) (bitsFrom line (request .bits)) state four store
+      → (step ≡ callStep state four store line out) × ((store′ ≡ callStore state four store line) × (out′ ≡ putAt 0 (callRow state four store line) out))
+  by-told row X step store′ out′ e told s r t =
       by-verb step store′ out′
       (told .0 .0 ∙ ap (λ (x : Outcome). x .state) e ∙ s)
-      (told .0 .1 ∙ ap (λ (x : Outcome). endAt 0 (answerRow (x .answer)) out) e ∙ ap (λ (w : List ℕ). endAt 0 w out) r)
+      (told .0 .1)
+      (told .0 .2 ∙ ap (λ (x : Outcome). endAt 0 (row x) out) e ∙ ap (λ (w : List ℕ). endAt 0 w out) r)
       t
-      (told .1 ∙ ap (λ (x : Outcome). putAt 0 (answerRow (x .answer)) out) e ∙ ap (λ (w : List ℕ). putAt 0 w out) r)
+      (told .1 ∙ ap (λ (x : Outcome). putAt 0 (row x) out) e ∙ ap (λ (w : List ℕ). putAt 0 w out) r)
+
+  -- by its answer
+  pub by-outcome : (X : Outcome) (step : Step) (store′ out′ : List ℕ) {o : Outcome} → o ≡ X
+      → ((step .state ≡ o .state) × (step .four ≡ four) × (step .written ≡ endAt 0 (answerRow (o .answer)) out)) × (out′ ≡ putAt 0 (answerRow (o .answer)) out)
+      → X .state ≡ stateBy v (request .numbers) state (placesIn four store)
+      → answerRow (X .answer) ≡ rowBy v (request .numbers) (bitsFrom line (request .bits)) state (placesIn four store)
+      → store′ ≡ storeBy v (request .numbers) (bitsFrom line (request .bits)) state four store
+      → (step ≡ callStep state four store line out) × ((store′ ≡ callStore state four store line) × (out′ ≡ putAt 0 (callRow state four store line) out))
+  by-outcome X step store′ out′ e told s r t = by-told (λ (o : Outcome). answerRow (o .answer)) X step store′ out′ e told s r t
 
   -- the state stays, and this row was put
-  pub by-row : (row : List ℕ) (step : Step) (store′ out′ : List ℕ) {written : ℕ} → (step .state ≡ state) × (step .written ≡ written)
+  pub by-row : (row : List ℕ) (step : Step) (store′ out′ : List ℕ) {written : ℕ} → (step .state ≡ state) × (step .four ≡ four) × (step .written ≡ written)
       → (written ≡ endAt 0 row out) × (out′ ≡ putAt 0 row out)
-      → state ≡ stateBy v (request .numbers) state store
-      → row ≡ rowBy v (request .numbers) (bitsFrom line (request .bits)) state store
-      → store′ ≡ storeBy v (request .numbers) (bitsFrom line (request .bits)) state store
-      → (step ≡ stepOf state store line out) × ((store′ ≡ storeAfter state store line) × (out′ ≡ outAfter state store line out))
+      → state ≡ stateBy v (request .numbers) state (placesIn four store)
+      → row ≡ rowBy v (request .numbers) (bitsFrom line (request .bits)) state (placesIn four store)
+      → store′ ≡ storeBy v (request .numbers) (bitsFrom line (request .bits)) state four store
+      → (step ≡ callStep state four store line out) × ((store′ ≡ callStore state four store line) × (out′ ≡ putAt 0 (callRow state four store line) out))
   by-row row step store′ out′ told put s r t =
       by-verb step store′ out′
       (told .0 ∙ s)
-      (told .1 ∙ put .0 ∙ ap (λ (w : List ℕ). endAt 0 w out) r)
+      (told .1)
+      (told .2 ∙ put .0 ∙ ap (λ (w : List ℕ). endAt 0 w out) r)
       t
       (put .1 ∙ ap (λ (w : List ℕ). putAt 0 w out) r)

@@ -21,15 +21,19 @@ use Rattle.slots.specs.declared.Outcome.{Outcome}
 use Rattle.slots.specs.declared.Answer.the-variants.{Done, Refused}
 use Rattle.slots.specs.Answers.{isDone, unlessRefused}
 use Rattle.laws.proofs.Tab.{length-tab}
-use Rattle.codeword.specs.Codeword.{codeword}
+use Rattle.segmentation.specs.Segmentation.{blocks}
+use Rattle.rate_matching.specs.SoftBuffer.{softShare}
+use Rattle.codeword.specs.Codeword.{codeword, codewordIn}
 use Rattle.codeword.specs.Build.{buildNumber, buildOutput}
+use Rattle.codeword.specs.Downlink.{buildDownNumber, buildDownOutput}
 use Rattle.codeword.proofs.Numbers.{accepted as accepted-build}
+use Rattle.codeword.proofs.SoftShares.{accepted-down}
 use Rattle.slots.specs.Reading.{heardBlock, streamByte, threeStreams}
 use Rattle.slots.specs.Calls.{sizeAtHead, readNumber, readOutcome, released, readOutput, streamsNumber, streamsOutcome, streamsOutput}
 use Rattle.slots.proofs.Acceptance.{reads, streams}
 use Rattle.answers.specs.Rows.{answerRow, refusalRow, runRow, runsRow}
 use Rattle.yard.specs.Rooms.{readRoom, streamsRoom, buildRoom}
-use Rattle.yard.specs.Rows.{readRow, streamLength, streamRun, streamsRow, buildRow}
+use Rattle.yard.specs.Rows.{readRow, streamLength, streamRun, streamsRow, buildRow, buildDownRow}
 
 -- Read answers Done exactly where the block is released
 pub released-is : (state : State) (store : List ℕ) (slot terminal size : ℕ)
@@ -210,3 +214,21 @@ build-row block Q N v G out room e z wrote kept =
     let taken = sym e ∙ z in
     let run = build-run block Q N v G out taken wrote kept in
     (run .0, rw (run .1, room, eq-eqb _ _ taken))
+
+-- Build for a downlink
+module _ (block : List ℕ) (release kMIMO processes Nsoft layers Q N v G : ℕ) (out : List ℕ) {number : ℕ} (room : buildRoom ≡ length out)
+    (e : number ≡ buildDownNumber block release kMIMO processes Nsoft layers Q N v G (length out)) where
+  -- a refused one's row
+  pub down-refused : (number ≡ 0 → ⊥) → refusalRow number ≡ buildDownRow block release kMIMO processes Nsoft layers Q N v G
+  unfolding buildDownRow
+  down-refused h = rw (room, ← e, ne-eqb _ 0 h)
+
+  -- a codeword's row
+  pub down-row : {out′ : List ℕ} → number ≡ 0 → out′ ≡ buildDownOutput block release kMIMO processes Nsoft layers Q N v G out → length out′ ≡ length out
+      → (G ≤ length out) × (runRow (take G out′) ≡ buildDownRow block release kMIMO processes Nsoft layers Q N v G)
+  unfolding buildDownRow buildDownOutput
+  down-row z wrote kept =
+      let taken = sym e ∙ z in
+      let fits = accepted-down block release kMIMO processes Nsoft layers Q N v G (length out) taken .1 in
+      let run = front (codewordIn (softShare (blocks (length block + 24)) release kMIMO processes Nsoft layers) block Q N v G) out G fits (rw (eq-eqb _ _ taken) at wrote) kept in
+      (fits, rw (run, room, eq-eqb _ _ taken))

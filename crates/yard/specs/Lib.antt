@@ -1,3 +1,4 @@
 pub mod Rooms
 pub mod Rows
+pub mod Change
 pub mod Step

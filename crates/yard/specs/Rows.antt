@@ -1,19 +1,28 @@
--- What a replayed log answers to a call that gives bits: Read, Streams and Build.
+-- What a replayed log answers to a call that gives bits: Read, Streams and Build; and to Open for a downlink, which gives a share.
 -- Assumes nothing.
 use mathlib.Core.Bool.{cond}
-use mathlib.Core.List.{List}
+use mathlib.Core.List.{List, [], _∷_}
 use Prim.Native.Nat.{ℕ, _+_}
 use lib.Dec.{eqb}
 use lib.ListN.{length}
 use Rattle.laws.specs.Lists.{tab}
-use Rattle.segmentation.specs.Segmentation.{sizeOf}
-use Rattle.codeword.specs.Codeword.{codeword}
+use Rattle.segmentation.specs.Segmentation.{blocks, sizeOf}
+use Rattle.rate_matching.specs.SoftBuffer.{softShare}
+use Rattle.codeword.specs.Codeword.{codeword, codewordIn}
 use Rattle.codeword.specs.Build.{buildNumber}
+use Rattle.codeword.specs.Downlink.{buildDownNumber}
 use Rattle.slots.specs.declared.State.{State}
+use Rattle.slots.specs.declared.Outcome.{Outcome}
+use Rattle.slots.specs.Answers.{isDone}
 use Rattle.slots.specs.Reading.{heardBlock, streamByte}
-use Rattle.slots.specs.Calls.{sizeAtHead, released, readOutcome, streamsNumber, streamsOutcome}
-use Rattle.answers.specs.Rows.{answerRow, refusalRow, runRow, runsRow}
+use Rattle.slots.specs.Calls.{sizeAtHead, shareAtHead, released, readOutcome, streamsNumber, streamsOutcome}
+use Rattle.answers.specs.Rows.{acceptedRow, answerRow, refusalRow, runRow, runsRow}
 use Rattle.yard.specs.Rooms.{readRoom, streamsRoom, buildRoom}
+
+-- what Open for a downlink tells: the share that the head now holds, or the refusal
+unfoldable pub shareRow : Outcome → ℕ → List ℕ
+shareRow o slot =
+    cond (isDone (o .answer)) (acceptedRow (shareAtHead (o .state) slot ∷ [])) (answerRow (o .answer))
 
 -- the block where it is released, else the refusal
 unfoldable pub readRow : State → List ℕ → ℕ → ℕ → List ℕ
@@ -44,3 +53,10 @@ buildRow block Q N v G =
     cond (eqb (buildNumber block Q N v G buildRoom) 0)
     (runRow (codeword block Q N v G))
     (refusalRow (buildNumber block Q N v G buildRoom))
+
+-- the codeword for a downlink, or the refusal
+unfoldable pub buildDownRow : List ℕ → ℕ → ℕ → ℕ → ℕ → ℕ → ℕ → ℕ → ℕ → ℕ → List ℕ
+buildDownRow block release kMIMO processes Nsoft layers Q N v G =
+    cond (eqb (buildDownNumber block release kMIMO processes Nsoft layers Q N v G buildRoom) 0)
+    (runRow (codewordIn (softShare (blocks (length block + 24)) release kMIMO processes Nsoft layers) block Q N v G))
+    (refusalRow (buildDownNumber block release kMIMO processes Nsoft layers Q N v G buildRoom))

@@ -1,4 +1,7 @@
-// A line of the yard's log made one call of 01, and its answer a row.
+// A line of the yard's log made one call of 01, or a change of form, and its answer a row.
+mod change;
+mod rooms;
+
 use requests::Verb;
 use slots::Answer;
 use slots::Outcome;
@@ -7,74 +10,168 @@ use slots::states;
 ghost use mathlib.Core.Path.{_≡_};
 ghost use Prim.Native.Nat.{_+_, _-_, _*_, _≤_};
 ghost use lib.ListN.{length, take, drop};
-ghost use Rattle.slots.specs.Answers.{isDone};
-ghost use Rattle.slots.specs.Calls.{receiveOutcome, receiveStore};
+ghost use Rattle.slots.specs.Calls.{openDownOutcome, openDownStore, receiveOutcome, receiveStore};
+ghost use Rattle.packing.specs.Store.{placesIn, inForm};
 ghost use Rattle.lines.specs.Put.{putAt, endAt};
 ghost use Rattle.requests.specs.Request.{bitsFrom, longestLine};
 ghost use Rattle.answers.specs.Rows.{answerRow, runsRow};
 ghost use Rattle.answers.specs.SizesRow.{sizesRow};
-ghost use Rattle.yard.specs.Rows.{readRow, streamsRow, buildRow};
-ghost use Rattle.yard.specs.Step.{stepOf, storeAfter, outAfter, at};
+ghost use Rattle.yard.specs.Rows.{shareRow, readRow, streamsRow, buildRow, buildDownRow};
+ghost use Rattle.yard.specs.Change.{changeRow, plainChanged, packedChanged};
+ghost use Rattle.yard.specs.Step.{callRow, callStep, callStore, changeStep, stepOf, plainAfter, packedAfter, outAfter, at};
 
-// The state to hand to the next line, and the length of the row that answers this one.
+// The state and the form of the rooms to hand to the next line, and the length of the row that answers this one.
 pub struct Step {
     pub state: State,
+    pub four: bool,
     pub written: usize,
 }
 
 // The number of a line that can't be read.
 const UNREADABLE: usize = 15;
 
-// Makes the call that a line, without its newline, asks for, and puts the row of its answer at the start of out, where it fits.
-pub fn replay_line(state: State, line: &[u8], store: &mut [u8], out: &mut [u8]) -> Step
-    ensures { λ r. ⌜ r ≡ stepOf state (now (store .entry)) (now (line .entry)) (now (out .entry)) ⌝ }
-    ensures { λ r. ⌜ now (store .exit) ≡ storeAfter state (now (store .entry)) (now (line .entry)) ⌝ }
-    ensures { λ r. ⌜ now (out .exit) ≡ outAfter state (now (store .entry)) (now (line .entry)) (now (out .entry)) ⌝ }
+// Makes the call that a line, without its newline, asks for, on the rooms in the plain store or, `four` places a byte, in the packed one, or
+// changes their form; and puts the row of its answer at the start of out, where it fits.
+pub fn replay_line(
+    state: State,
+    four: bool,
+    line: &[u8],
+    plain: &mut [u8],
+    packed: &mut [u8],
+    out: &mut [u8],
+) -> Step
+    ensures { λ r. ⌜ r ≡ stepOf state four (now (plain .entry)) (now (packed .entry)) (now (line .entry)) (now (out .entry)) ⌝ }
+    ensures { λ r. ⌜ now (plain .exit) ≡ plainAfter state four (now (plain .entry)) (now (packed .entry)) (now (line .entry)) ⌝ }
+    ensures { λ r. ⌜ now (packed .exit) ≡ packedAfter state four (now (plain .entry)) (now (packed .entry)) (now (line .entry)) ⌝ }
+    ensures { λ r. ⌜ now (out .exit) ≡ outAfter state four (now (plain .entry)) (now (packed .entry)) (now (line .entry)) (now (out .entry)) ⌝ }
+{
+    let request = requests::read_request(line);
+    let verb = request.verb;
+    if change::changes(verb) {
+        return change_line(state, four, change::packs(verb), plain, packed, out);
+    }
+    if four {
+        return call_line(state, true, line, packed, out);
+    }
+    call_line(state, false, line, plain, out)
+}
+
+// Changes the form of every room.
+fn change_line(
+    state: State,
+    four: bool,
+    to: bool,
+    plain: &mut [u8],
+    packed: &mut [u8],
+    out: &mut [u8],
+) -> Step
+    ensures { λ r. ⌜ r ≡ changeStep state four to (length (now (plain .entry))) (length (now (packed .entry))) (now (out .entry)) ⌝ }
+    ensures { λ r. ⌜ now (plain .exit) ≡ plainChanged state four to (now (plain .entry)) (now (packed .entry)) ⌝ }
+    ensures { λ r. ⌜ now (packed .exit) ≡ packedChanged state four to (now (plain .entry)) (now (packed .entry)) ⌝ }
+    ensures { λ r. ⌜ now (out .exit) ≡ putAt 0 (changeRow state (length (now (plain .entry))) (length (now (packed .entry)))) (now (out .entry)) ⌝ }
+{
+    let number = change::form_number(state, plain.len(), packed.len());
+    if number != 0 {
+        let refused = answers::put_refusal(number as usize, out);
+        return unchanged(state, four, refused);
+    }
+    change::move_rooms(state, four, to, plain, packed);
+    let written = answers::put_answer(Answer::Done, out);
+    unchanged(state, to, written)
+}
+
+// Makes a call on the store that has the rooms, in its form.
+fn call_line(state: State, four: bool, line: &[u8], store: &mut [u8], out: &mut [u8]) -> Step
+    ensures { λ r. ⌜ r ≡ callStep state four (now (store .entry)) (now (line .entry)) (now (out .entry)) ⌝ }
+    ensures { λ r. ⌜ now (store .exit) ≡ callStore state four (now (store .entry)) (now (line .entry)) ⌝ }
+    ensures { λ r. ⌜ now (out .exit) ≡ putAt 0 (callRow state four (now (store .entry)) (now (line .entry))) (now (out .entry)) ⌝ }
 {
     let request = requests::read_request(line);
     let verb = request.verb;
     let n = request.numbers;
     let bits = request.bits;
     match verb {
-        Verb::New => told(slots::new(n[0], n[1]), out),
-        Verb::Open => told(slots::open(state, n[0], n[1] as u16, n[2], store), out),
-        Verb::Close => told(slots::close(state, n[0], n[1] as u16), out),
-        Verb::Receive => told(received(state, n, line, bits, store), out),
-        Verb::Read => unchanged(state, put_read(state, n[0], n[1] as u16, store, out)),
+        Verb::New => told(slots::new(n[0], n[1]), four, out),
+        Verb::Open => told(
+            rooms::open_in(state, four, n[0], n[1] as u16, n[2], store),
+            four,
+            out,
+        ),
+        Verb::OpenDown => told_share(opened_down(state, four, n, store), n[0], four, out),
+        Verb::Close => told(slots::close(state, n[0], n[1] as u16), four, out),
+        Verb::Receive => told(received(state, four, n, line, bits, store), four, out),
+        Verb::Read => unchanged(
+            state,
+            four,
+            put_read(state, four, n[0], n[1] as u16, store, out),
+        ),
         Verb::Streams => unchanged(
             state,
-            put_streams(state, n[0], n[1] as u16, n[2], store, out),
+            four,
+            put_streams(state, four, n[0], n[1] as u16, n[2], store, out),
         ),
-        Verb::Build => unchanged(state, put_build(n, line, bits, out)),
+        Verb::Build => unchanged(state, four, put_build(n, line, bits, out)),
+        Verb::BuildDown => unchanged(state, four, put_build_down(n, line, bits, out)),
         Verb::Sizes => unchanged(
             state,
+            four,
             answers::put_sizes(segmentation::sizes_for(n[0]), out),
         ),
         Verb::Worst => unchanged(
             state,
+            four,
             answers::put_worst(planning::worst_for(n[0], n[1], n[2]), out),
         ),
-        Verb::Nothing => unchanged(state, 0),
-        Verb::Unreadable => unchanged(state, answers::put_refusal(UNREADABLE, out)),
+        Verb::Pack => unchanged(state, four, 0),
+        Verb::Unpack => unchanged(state, four, 0),
+        Verb::Nothing => unchanged(state, four, 0),
+        Verb::Unreadable => unchanged(state, four, answers::put_refusal(UNREADABLE, out)),
     }
 }
 
-// A step after which the state is as it was.
-fn unchanged(state: State, written: usize) -> Step
-    ensures { λ r. ⌜ (r .state ≡ state) × (r .written ≡ written) ⌝ }
+// A step of which these are known.
+fn unchanged(state: State, four: bool, written: usize) -> Step
+    ensures { λ r. ⌜ (r .state ≡ state) × (r .four ≡ four) × (r .written ≡ written) ⌝ }
 {
-    Step { state, written }
+    Step {
+        state,
+        four,
+        written,
+    }
 }
 
 // The step of a call that gives no bits.
-fn told(outcome: Outcome, out: &mut [u8]) -> Step
-    ensures { λ r. ⌜ (r .state ≡ outcome .state) × (r .written ≡ endAt 0 (answerRow (outcome .answer)) (now (out .entry))) ⌝ }
+fn told(outcome: Outcome, four: bool, out: &mut [u8]) -> Step
+    ensures { λ r. ⌜ (r .state ≡ outcome .state) × (r .four ≡ four) × (r .written ≡ endAt 0 (answerRow (outcome .answer)) (now (out .entry))) ⌝ }
     ensures { λ r. ⌜ now (out .exit) ≡ putAt 0 (answerRow (outcome .answer)) (now (out .entry)) ⌝ }
 {
     let answer = outcome.answer;
     let state = outcome.state;
     let written = answers::put_answer(answer, out);
-    Step { state, written }
+    Step {
+        state,
+        four,
+        written,
+    }
+}
+
+// The step of an Open for a downlink: an accepted one tells the share that the slot's head now holds.
+fn told_share(outcome: Outcome, slot: usize, four: bool, out: &mut [u8]) -> Step
+    ensures { λ r. ⌜ (r .state ≡ outcome .state) × (r .four ≡ four) × (r .written ≡ endAt 0 (shareRow outcome slot) (now (out .entry))) ⌝ }
+    ensures { λ r. ⌜ now (out .exit) ≡ putAt 0 (shareRow outcome slot) (now (out .entry)) ⌝ }
+{
+    let answer = outcome.answer;
+    let state = outcome.state;
+    if !slots::is_done(answer) {
+        return told(outcome, four, out);
+    }
+    let head = states::head_at(state, slot);
+    let written = answers::put_number(head.share, out);
+    Step {
+        state,
+        four,
+        written,
+    }
 }
 
 // Room for the BITS of the longest line.
@@ -105,17 +202,47 @@ fn code_room() -> [u8; 172800]
     [0; 172800]
 }
 
+// Open for a downlink.
+fn opened_down(state: State, four: bool, n: [usize; 9], store: &mut [u8]) -> Outcome
+    requires { ⌜ at n 1 ≤ 65535 ⌝ }
+    ensures { λ r. ⌜ r ≡ openDownOutcome state (length (placesIn four (now (store .entry)))) (at n 0) (at n 1) (at n 2) (at n 3) (at n 4) (at n 5) (at n 6) (at n 7) ⌝ }
+    ensures { λ r. ⌜ now (store .exit) ≡ inForm four (openDownStore state (at n 0) (at n 2) (at n 3) (at n 4) (at n 5) (at n 6) (at n 7) (placesIn four (now (store .entry)))) ⌝ }
+{
+    let terminal = n[1] as u16;
+    rooms::open_down_in(
+        state,
+        four,
+        n[0],
+        terminal,
+        n[2],
+        n[3],
+        n[4],
+        n[5],
+        n[6],
+        n[7],
+        store,
+    )
+}
+
 // Receive with the line's BITS.
-fn received(state: State, n: [usize; 5], line: &[u8], from: usize, store: &mut [u8]) -> Outcome
+fn received(
+    state: State,
+    four: bool,
+    n: [usize; 9],
+    line: &[u8],
+    from: usize,
+    store: &mut [u8],
+) -> Outcome
     requires { ⌜ (length (now line) ≤ longestLine) × (at n 1 ≤ 65535) ⌝ }
-    ensures { λ r. ⌜ r ≡ receiveOutcome state (at n 0) (at n 1) (at n 2) (at n 3) (at n 4) (bitsFrom (now (line .entry)) from) (now (store .entry)) ⌝ }
-    ensures { λ r. ⌜ now (store .exit) ≡ receiveStore state (at n 0) (at n 1) (at n 2) (at n 3) (at n 4) (bitsFrom (now (line .entry)) from) (now (store .entry)) ⌝ }
+    ensures { λ r. ⌜ r ≡ receiveOutcome state (at n 0) (at n 1) (at n 2) (at n 3) (at n 4) (bitsFrom (now (line .entry)) from) (placesIn four (now (store .entry))) ⌝ }
+    ensures { λ r. ⌜ now (store .exit) ≡ inForm four (receiveStore state (at n 0) (at n 1) (at n 2) (at n 3) (at n 4) (bitsFrom (now (line .entry)) from) (placesIn four (now (store .entry)))) ⌝ }
 {
     let mut given = bits_room();
     let count = requests::read_bits(line, from, &mut given);
     let terminal = n[1] as u16;
-    reception::receive(
+    rooms::receive_in(
         state,
+        four,
         n[0],
         terminal,
         n[2],
@@ -126,27 +253,22 @@ fn received(state: State, n: [usize; 5], line: &[u8], from: usize, store: &mut [
     )
 }
 
-// An accepted call that has nothing to tell but what it wrote.
-fn is_done(answer: Answer) -> bool
-    ensures { λ r. ⌜ r ≡ isDone answer ⌝ }
-{
-    match answer {
-        Answer::Done => true,
-        Answer::StillLacking(_) => false,
-        Answer::Refused(_) => false,
-        Answer::RefusedWith(_, _) => false,
-    }
-}
-
 // The row of Read.
-fn put_read(state: State, slot: usize, terminal: u16, store: &[u8], out: &mut [u8]) -> usize
-    ensures { λ r. ⌜ r ≡ endAt 0 (readRow state (now (store .entry)) slot terminal) (now (out .entry)) ⌝ }
-    ensures { λ r. ⌜ now (out .exit) ≡ putAt 0 (readRow state (now (store .entry)) slot terminal) (now (out .entry)) ⌝ }
+fn put_read(
+    state: State,
+    four: bool,
+    slot: usize,
+    terminal: u16,
+    store: &[u8],
+    out: &mut [u8],
+) -> usize
+    ensures { λ r. ⌜ r ≡ endAt 0 (readRow state (placesIn four (now (store .entry))) slot terminal) (now (out .entry)) ⌝ }
+    ensures { λ r. ⌜ now (out .exit) ≡ putAt 0 (readRow state (placesIn four (now (store .entry))) slot terminal) (now (out .entry)) ⌝ }
 {
     let mut block = block_room();
-    let outcome = reading::read(state, slot, terminal, store, &mut block);
+    let outcome = rooms::read_in(state, four, slot, terminal, store, &mut block);
     let answer = outcome.answer;
-    if is_done(answer) {
+    if slots::is_done(answer) {
         let head = states::head_at(state, slot);
         let size = head.size;
         answers::put_run(&block[..size], out)
@@ -158,19 +280,20 @@ fn put_read(state: State, slot: usize, terminal: u16, store: &[u8], out: &mut [u
 // The row of Streams.
 fn put_streams(
     state: State,
+    four: bool,
     slot: usize,
     terminal: u16,
     block: usize,
     store: &[u8],
     out: &mut [u8],
 ) -> usize
-    ensures { λ r. ⌜ r ≡ endAt 0 (streamsRow state (now (store .entry)) slot terminal block) (now (out .entry)) ⌝ }
-    ensures { λ r. ⌜ now (out .exit) ≡ putAt 0 (streamsRow state (now (store .entry)) slot terminal block) (now (out .entry)) ⌝ }
+    ensures { λ r. ⌜ r ≡ endAt 0 (streamsRow state (placesIn four (now (store .entry))) slot terminal block) (now (out .entry)) ⌝ }
+    ensures { λ r. ⌜ now (out .exit) ≡ putAt 0 (streamsRow state (placesIn four (now (store .entry))) slot terminal block) (now (out .entry)) ⌝ }
 {
     let mut runs = streams_room();
-    let outcome = reading::streams(state, slot, terminal, block, store, &mut runs);
+    let outcome = rooms::streams_in(state, four, slot, terminal, block, store, &mut runs);
     let answer = outcome.answer;
-    if is_done(answer) {
+    if slots::is_done(answer) {
         let head = states::head_at(state, slot);
         let s = segmentation::segments_for(head.size);
         put_three(&runs, segmentation::block::size_of(s, block) + 4, out)
@@ -191,7 +314,7 @@ fn put_three(runs: &[u8], d: usize, out: &mut [u8]) -> usize
 }
 
 // The row of Build with the line's BITS.
-fn put_build(n: [usize; 5], line: &[u8], from: usize, out: &mut [u8]) -> usize
+fn put_build(n: [usize; 9], line: &[u8], from: usize, out: &mut [u8]) -> usize
     requires { ⌜ length (now line) ≤ longestLine ⌝ }
     ensures { λ r. ⌜ r ≡ endAt 0 (buildRow (bitsFrom (now (line .entry)) from) (at n 0) (at n 1) (at n 2) (at n 3)) (now (out .entry)) ⌝ }
     ensures { λ r. ⌜ now (out .exit) ≡ putAt 0 (buildRow (bitsFrom (now (line .entry)) from) (at n 0) (at n 1) (at n 2) (at n 3)) (now (out .entry)) ⌝ }
@@ -208,6 +331,43 @@ fn put_codeword(block: &[u8], q: usize, n: usize, version: usize, g: usize, out:
 {
     let mut code = code_room();
     let number = codeword::build(block, q, n, version, g, &mut code);
+    if number != 0 {
+        return answers::put_refusal(number as usize, out);
+    }
+    answers::put_run(&code[..g], out)
+}
+
+// The row of Build for a downlink with the line's BITS.
+fn put_build_down(n: [usize; 9], line: &[u8], from: usize, out: &mut [u8]) -> usize
+    requires { ⌜ length (now line) ≤ longestLine ⌝ }
+    ensures { λ r. ⌜ r ≡ endAt 0 (buildDownRow (bitsFrom (now (line .entry)) from) (at n 0) (at n 1) (at n 2) (at n 3) (at n 4) (at n 5) (at n 6) (at n 7) (at n 8)) (now (out .entry)) ⌝ }
+    ensures { λ r. ⌜ now (out .exit) ≡ putAt 0 (buildDownRow (bitsFrom (now (line .entry)) from) (at n 0) (at n 1) (at n 2) (at n 3) (at n 4) (at n 5) (at n 6) (at n 7) (at n 8)) (now (out .entry)) ⌝ }
+{
+    let mut given = bits_room();
+    let count = requests::read_bits(line, from, &mut given);
+    put_codeword_down(&given[..count], n, out)
+}
+
+// The row of Build for a downlink.
+fn put_codeword_down(block: &[u8], n: [usize; 9], out: &mut [u8]) -> usize
+    ensures { λ r. ⌜ r ≡ endAt 0 (buildDownRow (now (block .entry)) (at n 0) (at n 1) (at n 2) (at n 3) (at n 4) (at n 5) (at n 6) (at n 7) (at n 8)) (now (out .entry)) ⌝ }
+    ensures { λ r. ⌜ now (out .exit) ≡ putAt 0 (buildDownRow (now (block .entry)) (at n 0) (at n 1) (at n 2) (at n 3) (at n 4) (at n 5) (at n 6) (at n 7) (at n 8)) (now (out .entry)) ⌝ }
+{
+    let mut code = code_room();
+    let g = n[8];
+    let number = codeword::build_down(
+        block,
+        n[0],
+        n[1],
+        n[2],
+        n[3],
+        n[4],
+        n[5],
+        n[6],
+        n[7],
+        g,
+        &mut code,
+    );
     if number != 0 {
         return answers::put_refusal(number as usize, out);
     }

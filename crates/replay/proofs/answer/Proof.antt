@@ -1,6 +1,6 @@
 -- `replay::answer` is safe: a row stands within the output.
 -- Assumes nothing.
-use mathlib.Core.Path.{_≡_, ap}
+use mathlib.Core.Path.{_≡_, _∙_, ap}
 use Prim.Native.Nat.{_≤_}
 use native.Mathlib.Omega.{arith}
 use lib.ListN.{length}
@@ -9,7 +9,8 @@ use Rattle.laws.proofs.Parts.{front-count}
 use Rattle.lines.specs.Put.{endAt}
 use Rattle.lines.proofs.Putting.{end-within}
 use Rattle.yard.specs.declared.Step.{Step}
-use Rattle.yard.specs.Step.{rowOfLine, stepOf}
+use Rattle.yard.specs.Step.{rowOfLine}
+use Rattle.yard.proofs.Lines.{step-row}
 use borrow.Author.Needs.{needs}
 use Rattle.replay.proofs.answer.Statement.{statement}
 use Rattle.replay.proofs.answer.Tie as tie
@@ -18,13 +19,12 @@ replay-line-requires : tie.Need-replay-line-requires
 replay-line-requires c κs = search needs
 
 slice-reshare-prefix-write-all : tie.Need-slice-reshare-prefix-write-all
-unfolding stepOf
 slice-reshare-prefix-write-all c =
-    let args = c .before .before .before .before .before .before .before .before .before .before .before .args in
-    let made = c .before .before .before .before .before .replay-line in
-    let row = rowOfLine (args .state) (now (args .store)) (now (args .line)) in
-    let ends : made .result .written ≡ endAt 0 row (now (args .out)) = ap (λ (s : Step). s .written) (made .ensures .0) in
-    omega (arith, ends, end-within 0 row (now (args .out)) (omega arith), made .kept .1 .1 .1 .0)
+    let args = c .before .before .before .before .before .before .before .before .before .before .before .before .before .before .before .args in
+    let made = c .before .before .before .before .before .before .before .replay-line in
+    let row = rowOfLine (args .state) (args .four) (now (args .plain)) (now (args .packed)) (now (args .line)) in
+    let ends : made .result .written ≡ endAt 0 row (now (args .out)) = ap (λ (s : Step). s .written) (made .ensures .0) ∙ step-row (args .state) (args .four) (now (args .plain)) (now (args .packed)) (now (args .line)) (now (args .out)) in
+    omega (arith, ends, end-within 0 row (now (args .out)) (omega arith), made .kept .1 .1 .1 .1 .1 .0)
 
 slice-aggregate-write-all : tie.Need-slice-aggregate-write-all
 slice-aggregate-write-all c = front-count _ _ (slice-reshare-prefix-write-all (c .before))
@@ -37,6 +37,9 @@ same-length c = search needs
 
 same-length-2 : tie.Need-same-length-2
 same-length-2 c = search needs
+
+same-length-3 : tie.Need-same-length-3
+same-length-3 c = search needs
 
 returns : tie.Need-returns
 returns c = search needs
@@ -51,4 +54,5 @@ answer-spec =
     write-all-requires
     same-length
     same-length-2
+    same-length-3
     returns)

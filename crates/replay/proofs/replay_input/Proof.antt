@@ -9,10 +9,11 @@ use Rattle.replay.proofs.replay_input.Statement.{statement}
 use Rattle.replay.proofs.replay_input.Tie as tie
 
 abbrev Inv-loop : tie.InvT-loop
-Inv-loop text₀ store₀ out₀ state₀ have₀ got₀ turns₀ text store out state have got turns = (have ≤ 200001) × (have + got ≤ length text) × (length text ≡ length text₀) × (length store ≡ length store₀) × (length out ≡ length out₀)
+Inv-loop text₀ plain₀ packed₀ out₀ state₀ four₀ have₀ got₀ turns₀ text plain packed out state four have got turns =
+    (have ≤ 200001) × (have + got ≤ length text) × (length text ≡ length text₀) × (length plain ≡ length plain₀) × (length packed ≡ length packed₀) × (length out ≡ length out₀)
 
 abbrev μ-loop : tie.MeasureT-loop
-μ-loop text₀ store₀ out₀ state₀ have₀ got₀ turns₀ text store out state have got turns = turns
+μ-loop text₀ plain₀ packed₀ out₀ state₀ four₀ have₀ got₀ turns₀ text plain packed out state four have got turns = turns
 
 new-requires : tie.Need-new-requires Inv-loop μ-loop
 new-requires c κs = tt
@@ -21,7 +22,7 @@ read-more-requires : tie.Need-read-more-requires Inv-loop μ-loop
 read-more-requires c κs = omega arith
 
 loop-holds : tie.Need-loop-holds Inv-loop μ-loop
-loop-holds c = (omega arith, c .before .before .read-more .ensures, refl, refl, refl)
+loop-holds c = (omega arith, c .before .before .read-more .ensures, refl, refl, refl, refl)
 
 same-length : tie.Need-same-length Inv-loop μ-loop
 same-length c = c .before .before .loop .inv .2 ∙ c .before .before .before .before .before .read-more .kept .0
@@ -31,6 +32,9 @@ same-length-2 c = c .before .before .loop .inv .3
 
 same-length-3 : tie.Need-same-length-3 Inv-loop μ-loop
 same-length-3 c = c .before .before .loop .inv .4
+
+same-length-4 : tie.Need-same-length-4 Inv-loop μ-loop
+same-length-4 c = c .before .before .loop .inv .5
 
 returns : tie.Need-returns Inv-loop μ-loop
 returns c = tt
@@ -50,34 +54,37 @@ slice-aggregate-replay-lines c = front-count _ _ (c .before .before .before .loo
 replay-lines-requires : tie.Need-replay-lines-requires Inv-loop μ-loop
 replay-lines-requires c κs = tt
 
-same-length-4 : tie.Need-same-length-4 Inv-loop μ-loop
-same-length-4 c = c .before .before .before .before .before .before .before .before .before .before .before .before .loop .inv .2 ∙ c .before .before .before .before .before .before .before .before .before .before .before .before .before .before .before .read-more .kept .0
-
 same-length-5 : tie.Need-same-length-5 Inv-loop μ-loop
-same-length-5 c = c .before .before .before .before .before .before .replay-lines .kept .1 .1 .0 ∙ c .before .before .before .before .before .before .before .before .before .before .before .before .loop .inv .3
+same-length-5 c = c .before .before .before .before .before .before .before .before .before .before .before .before .before .before .before .loop .inv .2 ∙ c .before .before .before .before .before .before .before .before .before .before .before .before .before .before .before .before .before .before .read-more .kept .0
 
 same-length-6 : tie.Need-same-length-6 Inv-loop μ-loop
-same-length-6 c = c .before .before .before .before .before .before .replay-lines .kept .1 .1 .1 .0 ∙ c .before .before .before .before .before .before .before .before .before .before .before .before .loop .inv .4
+same-length-6 c = c .before .before .before .before .before .before .before .before .replay-lines .kept .1 .1 .1 .0 ∙ c .before .before .before .before .before .before .before .before .before .before .before .before .before .before .before .loop .inv .3
+
+same-length-7 : tie.Need-same-length-7 Inv-loop μ-loop
+same-length-7 c = c .before .before .before .before .before .before .before .before .replay-lines .kept .1 .1 .1 .1 .0 ∙ c .before .before .before .before .before .before .before .before .before .before .before .before .before .before .before .loop .inv .4
+
+same-length-8 : tie.Need-same-length-8 Inv-loop μ-loop
+same-length-8 c = c .before .before .before .before .before .before .before .before .replay-lines .kept .1 .1 .1 .1 .1 .0 ∙ c .before .before .before .before .before .before .before .before .before .before .before .before .before .before .before .loop .inv .5
 
 returns-2 : tie.Need-returns-2 Inv-loop μ-loop
 returns-2 c = tt
 
 keep-requires : tie.Need-keep-requires Inv-loop μ-loop
 keep-requires c κs =
-    let head = c .before .before .before .before .before .before .before .before .before .before .before .before .before .before .loop in
-    (omega (arith, c .before .before .before .before .before .before .before .before .replay-lines .ensures, front-count (head .have + head .got) (head .text) (head .inv .1)), head .inv .1)
+    let head = c .before .before .before .before .before .before .before .before .before .before .before .before .before .before .before .before .before .loop in
+    (omega (arith, c .before .before .before .before .before .before .before .before .before .before .replay-lines .ensures, front-count (head .have + head .got) (head .text) (head .inv .1)), head .inv .1)
 
 read-more-requires-2 : tie.Need-read-more-requires-2 Inv-loop μ-loop
-read-more-requires-2 c κs = omega (arith, c .before .before .before .keep .ensures, c .before .before .before .keep .kept .0, c .before .before .before .before .before .before .before .before .before .before .before .before .before .before .before .before .before .before .loop .inv .2, c .before .before .before .before .before .before .before .before .before .before .before .before .before .before .before .before .before .before .before .before .before .read-more .kept .0, c .before .before .before .before .before .before .before .before .before .before .before .before .before .before .before .before .before .before .before .before .before .before .before .before .before .before .before .before .pre)
+read-more-requires-2 c κs = omega (arith, c .before .before .before .keep .ensures, c .before .before .before .keep .kept .0, c .before .before .before .before .before .before .before .before .before .before .before .before .before .before .before .before .before .before .before .before .before .loop .inv .2, c .before .before .before .before .before .before .before .before .before .before .before .before .before .before .before .before .before .before .before .before .before .before .before .before .read-more .kept .0, c .before .before .before .before .before .before .before .before .before .before .before .before .before .before .before .before .before .before .before .before .before .before .before .before .before .before .before .before .before .before .before .before .pre)
 
 loop-less : tie.Need-loop-less Inv-loop μ-loop
 loop-less c = omega arith
 
 loop-again : tie.Need-loop-again Inv-loop μ-loop
 loop-again c =
-    let inv = c .before .before .before .before .before .before .before .before .before .before .before .before .before .before .before .before .before .before .before .before .before .loop .inv in
-    let lines = c .before .before .before .before .before .before .before .before .before .before .before .before .before .before .before .replay-lines .kept in
-    (c .before .before .before .before .before .before .keep .ensures, c .before .before .read-more2 .ensures, c .before .before .read-more2 .kept .0 ∙ c .before .before .before .before .before .before .keep .kept .0 ∙ inv .2, lines .1 .1 .0 ∙ inv .3, lines .1 .1 .1 .0 ∙ inv .4)
+    let inv = c .before .before .before .before .before .before .before .before .before .before .before .before .before .before .before .before .before .before .before .before .before .before .before .before .loop .inv in
+    let lines = c .before .before .before .before .before .before .before .before .before .before .before .before .before .before .before .before .before .replay-lines .kept in
+    (c .before .before .before .before .before .before .keep .ensures, c .before .before .read-more2 .ensures, c .before .before .read-more2 .kept .0 ∙ c .before .before .before .before .before .before .keep .kept .0 ∙ inv .2, lines .1 .1 .1 .0 ∙ inv .3, lines .1 .1 .1 .1 .0 ∙ inv .4, lines .1 .1 .1 .1 .1 .0 ∙ inv .5)
 
 slice-reshare-prefix-answer : tie.Need-slice-reshare-prefix-answer Inv-loop μ-loop
 slice-reshare-prefix-answer c = omega (arith, c .before .before .loop .inv .1)
@@ -88,26 +95,32 @@ slice-aggregate-answer c = front-count _ _ (slice-reshare-prefix-answer (c .befo
 answer-requires : tie.Need-answer-requires Inv-loop μ-loop
 answer-requires c κs = tt
 
-same-length-7 : tie.Need-same-length-7 Inv-loop μ-loop
-same-length-7 c = c .before .before .before .before .before .before .before .before .before .before .loop .inv .2 ∙ c .before .before .before .before .before .before .before .before .before .before .before .before .before .read-more .kept .0
-
-same-length-8 : tie.Need-same-length-8 Inv-loop μ-loop
-same-length-8 c = c .before .before .before .before .answer .kept .1 .1 .0 ∙ c .before .before .before .before .before .before .before .before .before .before .loop .inv .3
-
 same-length-9 : tie.Need-same-length-9 Inv-loop μ-loop
-same-length-9 c = c .before .before .before .before .answer .kept .1 .1 .1 .0 ∙ c .before .before .before .before .before .before .before .before .before .before .loop .inv .4
+same-length-9 c = c .before .before .before .before .before .before .before .before .before .before .before .before .before .loop .inv .2 ∙ c .before .before .before .before .before .before .before .before .before .before .before .before .before .before .before .before .read-more .kept .0
+
+same-length-10 : tie.Need-same-length-10 Inv-loop μ-loop
+same-length-10 c = c .before .before .before .before .before .before .answer .kept .1 .1 .1 .0 ∙ c .before .before .before .before .before .before .before .before .before .before .before .before .before .loop .inv .3
+
+same-length-11 : tie.Need-same-length-11 Inv-loop μ-loop
+same-length-11 c = c .before .before .before .before .before .before .answer .kept .1 .1 .1 .1 .0 ∙ c .before .before .before .before .before .before .before .before .before .before .before .before .before .loop .inv .4
+
+same-length-12 : tie.Need-same-length-12 Inv-loop μ-loop
+same-length-12 c = c .before .before .before .before .before .before .answer .kept .1 .1 .1 .1 .1 .0 ∙ c .before .before .before .before .before .before .before .before .before .before .before .before .before .loop .inv .5
 
 returns-3 : tie.Need-returns-3 Inv-loop μ-loop
 returns-3 c = tt
 
-same-length-10 : tie.Need-same-length-10 Inv-loop μ-loop
-same-length-10 c = c .before .before .loop .inv .2 ∙ c .before .before .before .before .before .read-more .kept .0
+same-length-13 : tie.Need-same-length-13 Inv-loop μ-loop
+same-length-13 c = c .before .before .loop .inv .2 ∙ c .before .before .before .before .before .read-more .kept .0
 
-same-length-11 : tie.Need-same-length-11 Inv-loop μ-loop
-same-length-11 c = c .before .before .loop .inv .3
+same-length-14 : tie.Need-same-length-14 Inv-loop μ-loop
+same-length-14 c = c .before .before .loop .inv .3
 
-same-length-12 : tie.Need-same-length-12 Inv-loop μ-loop
-same-length-12 c = c .before .before .loop .inv .4
+same-length-15 : tie.Need-same-length-15 Inv-loop μ-loop
+same-length-15 c = c .before .before .loop .inv .4
+
+same-length-16 : tie.Need-same-length-16 Inv-loop μ-loop
+same-length-16 c = c .before .before .loop .inv .5
 
 returns-4 : tie.Need-returns-4 Inv-loop μ-loop
 returns-4 c = tt
@@ -124,15 +137,17 @@ replay-input-spec =
     same-length
     same-length-2
     same-length-3
+    same-length-4
     returns
     sub-turns
     add-end
     slice-reshare-prefix-replay-lines
     slice-aggregate-replay-lines
     replay-lines-requires
-    same-length-4
     same-length-5
     same-length-6
+    same-length-7
+    same-length-8
     returns-2
     keep-requires
     read-more-requires-2
@@ -141,11 +156,13 @@ replay-input-spec =
     slice-reshare-prefix-answer
     slice-aggregate-answer
     answer-requires
-    same-length-7
-    same-length-8
     same-length-9
-    returns-3
     same-length-10
     same-length-11
     same-length-12
+    returns-3
+    same-length-13
+    same-length-14
+    same-length-15
+    same-length-16
     returns-4)

@@ -11,10 +11,11 @@ use Rattle.replay.proofs.replay_lines.Statement.{statement}
 use Rattle.replay.proofs.replay_lines.Tie as tie
 
 abbrev Inv-loop : tie.InvT-loop
-Inv-loop text store₀ out₀ after₀ next₀ end₀ store out after next end = (next ≤ end) × (next ≤ length text) × (length store ≡ length store₀) × (length out ≡ length out₀)
+Inv-loop text plain₀ packed₀ out₀ after₀ form₀ next₀ end₀ plain packed out after form next end =
+    (next ≤ end) × (next ≤ length text) × (length plain ≡ length plain₀) × (length packed ≡ length packed₀) × (length out ≡ length out₀)
 
 abbrev μ-loop : tie.MeasureT-loop
-μ-loop text store₀ out₀ after₀ next₀ end₀ store out after next end = length text - next
+μ-loop text plain₀ packed₀ out₀ after₀ form₀ next₀ end₀ plain packed out after form next end = length text - next
 
 -- a line ends at its start or later
 end-after : (text : List ℕ) (from : ℕ) → from ≤ lineEnd text from
@@ -25,7 +26,7 @@ line-end-requires : tie.Need-line-end-requires Inv-loop μ-loop
 line-end-requires c κs = tt
 
 loop-holds : tie.Need-loop-holds Inv-loop μ-loop
-loop-holds c = (omega arith, omega arith, refl, refl)
+loop-holds c = (omega arith, omega arith, refl, refl, refl)
 
 sub-answer : tie.Need-sub-answer Inv-loop μ-loop
 sub-answer c = c .before .loop .inv .0
@@ -43,10 +44,13 @@ add-next : tie.Need-add-next Inv-loop μ-loop
 add-next c = omega arith
 
 same-length : tie.Need-same-length Inv-loop μ-loop
-same-length c = c .before .before .before .before .before .before .before .answer .kept .1 .1 .0 ∙ c .before .before .before .before .before .before .before .before .before .before .before .before .loop .inv .2
+same-length c = c .before .before .before .before .before .before .before .before .before .answer .kept .1 .1 .1 .0 ∙ c .before .before .before .before .before .before .before .before .before .before .before .before .before .before .before .loop .inv .2
 
 same-length-2 : tie.Need-same-length-2 Inv-loop μ-loop
-same-length-2 c = c .before .before .before .before .before .before .before .answer .kept .1 .1 .1 .0 ∙ c .before .before .before .before .before .before .before .before .before .before .before .before .loop .inv .3
+same-length-2 c = c .before .before .before .before .before .before .before .before .before .answer .kept .1 .1 .1 .1 .0 ∙ c .before .before .before .before .before .before .before .before .before .before .before .before .before .before .before .loop .inv .3
+
+same-length-3 : tie.Need-same-length-3 Inv-loop μ-loop
+same-length-3 c = c .before .before .before .before .before .before .before .before .before .answer .kept .1 .1 .1 .1 .1 .0 ∙ c .before .before .before .before .before .before .before .before .before .before .before .before .before .before .before .loop .inv .4
 
 returns : tie.Need-returns Inv-loop μ-loop
 returns c = omega arith
@@ -55,19 +59,22 @@ line-end-requires-2 : tie.Need-line-end-requires-2 Inv-loop μ-loop
 line-end-requires-2 c κs = tt
 
 loop-less : tie.Need-loop-less Inv-loop μ-loop
-loop-less c = omega (arith, c .before .before .before .before .before .before .before .before .before .before .before .before .before .loop .inv .0)
+loop-less c = omega (arith, c .before .before .before .before .before .before .before .before .before .before .before .before .before .before .before .before .loop .inv .0)
 
 loop-again : tie.Need-loop-again Inv-loop μ-loop
 loop-again c =
-    let inv = c .before .before .before .before .before .before .before .before .before .before .before .before .before .loop .inv in
-    let kept = c .before .before .before .before .before .before .before .before .answer .kept in
-    (omega (arith, c .line-end2 .ensures, end-after (now (c .before .before .before .before .before .before .before .before .before .before .before .before .before .before .before .before .before .before .args .text)) (c .before .before .before .before .before .before .before .before .before .before .before .before .before .loop .end + 1)), omega arith, kept .1 .1 .0 ∙ inv .2, kept .1 .1 .1 .0 ∙ inv .3)
-
-same-length-3 : tie.Need-same-length-3 Inv-loop μ-loop
-same-length-3 c = c .before .loop .inv .2
+    let inv = c .before .before .before .before .before .before .before .before .before .before .before .before .before .before .before .before .loop .inv in
+    let kept = c .before .before .before .before .before .before .before .before .before .before .answer .kept in
+    (omega (arith, c .line-end2 .ensures, end-after (now (c .before .before .before .before .before .before .before .before .before .before .before .before .before .before .before .before .before .before .before .before .before .before .args .text)) (c .before .before .before .before .before .before .before .before .before .before .before .before .before .before .before .before .loop .end + 1)), omega arith, kept .1 .1 .1 .0 ∙ inv .2, kept .1 .1 .1 .1 .0 ∙ inv .3, kept .1 .1 .1 .1 .1 .0 ∙ inv .4)
 
 same-length-4 : tie.Need-same-length-4 Inv-loop μ-loop
-same-length-4 c = c .before .loop .inv .3
+same-length-4 c = c .before .loop .inv .2
+
+same-length-5 : tie.Need-same-length-5 Inv-loop μ-loop
+same-length-5 c = c .before .loop .inv .3
+
+same-length-6 : tie.Need-same-length-6 Inv-loop μ-loop
+same-length-6 c = c .before .loop .inv .4
 
 returns-2 : tie.Need-returns-2 Inv-loop μ-loop
 returns-2 c = c .before .loop .inv .1
@@ -87,10 +94,12 @@ replay-lines-spec =
     add-next
     same-length
     same-length-2
+    same-length-3
     returns
     line-end-requires-2
     loop-less
     loop-again
-    same-length-3
     same-length-4
+    same-length-5
+    same-length-6
     returns-2)

@@ -20,6 +20,18 @@ number-at-requires-4 c κs = search needs
 number-at-requires-5 : tie.Need-number-at-requires-5
 number-at-requires-5 c κs = search needs
 
+number-at-requires-6 : tie.Need-number-at-requires-6
+number-at-requires-6 c κs = search needs
+
+number-at-requires-7 : tie.Need-number-at-requires-7
+number-at-requires-7 c κs = search needs
+
+number-at-requires-8 : tie.Need-number-at-requires-8
+number-at-requires-8 c κs = search needs
+
+number-at-requires-9 : tie.Need-number-at-requires-9
+number-at-requires-9 c κs = search needs
+
 returns : tie.Need-returns
 unfolding fields
 returns c = cc
@@ -33,4 +45,8 @@ fields-spec =
     number-at-requires-3
     number-at-requires-4
     number-at-requires-5
+    number-at-requires-6
+    number-at-requires-7
+    number-at-requires-8
+    number-at-requires-9
     returns)

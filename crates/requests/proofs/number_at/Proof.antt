@@ -1,6 +1,6 @@
--- `requests::number_at` meets its contract: what `lines::read_number` says of the word.
+-- `requests::number_at` meets its contract: what `lines::read_number` says of the word, with the digits that it may have.
 -- Assumes nothing.
-use mathlib.Core.Path.{sym, _∙_, ap}
+use mathlib.Core.Path.{sym, _∙_, ap, ap₂}
 use borrow.Author.Needs.{needs}
 use Rattle.lines.specs.Line.{lineOf}
 use Rattle.requests.specs.Numbers.{valueOf, numberAt}
@@ -9,6 +9,9 @@ use Rattle.requests.proofs.number_at.Tie as tie
 
 word-requires : tie.Need-word-requires
 word-requires c κs = search needs
+
+digits-at-requires : tie.Need-digits-at-requires
+digits-at-requires c κs = search needs
 
 read-number-requires : tie.Need-read-number-requires
 read-number-requires c κs = search needs
@@ -22,16 +25,16 @@ enum-told c = search needs
 returns : tie.Need-returns
 unfolding numberAt valueOf
 returns c =
-    let read = c .before .before .before .read-number .ensures ∙ ap (lineOf 6) (c .before .before .before .before .word .ensures) in
+    let read = c .before .before .before .read-number .ensures ∙ ap₂ lineOf (c .before .before .before .before .digits-at .ensures) (c .before .before .before .before .before .word .ensures) in
     ap valueOf (sym (c .before .n .given .1) ∙ read)
 
 returns-2 : tie.Need-returns-2
 unfolding numberAt valueOf
 returns-2 c =
-    let read = c .before .before .read-number .ensures ∙ ap (lineOf 6) (c .before .before .before .word .ensures) in
+    let read = c .before .before .read-number .ensures ∙ ap₂ lineOf (c .before .before .before .digits-at .ensures) (c .before .before .before .before .word .ensures) in
     ap valueOf (sym (c .enum-told .given .1) ∙ read)
 
 pub number-at-spec : {M : Type 1} → statement M
 number-at-spec =
     tie.close
-    (tie.spec word-requires read-number-requires enum-known-n enum-told returns returns-2)
+    (tie.spec word-requires digits-at-requires read-number-requires enum-known-n enum-told returns returns-2)

@@ -9,16 +9,16 @@ use Rattle.requests.proofs.said_from.Statement.{statement}
 use Rattle.requests.proofs.said_from.Tie as tie
 
 abbrev Inv-loop : tie.InvT-loop
-Inv-loop line i n at₀ end at = Saying line i n at
+Inv-loop line form i n at₀ end at = Saying line form i n at
 
 abbrev μ-loop : tie.MeasureT-loop
-μ-loop line i n at₀ end at = end - at
+μ-loop line form i n at₀ end at = end - at
 
 add-end : tie.Need-add-end Inv-loop μ-loop
 add-end c = omega arith
 
 loop-holds : tie.Need-loop-holds Inv-loop μ-loop
-loop-holds c = start _ _ _
+loop-holds c = start _ _ _ _
 
 says-number-requires : tie.Need-says-number-requires Inv-loop μ-loop
 says-number-requires c κs = tt

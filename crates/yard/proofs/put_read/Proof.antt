@@ -8,6 +8,7 @@ use denote.Ref.{now}
 use Rattle.laws.proofs.Parts.{front-count}
 use Rattle.slots.specs.declared.Head.{Head}
 use Rattle.slots.specs.Calls.{sizeAtHead}
+use Rattle.packing.specs.Store.{placesIn}
 use Rattle.answers.specs.Rows.{runRow}
 use Rattle.yard.specs.Rows.{readRow}
 use Rattle.yard.proofs.Wrote.{read-refused, read-row}
@@ -18,11 +19,11 @@ use Rattle.yard.proofs.put_read.Tie as tie
 block-room-requires : tie.Need-block-room-requires
 block-room-requires c κs = search needs
 
-slice-aggregate-read : tie.Need-slice-aggregate-read
-slice-aggregate-read c = search needs
+slice-aggregate-read-in : tie.Need-slice-aggregate-read-in
+slice-aggregate-read-in c = search needs
 
-read-requires : tie.Need-read-requires
-read-requires c κs = search needs
+read-in-requires : tie.Need-read-in-requires
+read-in-requires c κs = search needs
 
 is-done-requires : tie.Need-is-done-requires
 is-done-requires c κs = search needs
@@ -31,12 +32,12 @@ head-at-requires : tie.Need-head-at-requires
 head-at-requires c κs = search needs
 
 -- the block that was read stands in the room
-given : (c : tie.After-head-at) → let args = c .before .before .before .before .before .before .before .before .before .args in let out = c .before .before .before .before .read .last .1 .1 .1 .1 .0 in
-    (c .head-at .result .size ≤ length out) × (runRow (take (c .head-at .result .size) out) ≡ readRow (args .state) (now (args .store)) (args .slot) (args .terminal))
+given : (c : tie.After-head-at) → let args = c .before .before .before .before .before .before .before .before .before .args in let out = c .before .before .before .before .read-in .last .1 .1 .1 .1 .1 .0 in
+    (c .head-at .result .size ≤ length out) × (runRow (take (c .head-at .result .size) out) ≡ readRow (args .state) (placesIn (args .four) (now (args .store))) (args .slot) (args .terminal))
 unfolding sizeAtHead
 given c =
-    let made = c .before .before .before .before .read in
-    let kept = made .kept .1 .1 .1 .1 .0 in
+    let made = c .before .before .before .before .read-in in
+    let kept = made .kept .1 .1 .1 .1 .1 .0 in
     let row = read-row _ _ _ _ _ (c .before .before .before .before .before .before .block-room .ensures) (made .ensures .0) (sym (c .before .before .is-done .ensures) ∙ c .before .if1 .taken) (made .ensures .1) kept in
     let size = ap (λ (h : Head). h .size) (c .head-at .ensures) in
     rw size (omega (arith, row .0, kept), row .1)
@@ -65,15 +66,15 @@ same-length-2 c = search needs
 returns-2 : tie.Need-returns-2
 returns-2 c =
     let args = c .before .before .before .before .before .before .before .before .before .before .before .before .args in
-    rw (read-refused (args .state) (now (args .store)) (args .slot) (args .terminal) (c .before .before .before .before .before .before .before .before .before .block-room .result) (c .before .before .before .before .before .before .before .before .before .block-room .ensures) (c .before .before .before .before .before .before .before .read .ensures .0) (sym (c .before .before .before .before .before .is-done .ensures) ∙ c .before .before .before .before .if1 .left)) at (c .before .before .put-answer .ensures)
+    rw (read-refused (args .state) (placesIn (args .four) (now (args .store))) (args .slot) (args .terminal) (c .before .before .before .before .before .before .before .before .before .block-room .result) (c .before .before .before .before .before .before .before .before .before .block-room .ensures) (c .before .before .before .before .before .before .before .read-in .ensures .0) (sym (c .before .before .before .before .before .is-done .ensures) ∙ c .before .before .before .before .if1 .left)) at (c .before .before .put-answer .ensures)
 
 pub put-read-spec : {M : Type 1} → statement M
 put-read-spec =
     tie.close
     (tie.spec
     block-room-requires
-    slice-aggregate-read
-    read-requires
+    slice-aggregate-read-in
+    read-in-requires
     is-done-requires
     head-at-requires
     array-share-prefix-block

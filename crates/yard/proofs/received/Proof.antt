@@ -27,17 +27,17 @@ array-read-terminal c = search needs
 cast-terminal : tie.Need-cast-terminal
 cast-terminal c = search needs
 
-array-read-receive : tie.Need-array-read-receive
-array-read-receive c = search needs
+array-read-receive-in : tie.Need-array-read-receive-in
+array-read-receive-in c = search needs
 
-array-read-receive-2 : tie.Need-array-read-receive-2
-array-read-receive-2 c = search needs
+array-read-receive-in-2 : tie.Need-array-read-receive-in-2
+array-read-receive-in-2 c = search needs
 
-array-read-receive-3 : tie.Need-array-read-receive-3
-array-read-receive-3 c = search needs
+array-read-receive-in-3 : tie.Need-array-read-receive-in-3
+array-read-receive-in-3 c = search needs
 
-array-read-receive-4 : tie.Need-array-read-receive-4
-array-read-receive-4 c = search needs
+array-read-receive-in-4 : tie.Need-array-read-receive-in-4
+array-read-receive-in-4 c = search needs
 
 array-share-prefix-given : tie.Need-array-share-prefix-given
 array-share-prefix-given c =
@@ -45,11 +45,11 @@ array-share-prefix-given c =
     let args = c .before .before .before .before .before .before .args in
     omega (arith, given-bits (now (args .line)) (args .from) _ (omega (arith, c .before .before .before .before .before .before .pre, c .before .before .before .bits-room .ensures)) (bits .ensures .0) (bits .ensures .1) .0, bits .kept .1 .1 .0)
 
-slice-aggregate-receive : tie.Need-slice-aggregate-receive
-slice-aggregate-receive c = front-count _ _ (array-share-prefix-given (c .before))
+slice-aggregate-receive-in : tie.Need-slice-aggregate-receive-in
+slice-aggregate-receive-in c = front-count _ _ (array-share-prefix-given (c .before))
 
-receive-requires : tie.Need-receive-requires
-receive-requires c κs = search needs
+receive-in-requires : tie.Need-receive-in-requires
+receive-in-requires c κs = search needs
 
 same-length : tie.Need-same-length
 same-length c = search needs
@@ -58,7 +58,7 @@ returns : tie.Need-returns
 returns c =
     let args = c .before .before .before .before .before .before .before .before .before .before .before .args in
     let bits = c .before .before .before .before .before .before .read-bits in
-    rw (given-bits (now (args .line)) (args .from) _ (omega (arith, c .before .before .before .before .before .before .before .before .before .before .before .pre .0, c .before .before .before .before .before .before .before .before .bits-room .ensures)) (bits .ensures .0) (bits .ensures .1) .1) at (c .before .before .receive .ensures)
+    rw (given-bits (now (args .line)) (args .from) _ (omega (arith, c .before .before .before .before .before .before .before .before .before .before .before .pre .0, c .before .before .before .before .before .before .before .before .bits-room .ensures)) (bits .ensures .0) (bits .ensures .1) .1) at (c .before .before .receive-in .ensures)
 
 pub received-spec : {M : Type 1} → statement M
 received-spec =
@@ -69,12 +69,12 @@ received-spec =
     read-bits-requires
     array-read-terminal
     cast-terminal
-    array-read-receive
-    array-read-receive-2
-    array-read-receive-3
-    array-read-receive-4
+    array-read-receive-in
+    array-read-receive-in-2
+    array-read-receive-in-3
+    array-read-receive-in-4
     array-share-prefix-given
-    slice-aggregate-receive
-    receive-requires
+    slice-aggregate-receive-in
+    receive-in-requires
     same-length
     returns)

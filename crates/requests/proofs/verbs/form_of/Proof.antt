@@ -62,11 +62,35 @@ form-requires-9 c κs = search needs
 enum-told-10 : tie.Need-enum-told-10
 enum-told-10 c = search needs
 
-no-form-requires : tie.Need-no-form-requires
-no-form-requires c κs = search needs
+form-requires-10 : tie.Need-form-requires-10
+form-requires-10 c κs = search needs
 
 enum-told-11 : tie.Need-enum-told-11
 enum-told-11 c = search needs
+
+form-requires-11 : tie.Need-form-requires-11
+form-requires-11 c κs = search needs
+
+enum-told-12 : tie.Need-enum-told-12
+enum-told-12 c = search needs
+
+form-requires-12 : tie.Need-form-requires-12
+form-requires-12 c κs = search needs
+
+enum-told-13 : tie.Need-enum-told-13
+enum-told-13 c = search needs
+
+form-requires-13 : tie.Need-form-requires-13
+form-requires-13 c κs = search needs
+
+enum-told-14 : tie.Need-enum-told-14
+enum-told-14 c = search needs
+
+no-form-requires : tie.Need-no-form-requires
+no-form-requires c κs = search needs
+
+enum-told-15 : tie.Need-enum-told-15
+enum-told-15 c = search needs
 
 no-form-requires-2 : tie.Need-no-form-requires-2
 no-form-requires-2 c κs = search needs
@@ -115,6 +139,22 @@ returns-11 : tie.Need-returns-11
 unfolding formOf
 returns-11 c = cc
 
+returns-12 : tie.Need-returns-12
+unfolding formOf
+returns-12 c = cc
+
+returns-13 : tie.Need-returns-13
+unfolding formOf
+returns-13 c = cc
+
+returns-14 : tie.Need-returns-14
+unfolding formOf
+returns-14 c = cc
+
+returns-15 : tie.Need-returns-15
+unfolding formOf
+returns-15 c = cc
+
 pub form-of-spec : {M : Type 1} → statement M
 form-of-spec =
     tie.close
@@ -138,8 +178,16 @@ form-of-spec =
     enum-told-9
     form-requires-9
     enum-told-10
-    no-form-requires
+    form-requires-10
     enum-told-11
+    form-requires-11
+    enum-told-12
+    form-requires-12
+    enum-told-13
+    form-requires-13
+    enum-told-14
+    no-form-requires
+    enum-told-15
     no-form-requires-2
     returns
     returns-2
@@ -151,4 +199,8 @@ form-of-spec =
     returns-8
     returns-9
     returns-10
-    returns-11)
+    returns-11
+    returns-12
+    returns-13
+    returns-14
+    returns-15)

@@ -8,6 +8,9 @@ use Rattle.requests.proofs.verbs.verb_of.Tie as tie
 slice-aggregate-named : tie.Need-slice-aggregate-named
 slice-aggregate-named c = search needs
 
+stateless-requires : tie.Need-stateless-requires
+stateless-requires c κs = search needs
+
 named-requires : tie.Need-named-requires
 named-requires c κs = search needs
 
@@ -72,6 +75,7 @@ returns c =
       c .before .before .before .before .before .before .before .before .before .before .before .before .named3 .ensures,
       c .before .before .before .before .before .before .before .before .before .before .before .before .before .before .named2 .ensures,
       c .before .before .before .before .before .before .before .before .before .before .before .before .before .before .before .before .named .ensures,
+      c .before .before .before .before .before .before .before .before .before .before .before .before .before .before .before .before .before .stateless .ensures,
     )
 
 pub verb-of-spec : {M : Type 1} → statement M
@@ -79,6 +83,7 @@ verb-of-spec =
     tie.close
     (tie.spec
     slice-aggregate-named
+    stateless-requires
     named-requires
     slice-aggregate-named-2
     named-requires-2

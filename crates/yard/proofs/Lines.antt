@@ -1,0 +1,56 @@
+-- Laws of a line on both stores (`stepOf`): a change of form, or a call on the store that has the rooms.
+-- Assumes nothing.
+use mathlib.Core.Path.{_≡_, refl, sym, _∙_, ap}
+use mathlib.Core.Bool.{Bool, true, false, cond}
+use mathlib.Core.List.{List}
+use Prim.Native.Nat.{ℕ}
+use lib.ListN.{length}
+use Rattle.slots.specs.declared.State.{State}
+use Rattle.lines.specs.Put.{putAt, endAt}
+use Rattle.requests.specs.declared.Verb.{Verb}
+use Rattle.requests.specs.declared.Request.{Request}
+use Rattle.requests.specs.Request.{requestOf}
+use Rattle.yard.specs.declared.Step.{Step}
+use Rattle.yard.specs.Change.{changes, packs, changeRow, plainChanged, packedChanged}
+use Rattle.yard.specs.Step.{callRow, callStep, callStore, rowOfLine, changeStep, stepOf, plainAfter, packedAfter, outAfter}
+
+module _ (state : State) (four : Bool) (plain packed line out : List ℕ) {request : Request} (read : request ≡ requestOf line) where
+  -- the step, both stores and the output
+  abbrev Told : Step → List ℕ → List ℕ → List ℕ → Type 0
+  Told step plain′ packed′ out′ =
+      (step ≡ stepOf state four plain packed line out)
+      × ((plain′ ≡ plainAfter state four plain packed line)
+      × ((packed′ ≡ packedAfter state four plain packed line) × (out′ ≡ outAfter state four plain packed line out)))
+
+  verb-is : requestOf line .verb ≡ request .verb
+  verb-is = ap (λ (r : Request). r .verb) (sym read)
+
+  pub by-change : {to : Bool} → changes (request .verb) ≡ true → to ≡ packs (request .verb) → (step : Step) (plain′ packed′ out′ : List ℕ)
+      → (step ≡ changeStep state four to (length plain) (length packed) out)
+      × ((plain′ ≡ plainChanged state four to plain packed)
+      × ((packed′ ≡ packedChanged state four to plain packed) × (out′ ≡ putAt 0 (changeRow state (length plain) (length packed)) out)))
+      → Told step plain′ packed′ out′
+  unfolding stepOf plainAfter packedAfter outAfter rowOfLine
+  by-change does p step plain′ packed′ out′ made = rw (verb-is, does, ← p) made
+
+  pub by-packed-call : changes (request .verb) ≡ false → four ≡ true → (step : Step) (packed′ out′ : List ℕ)
+      → (step ≡ callStep state true packed line out) × ((packed′ ≡ callStore state true packed line) × (out′ ≡ putAt 0 (callRow state true packed line) out))
+      → Told step plain packed′ out′
+  unfolding stepOf plainAfter packedAfter outAfter rowOfLine
+  by-packed-call none f step packed′ out′ made = rw (verb-is, none, f) (made .0, (refl, (made .1 .0, made .1 .1)))
+
+  pub by-plain-call : changes (request .verb) ≡ false → four ≡ false → (step : Step) (plain′ out′ : List ℕ)
+      → (step ≡ callStep state false plain line out) × ((plain′ ≡ callStore state false plain line) × (out′ ≡ putAt 0 (callRow state false plain line) out))
+      → Told step plain′ packed out′
+  unfolding stepOf plainAfter packedAfter outAfter rowOfLine
+  by-plain-call none f step plain′ out′ made = rw (verb-is, none, f) (made .0, (made .1 .0, (refl, made .1 .1)))
+
+-- the length that a step tells is that of its row
+pub step-row : (state : State) (four : Bool) (plain packed line out : List ℕ)
+    → stepOf state four plain packed line out .written ≡ endAt 0 (rowOfLine state four plain packed line) out
+unfolding stepOf rowOfLine changeStep callStep
+step-row state four plain packed line out = go (changes (requestOf line .verb)) refl
+  where
+    go : (t : Bool) → changes (requestOf line .verb) ≡ t → stepOf state four plain packed line out .written ≡ endAt 0 (rowOfLine state four plain packed line) out
+    go true e = simp e
+    go false e = simp e

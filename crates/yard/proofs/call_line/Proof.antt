@@ -1,0 +1,504 @@
+-- `yard::call_line` meets its contract: each verb's call, by the laws of `Steps`.
+-- Assumes nothing.
+use mathlib.Core.Path.{_≡_, refl, sym, _∙_, ap}
+use native.Mathlib.Omega.{arith}
+use lib.ListN.{getD}
+use denote.Ref.{now}
+use Rattle.slots.specs.declared.Outcome.{Outcome}
+use Rattle.requests.specs.declared.Verb.the-variants as verb
+use Rattle.requests.specs.declared.Request.{Request}
+use Rattle.requests.specs.Verbs.{formOf}
+use Rattle.requests.proofs.Asked.{asked, terminal-fits}
+use Rattle.answers.specs.SizesRow.{sizesRow}
+use Rattle.answers.specs.WorstRow.{worstRow}
+use Rattle.yard.specs.Rows.{shareRow}
+use Rattle.yard.specs.Step.{rowBy, stateBy, storeBy}
+use Rattle.yard.proofs.Steps.{end-nothing, put-nothing, received-state, by-told, by-outcome, by-row}
+use borrow.Author.Needs.{needs}
+use Rattle.yard.proofs.call_line.Statement.{statement}
+use Rattle.yard.proofs.call_line.Tie as tie
+
+read-request-requires : tie.Need-read-request-requires
+read-request-requires c κs = search needs
+
+enum-told : tie.Need-enum-told
+enum-told c = search needs
+
+array-read-new : tie.Need-array-read-new
+array-read-new c = search needs
+
+array-read-new-2 : tie.Need-array-read-new-2
+array-read-new-2 c = search needs
+
+new-requires : tie.Need-new-requires
+new-requires c κs = search needs
+
+told-requires : tie.Need-told-requires
+told-requires c κs = search needs
+
+enum-told-2 : tie.Need-enum-told-2
+enum-told-2 c = search needs
+
+array-read-open-in : tie.Need-array-read-open-in
+array-read-open-in c = search needs
+
+array-read-open-in-2 : tie.Need-array-read-open-in-2
+array-read-open-in-2 c = search needs
+
+cast-open-in : tie.Need-cast-open-in
+unfolding formOf
+cast-open-in c =
+    let line = now (c .before .before .before .before .before .before .before .args .line) in
+    omega (arith, rw (← (c .before .before .before .read-request .ensures)) at (terminal-fits line verb.Open (ap (λ (r : Request). r .verb) (sym (c .before .before .before .read-request .ensures)) ∙ c .enum-told2 .given .1) refl refl))
+
+array-read-open-in-3 : tie.Need-array-read-open-in-3
+array-read-open-in-3 c = search needs
+
+open-in-requires : tie.Need-open-in-requires
+open-in-requires c κs = search needs
+
+told-requires-2 : tie.Need-told-requires-2
+told-requires-2 c κs = search needs
+
+enum-told-3 : tie.Need-enum-told-3
+enum-told-3 c = search needs
+
+opened-down-requires : tie.Need-opened-down-requires
+unfolding formOf
+opened-down-requires c κs =
+    let line = now (c .before .before .before .before .before .before .before .before .args .line) in
+    let said = (ap (λ (r : Request). r .verb) (sym (c .before .before .before .before .read-request .ensures)) ∙ c .before .enum-told3 .given .1) in
+    rw (← (c .before .before .before .before .read-request .ensures)) at (terminal-fits line verb.OpenDown said refl refl)
+
+array-read-told-share : tie.Need-array-read-told-share
+array-read-told-share c = search needs
+
+told-share-requires : tie.Need-told-share-requires
+told-share-requires c κs = search needs
+
+enum-told-4 : tie.Need-enum-told-4
+enum-told-4 c = search needs
+
+array-read-close : tie.Need-array-read-close
+array-read-close c = search needs
+
+array-read-close-2 : tie.Need-array-read-close-2
+array-read-close-2 c = search needs
+
+cast-close : tie.Need-cast-close
+unfolding formOf
+cast-close c =
+    let line = now (c .before .before .before .before .before .before .before .args .line) in
+    omega (arith, rw (← (c .before .before .before .read-request .ensures)) at (terminal-fits line verb.Close (ap (λ (r : Request). r .verb) (sym (c .before .before .before .read-request .ensures)) ∙ c .enum-told4 .given .1) refl refl))
+
+close-requires : tie.Need-close-requires
+close-requires c κs = search needs
+
+told-requires-3 : tie.Need-told-requires-3
+told-requires-3 c κs = search needs
+
+enum-told-5 : tie.Need-enum-told-5
+enum-told-5 c = search needs
+
+received-requires : tie.Need-received-requires
+unfolding formOf
+received-requires c κs =
+    let line = now (c .before .before .before .before .before .before .before .before .args .line) in
+    let said = (ap (λ (r : Request). r .verb) (sym (c .before .before .before .before .read-request .ensures)) ∙ c .before .enum-told5 .given .1) in
+    (asked line verb.Receive said refl .short, rw (← (c .before .before .before .before .read-request .ensures)) at (terminal-fits line verb.Receive said refl refl))
+
+told-requires-4 : tie.Need-told-requires-4
+told-requires-4 c κs = search needs
+
+enum-told-6 : tie.Need-enum-told-6
+enum-told-6 c = search needs
+
+array-read-put-read : tie.Need-array-read-put-read
+array-read-put-read c = search needs
+
+array-read-put-read-2 : tie.Need-array-read-put-read-2
+array-read-put-read-2 c = search needs
+
+cast-put-read : tie.Need-cast-put-read
+unfolding formOf
+cast-put-read c =
+    let line = now (c .before .before .before .before .before .before .before .args .line) in
+    omega (arith, rw (← (c .before .before .before .read-request .ensures)) at (terminal-fits line verb.Read (ap (λ (r : Request). r .verb) (sym (c .before .before .before .read-request .ensures)) ∙ c .enum-told6 .given .1) refl refl))
+
+put-read-requires : tie.Need-put-read-requires
+put-read-requires c κs = search needs
+
+unchanged-requires : tie.Need-unchanged-requires
+unchanged-requires c κs = search needs
+
+enum-told-7 : tie.Need-enum-told-7
+enum-told-7 c = search needs
+
+array-read-put-streams : tie.Need-array-read-put-streams
+array-read-put-streams c = search needs
+
+array-read-put-streams-2 : tie.Need-array-read-put-streams-2
+array-read-put-streams-2 c = search needs
+
+cast-put-streams : tie.Need-cast-put-streams
+unfolding formOf
+cast-put-streams c =
+    let line = now (c .before .before .before .before .before .before .before .args .line) in
+    omega (arith, rw (← (c .before .before .before .read-request .ensures)) at (terminal-fits line verb.Streams (ap (λ (r : Request). r .verb) (sym (c .before .before .before .read-request .ensures)) ∙ c .enum-told7 .given .1) refl refl))
+
+array-read-put-streams-3 : tie.Need-array-read-put-streams-3
+array-read-put-streams-3 c = search needs
+
+put-streams-requires : tie.Need-put-streams-requires
+put-streams-requires c κs = search needs
+
+unchanged-requires-2 : tie.Need-unchanged-requires-2
+unchanged-requires-2 c κs = search needs
+
+enum-told-8 : tie.Need-enum-told-8
+enum-told-8 c = search needs
+
+put-build-requires : tie.Need-put-build-requires
+unfolding formOf
+put-build-requires c κs =
+    let line = now (c .before .before .before .before .before .before .before .before .args .line) in
+    let said = (ap (λ (r : Request). r .verb) (sym (c .before .before .before .before .read-request .ensures)) ∙ c .before .enum-told8 .given .1) in
+    asked line verb.Build said refl .short
+
+unchanged-requires-3 : tie.Need-unchanged-requires-3
+unchanged-requires-3 c κs = search needs
+
+enum-told-9 : tie.Need-enum-told-9
+enum-told-9 c = search needs
+
+put-build-down-requires : tie.Need-put-build-down-requires
+unfolding formOf
+put-build-down-requires c κs =
+    let line = now (c .before .before .before .before .before .before .before .before .args .line) in
+    let said = (ap (λ (r : Request). r .verb) (sym (c .before .before .before .before .read-request .ensures)) ∙ c .before .enum-told9 .given .1) in
+    asked line verb.BuildDown said refl .short
+
+unchanged-requires-4 : tie.Need-unchanged-requires-4
+unchanged-requires-4 c κs = search needs
+
+enum-told-10 : tie.Need-enum-told-10
+enum-told-10 c = search needs
+
+array-read-sizes-for : tie.Need-array-read-sizes-for
+array-read-sizes-for c = search needs
+
+sizes-for-requires : tie.Need-sizes-for-requires
+sizes-for-requires c κs = search needs
+
+put-sizes-requires : tie.Need-put-sizes-requires
+put-sizes-requires c κs = search needs
+
+unchanged-requires-5 : tie.Need-unchanged-requires-5
+unchanged-requires-5 c κs = search needs
+
+enum-told-11 : tie.Need-enum-told-11
+enum-told-11 c = search needs
+
+array-read-worst-for : tie.Need-array-read-worst-for
+array-read-worst-for c = search needs
+
+array-read-worst-for-2 : tie.Need-array-read-worst-for-2
+array-read-worst-for-2 c = search needs
+
+array-read-worst-for-3 : tie.Need-array-read-worst-for-3
+array-read-worst-for-3 c = search needs
+
+worst-for-requires : tie.Need-worst-for-requires
+worst-for-requires c κs = search needs
+
+put-worst-requires : tie.Need-put-worst-requires
+put-worst-requires c κs = search needs
+
+unchanged-requires-6 : tie.Need-unchanged-requires-6
+unchanged-requires-6 c κs = search needs
+
+enum-told-12 : tie.Need-enum-told-12
+enum-told-12 c = search needs
+
+unchanged-requires-7 : tie.Need-unchanged-requires-7
+unchanged-requires-7 c κs = search needs
+
+enum-told-13 : tie.Need-enum-told-13
+enum-told-13 c = search needs
+
+unchanged-requires-8 : tie.Need-unchanged-requires-8
+unchanged-requires-8 c κs = search needs
+
+enum-told-14 : tie.Need-enum-told-14
+enum-told-14 c = search needs
+
+unchanged-requires-9 : tie.Need-unchanged-requires-9
+unchanged-requires-9 c κs = search needs
+
+enum-told-15 : tie.Need-enum-told-15
+enum-told-15 c = search needs
+
+put-refusal-requires : tie.Need-put-refusal-requires
+put-refusal-requires c κs = search needs
+
+unchanged-requires-10 : tie.Need-unchanged-requires-10
+unchanged-requires-10 c κs = search needs
+
+same-length : tie.Need-same-length
+same-length c = search needs
+
+returns : tie.Need-returns
+unfolding stateBy rowBy storeBy
+returns c =
+    let args = c .before .before .before .before .before .before .before .before .before .before .before .before .args in
+    by-outcome (args .state) (args .four) (now (args .store)) (now (args .line)) (now (args .out)) (c .before .before .before .before .before .before .before .before .read-request .result) verb.New (c .before .before .before .before .before .before .before .before .read-request .ensures) (c .before .before .before .before .before .enum-told .given .1)
+    _ _ _ _ (c .before .before .before .before .new .ensures) (c .before .before .told .ensures) refl refl refl
+
+same-length-2 : tie.Need-same-length-2
+same-length-2 c = search needs
+
+same-length-3 : tie.Need-same-length-3
+same-length-3 c = search needs
+
+returns-2 : tie.Need-returns-2
+unfolding stateBy rowBy storeBy
+returns-2 c =
+    let args = c .before .before .before .before .before .before .before .before .before .before .before .before .before .before .before .args in
+    by-outcome (args .state) (args .four) (now (args .store)) (now (args .line)) (now (args .out)) (c .before .before .before .before .before .before .before .before .before .before .before .read-request .result) verb.Open (c .before .before .before .before .before .before .before .before .before .before .before .read-request .ensures) (c .before .before .before .before .before .before .before .before .enum-told2 .given .1)
+    _ _ _ _ (c .before .before .before .before .before .before .open-in .ensures .0) (c .before .before .told2 .ensures) refl refl (c .before .before .before .before .before .before .open-in .ensures .1)
+
+same-length-4 : tie.Need-same-length-4
+same-length-4 c = search needs
+
+same-length-5 : tie.Need-same-length-5
+same-length-5 c = search needs
+
+returns-3 : tie.Need-returns-3
+unfolding stateBy rowBy storeBy
+returns-3 c =
+    let args = c .before .before .before .before .before .before .before .before .before .before .before .before .before .before .before .args in
+    by-told (args .state) (args .four) (now (args .store)) (now (args .line)) (now (args .out)) (c .before .before .before .before .before .before .before .before .before .before .before .read-request .result) verb.OpenDown (c .before .before .before .before .before .before .before .before .before .before .before .read-request .ensures) (c .before .before .before .before .before .before .before .before .enum-told3 .given .1)
+    (λ (o : Outcome). shareRow o (getD (c .before .before .before .before .before .before .before .before .before .before .before .read-request .result .numbers) 0 0)) _ _ _ _ (c .before .before .before .before .before .before .opened-down .ensures .0) (c .before .before .told-share .ensures) refl refl (c .before .before .before .before .before .before .opened-down .ensures .1)
+
+same-length-6 : tie.Need-same-length-6
+same-length-6 c = search needs
+
+returns-4 : tie.Need-returns-4
+unfolding stateBy rowBy storeBy
+returns-4 c =
+    let args = c .before .before .before .before .before .before .before .before .before .before .before .before .args in
+    by-outcome (args .state) (args .four) (now (args .store)) (now (args .line)) (now (args .out)) (c .before .before .before .before .before .before .before .before .read-request .result) verb.Close (c .before .before .before .before .before .before .before .before .read-request .ensures) (c .before .before .before .before .before .enum-told4 .given .1)
+    _ _ _ _ (c .before .before .before .before .close .ensures) (c .before .before .told3 .ensures) refl refl refl
+
+same-length-7 : tie.Need-same-length-7
+same-length-7 c = search needs
+
+same-length-8 : tie.Need-same-length-8
+same-length-8 c = search needs
+
+returns-5 : tie.Need-returns-5
+unfolding stateBy rowBy storeBy
+returns-5 c =
+    let args = c .before .before .before .before .before .before .before .before .before .before .before .before .before .before .before .args in
+    by-outcome (args .state) (args .four) (now (args .store)) (now (args .line)) (now (args .out)) (c .before .before .before .before .before .before .before .before .before .before .before .read-request .result) verb.Receive (c .before .before .before .before .before .before .before .before .before .before .before .read-request .ensures) (c .before .before .before .before .before .before .before .before .enum-told5 .given .1)
+    _ _ _ _ (c .before .before .before .before .before .before .received .ensures .0) (c .before .before .told4 .ensures) (received-state _ _ _ _ _ _ _ _) refl (c .before .before .before .before .before .before .received .ensures .1)
+
+same-length-9 : tie.Need-same-length-9
+same-length-9 c = search needs
+
+same-length-10 : tie.Need-same-length-10
+same-length-10 c = search needs
+
+returns-6 : tie.Need-returns-6
+unfolding stateBy rowBy storeBy
+returns-6 c =
+    let args = c .before .before .before .before .before .before .before .before .before .before .before .before .before .args in
+    by-row (args .state) (args .four) (now (args .store)) (now (args .line)) (now (args .out)) (c .before .before .before .before .before .before .before .before .before .read-request .result) verb.Read (c .before .before .before .before .before .before .before .before .before .read-request .ensures) (c .before .before .before .before .before .before .enum-told6 .given .1)
+    _ _ _ _ (c .unchanged .ensures) (c .before .before .before .put-read .ensures) refl refl refl
+
+same-length-11 : tie.Need-same-length-11
+same-length-11 c = search needs
+
+same-length-12 : tie.Need-same-length-12
+same-length-12 c = search needs
+
+returns-7 : tie.Need-returns-7
+unfolding stateBy rowBy storeBy
+returns-7 c =
+    let args = c .before .before .before .before .before .before .before .before .before .before .before .before .before .args in
+    by-row (args .state) (args .four) (now (args .store)) (now (args .line)) (now (args .out)) (c .before .before .before .before .before .before .before .before .before .read-request .result) verb.Streams (c .before .before .before .before .before .before .before .before .before .read-request .ensures) (c .before .before .before .before .before .before .enum-told7 .given .1)
+    _ _ _ _ (c .unchanged2 .ensures) (c .before .before .before .put-streams .ensures) refl refl refl
+
+same-length-13 : tie.Need-same-length-13
+same-length-13 c = search needs
+
+returns-8 : tie.Need-returns-8
+unfolding stateBy rowBy storeBy
+returns-8 c =
+    let args = c .before .before .before .before .before .before .before .before .before .before .before .before .args in
+    by-row (args .state) (args .four) (now (args .store)) (now (args .line)) (now (args .out)) (c .before .before .before .before .before .before .before .before .read-request .result) verb.Build (c .before .before .before .before .before .before .before .before .read-request .ensures) (c .before .before .before .before .before .enum-told8 .given .1)
+    _ _ _ _ (c .unchanged3 .ensures) (c .before .before .before .put-build .ensures) refl refl refl
+
+same-length-14 : tie.Need-same-length-14
+same-length-14 c = search needs
+
+returns-9 : tie.Need-returns-9
+unfolding stateBy rowBy storeBy
+returns-9 c =
+    let args = c .before .before .before .before .before .before .before .before .before .before .before .before .args in
+    by-row (args .state) (args .four) (now (args .store)) (now (args .line)) (now (args .out)) (c .before .before .before .before .before .before .before .before .read-request .result) verb.BuildDown (c .before .before .before .before .before .before .before .before .read-request .ensures) (c .before .before .before .before .before .enum-told9 .given .1)
+    _ _ _ _ (c .unchanged4 .ensures) (c .before .before .before .put-build-down .ensures) refl refl refl
+
+same-length-15 : tie.Need-same-length-15
+same-length-15 c = search needs
+
+returns-10 : tie.Need-returns-10
+unfolding stateBy rowBy storeBy
+returns-10 c =
+    let args = c .before .before .before .before .before .before .before .before .before .before .before .before .before .args in
+    by-row (args .state) (args .four) (now (args .store)) (now (args .line)) (now (args .out)) (c .before .before .before .before .before .before .before .before .before .read-request .result) verb.Sizes (c .before .before .before .before .before .before .before .before .before .read-request .ensures) (c .before .before .before .before .before .before .enum-told10 .given .1)
+    _ _ _ _ (c .unchanged5 .ensures) (c .before .before .before .put-sizes .ensures) refl (ap sizesRow (c .before .before .before .before .before .sizes-for .ensures)) refl
+
+same-length-16 : tie.Need-same-length-16
+same-length-16 c = search needs
+
+returns-11 : tie.Need-returns-11
+unfolding stateBy rowBy storeBy
+returns-11 c =
+    let args = c .before .before .before .before .before .before .before .before .before .before .before .before .before .args in
+    by-row (args .state) (args .four) (now (args .store)) (now (args .line)) (now (args .out)) (c .before .before .before .before .before .before .before .before .before .read-request .result) verb.Worst (c .before .before .before .before .before .before .before .before .before .read-request .ensures) (c .before .before .before .before .before .before .enum-told11 .given .1)
+    _ _ _ _ (c .unchanged6 .ensures) (c .before .before .before .put-worst .ensures) refl (ap worstRow (c .before .before .before .before .before .worst-for .ensures)) refl
+
+returns-12 : tie.Need-returns-12
+unfolding stateBy rowBy storeBy
+returns-12 c =
+    let args = c .before .before .before .before .before .before .before .before .args in
+    by-row (args .state) (args .four) (now (args .store)) (now (args .line)) (now (args .out)) (c .before .before .before .before .read-request .result) verb.Pack (c .before .before .before .before .read-request .ensures) (c .before .enum-told12 .given .1)
+    _ _ _ _ (c .unchanged7 .ensures) (end-nothing (now (args .out)), put-nothing (now (args .out))) refl refl refl
+
+returns-13 : tie.Need-returns-13
+unfolding stateBy rowBy storeBy
+returns-13 c =
+    let args = c .before .before .before .before .before .before .before .before .args in
+    by-row (args .state) (args .four) (now (args .store)) (now (args .line)) (now (args .out)) (c .before .before .before .before .read-request .result) verb.Unpack (c .before .before .before .before .read-request .ensures) (c .before .enum-told13 .given .1)
+    _ _ _ _ (c .unchanged8 .ensures) (end-nothing (now (args .out)), put-nothing (now (args .out))) refl refl refl
+
+returns-14 : tie.Need-returns-14
+unfolding stateBy rowBy storeBy
+returns-14 c =
+    let args = c .before .before .before .before .before .before .before .before .args in
+    by-row (args .state) (args .four) (now (args .store)) (now (args .line)) (now (args .out)) (c .before .before .before .before .read-request .result) verb.Nothing (c .before .before .before .before .read-request .ensures) (c .before .enum-told14 .given .1)
+    _ _ _ _ (c .unchanged9 .ensures) (end-nothing (now (args .out)), put-nothing (now (args .out))) refl refl refl
+
+same-length-17 : tie.Need-same-length-17
+same-length-17 c = search needs
+
+returns-15 : tie.Need-returns-15
+unfolding stateBy rowBy storeBy
+returns-15 c =
+    let args = c .before .before .before .before .before .before .before .before .before .before .before .before .args in
+    by-row (args .state) (args .four) (now (args .store)) (now (args .line)) (now (args .out)) (c .before .before .before .before .before .before .before .before .read-request .result) verb.Unreadable (c .before .before .before .before .before .before .before .before .read-request .ensures) (c .before .before .before .before .before .enum-told15 .given .1)
+    _ _ _ _ (c .unchanged10 .ensures) (c .before .before .before .put-refusal .ensures) refl refl refl
+
+pub call-line-spec : {M : Type 1} → statement M
+call-line-spec =
+    tie.close
+    (tie.spec
+    read-request-requires
+    enum-told
+    array-read-new
+    array-read-new-2
+    new-requires
+    told-requires
+    enum-told-2
+    array-read-open-in
+    array-read-open-in-2
+    cast-open-in
+    array-read-open-in-3
+    open-in-requires
+    told-requires-2
+    enum-told-3
+    opened-down-requires
+    array-read-told-share
+    told-share-requires
+    enum-told-4
+    array-read-close
+    array-read-close-2
+    cast-close
+    close-requires
+    told-requires-3
+    enum-told-5
+    received-requires
+    told-requires-4
+    enum-told-6
+    array-read-put-read
+    array-read-put-read-2
+    cast-put-read
+    put-read-requires
+    unchanged-requires
+    enum-told-7
+    array-read-put-streams
+    array-read-put-streams-2
+    cast-put-streams
+    array-read-put-streams-3
+    put-streams-requires
+    unchanged-requires-2
+    enum-told-8
+    put-build-requires
+    unchanged-requires-3
+    enum-told-9
+    put-build-down-requires
+    unchanged-requires-4
+    enum-told-10
+    array-read-sizes-for
+    sizes-for-requires
+    put-sizes-requires
+    unchanged-requires-5
+    enum-told-11
+    array-read-worst-for
+    array-read-worst-for-2
+    array-read-worst-for-3
+    worst-for-requires
+    put-worst-requires
+    unchanged-requires-6
+    enum-told-12
+    unchanged-requires-7
+    enum-told-13
+    unchanged-requires-8
+    enum-told-14
+    unchanged-requires-9
+    enum-told-15
+    put-refusal-requires
+    unchanged-requires-10
+    same-length
+    returns
+    same-length-2
+    same-length-3
+    returns-2
+    same-length-4
+    same-length-5
+    returns-3
+    same-length-6
+    returns-4
+    same-length-7
+    same-length-8
+    returns-5
+    same-length-9
+    same-length-10
+    returns-6
+    same-length-11
+    same-length-12
+    returns-7
+    same-length-13
+    returns-8
+    same-length-14
+    returns-9
+    same-length-15
+    returns-10
+    same-length-16
+    returns-11
+    returns-12
+    returns-13
+    returns-14
+    same-length-17
+    returns-15)

@@ -1,0 +1,38 @@
+-- `yard::change::form_number` meets its contract: each test is the definition's own, by division.
+-- Assumes nothing.
+use borrow.Author.Needs.{needs}
+use Rattle.yard.proofs.Changed.{none-number, many-number, plain-short, packed-short, both-fit}
+use Rattle.yard.proofs.change.form_number.Statement.{statement}
+use Rattle.yard.proofs.change.form_number.Tie as tie
+
+returns : tie.Need-returns
+returns c = none-number _ _ _ (c .if1 .taken)
+
+returns-2 : tie.Need-returns-2
+returns-2 c = many-number _ _ _ (c .if2 .taken)
+
+mul-if3 : tie.Need-mul-if3
+mul-if3 c = search needs
+
+div-if3 : tie.Need-div-if3
+div-if3 c = search needs
+
+returns-3 : tie.Need-returns-3
+returns-3 c = plain-short _ _ _ (c .before .before .before .if1 .left) (c .before .before .if2 .left) (c .if3 .taken)
+
+mul-if4 : tie.Need-mul-if4
+mul-if4 c = search needs
+
+div-if4 : tie.Need-div-if4
+div-if4 c = search needs
+
+returns-4 : tie.Need-returns-4
+returns-4 c = packed-short _ _ _ (c .before .before .before .before .before .if1 .left) (c .before .before .before .before .if2 .left) (c .before .before .if3 .left) (c .if4 .taken)
+
+returns-5 : tie.Need-returns-5
+returns-5 c = both-fit _ _ _ (c .before .before .before .before .before .if1 .left) (c .before .before .before .before .if2 .left) (c .before .before .if3 .left) (c .if4 .left)
+
+pub form-number-spec : {M : Type 1} → statement M
+form-number-spec =
+    tie.close
+    (tie.spec returns returns-2 mul-if3 div-if3 returns-3 mul-if4 div-if4 returns-4 returns-5)

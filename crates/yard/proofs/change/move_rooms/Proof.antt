@@ -1,0 +1,53 @@
+-- `yard::change::move_rooms` meets its contract: each way by its own, with the laws of `Changed`.
+-- Assumes nothing.
+use mathlib.Core.Path.{_≡_, refl}
+use borrow.Author.Tests.{not-true, not-false}
+use borrow.Author.Needs.{needs}
+use Rattle.yard.proofs.Changed.{rooms-fit}
+use Rattle.yard.proofs.change.move_rooms.Statement.{statement}
+use Rattle.yard.proofs.change.move_rooms.Tie as tie
+
+returns : tie.Need-returns
+returns c = search needs
+
+change-rooms-requires : tie.Need-change-rooms-requires
+change-rooms-requires c κs = rooms-fit _ _ _ (c .before .before .before .before .before .before .pre)
+
+same-length : tie.Need-same-length
+same-length c = search needs
+
+same-length-2 : tie.Need-same-length-2
+same-length-2 c = search needs
+
+returns-2 : tie.Need-returns-2
+returns-2 c = rw (c .before .before .before .before .before .before .if1 .taken, c .before .before .before .before .before .if2 .left) (refl, c .before .before .change-rooms .ensures)
+
+returns-3 : tie.Need-returns-3
+returns-3 c = rw (c .before .if1 .left, not-true (c .before .before .before .before .args .four) (c .if3 .taken)) (refl, refl)
+
+change-rooms-requires-2 : tie.Need-change-rooms-requires-2
+change-rooms-requires-2 c κs = let fit = rooms-fit _ _ _ (c .before .before .before .before .before .before .pre) in (fit .0, (fit .1 .1, fit .1 .0))
+
+same-length-3 : tie.Need-same-length-3
+same-length-3 c = search needs
+
+same-length-4 : tie.Need-same-length-4
+same-length-4 c = search needs
+
+returns-4 : tie.Need-returns-4
+returns-4 c = rw (c .before .before .before .before .before .before .if1 .left, not-false (c .before .before .before .before .before .before .before .before .before .args .four) (c .before .before .before .before .before .if3 .left)) (c .before .before .change-rooms2 .ensures, refl)
+
+pub move-rooms-spec : {M : Type 1} → statement M
+move-rooms-spec =
+    tie.close
+    (tie.spec
+    returns
+    change-rooms-requires
+    same-length
+    same-length-2
+    returns-2
+    returns-3
+    change-rooms-requires-2
+    same-length-3
+    same-length-4
+    returns-4)

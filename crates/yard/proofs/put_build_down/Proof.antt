@@ -1,0 +1,56 @@
+-- `yard::put_build_down` meets its contract: the line's BITS are the block.
+-- Assumes nothing.
+use mathlib.Core.Path.{_≡_}
+use Prim.Native.Nat.{_≤_}
+use native.Mathlib.Omega.{arith}
+use lib.ListN.{length, take}
+use denote.Ref.{now}
+use Rattle.laws.proofs.Parts.{front-count}
+use Rattle.requests.specs.Request.{bitsFrom}
+use Rattle.yard.proofs.Given.{given-bits}
+use borrow.Author.Needs.{needs}
+use Rattle.yard.proofs.put_build_down.Statement.{statement}
+use Rattle.yard.proofs.put_build_down.Tie as tie
+
+bits-room-requires : tie.Need-bits-room-requires
+bits-room-requires c κs = search needs
+
+slice-aggregate-read-bits : tie.Need-slice-aggregate-read-bits
+slice-aggregate-read-bits c = search needs
+
+read-bits-requires : tie.Need-read-bits-requires
+read-bits-requires c κs = search needs
+
+array-share-prefix-given : tie.Need-array-share-prefix-given
+array-share-prefix-given c =
+    let bits = c .before .read-bits in
+    let args = c .before .before .before .before .before .before .args in
+    omega (arith, given-bits (now (args .line)) (args .from) _ (omega (arith, c .before .before .before .before .before .before .pre, c .before .before .before .bits-room .ensures)) (bits .ensures .0) (bits .ensures .1) .0, bits .kept .1 .1 .0)
+
+slice-aggregate-put-codeword-down : tie.Need-slice-aggregate-put-codeword-down
+slice-aggregate-put-codeword-down c = front-count _ _ (array-share-prefix-given (c .before))
+
+put-codeword-down-requires : tie.Need-put-codeword-down-requires
+put-codeword-down-requires c κs = search needs
+
+same-length : tie.Need-same-length
+same-length c = search needs
+
+returns : tie.Need-returns
+returns c =
+    let args = c .before .before .before .before .before .before .before .before .before .before .before .args in
+    let bits = c .before .before .before .before .before .before .read-bits in
+    rw (given-bits (now (args .line)) (args .from) _ (omega (arith, c .before .before .before .before .before .before .before .before .before .before .before .pre, c .before .before .before .before .before .before .before .before .bits-room .ensures)) (bits .ensures .0) (bits .ensures .1) .1) at (c .before .before .put-codeword-down .ensures)
+
+pub put-build-down-spec : {M : Type 1} → statement M
+put-build-down-spec =
+    tie.close
+    (tie.spec
+    bits-room-requires
+    slice-aggregate-read-bits
+    read-bits-requires
+    array-share-prefix-given
+    slice-aggregate-put-codeword-down
+    put-codeword-down-requires
+    same-length
+    returns)

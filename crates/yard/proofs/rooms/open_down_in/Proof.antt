@@ -1,0 +1,36 @@
+-- `yard::rooms::open_down_in` meets its contract: the call of each form.
+-- Assumes nothing.
+use borrow.Author.Needs.{needs}
+use Rattle.packing.specs.Store.{placesIn, inForm}
+use Rattle.yard.proofs.rooms.open_down_in.Statement.{statement}
+use Rattle.yard.proofs.rooms.open_down_in.Tie as tie
+
+open-down-packed-requires : tie.Need-open-down-packed-requires
+open-down-packed-requires c κs = search needs
+
+open-down-requires : tie.Need-open-down-requires
+open-down-requires c κs = search needs
+
+same-length : tie.Need-same-length
+same-length c = search needs
+
+returns : tie.Need-returns
+returns c = rw (c .before .before .before .before .if1 .taken) (c .before .before .open-down-packed .ensures)
+
+same-length-2 : tie.Need-same-length-2
+same-length-2 c = search needs
+
+returns-2 : tie.Need-returns-2
+unfolding placesIn inForm
+returns-2 c = rw (c .before .before .before .before .if1 .left) (c .before .before .open-down .ensures)
+
+pub open-down-in-spec : {M : Type 1} → statement M
+open-down-in-spec =
+    tie.close
+    (tie.spec
+    open-down-packed-requires
+    open-down-requires
+    same-length
+    returns
+    same-length-2
+    returns-2)
