@@ -329,10 +329,10 @@ uint32_t zemrukste_unpack(size_t m, const uint8_t *from, size_t from_len, uint8_
  *
  * What is proved of a history of calls holds for a caller who begins with zemrukste_new, hands
  * each call the state and the store as the last one left them, and writes neither himself. After
- * each call the bytes stand for the very state that the proved call returns: new-handed,
- * open-handed, down-handed and close-handed, crates/face/proofs/Handed.antt. So a block is
- * released exactly when every data bit of it was heard since its opening, and none of another
- * car's: released-iff and since-opening, crates/history.
+ * each call what he keeps stands for the state and the rooms of that history: history-in-c,
+ * crates/statements/proofs/InC.antt. So a block is released exactly when every data bit of it was
+ * heard since its opening, and none of another car's: released-iff and since-opening,
+ * crates/history.
  */
 
 /*

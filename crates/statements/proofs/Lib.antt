@@ -1,3 +1,4 @@
 pub mod Single
 pub mod Numbers
 pub mod SingleToC
+pub mod InC
