@@ -9,6 +9,7 @@
 
 use crate::segmentation::Segmentation;
 use crate::packing::{self, PACKED_OF_BLOCK};
+use crate::slots_c::state_bytes;
 use crate::slots::{self, Head, Refusal, State, ROOM_OF_BLOCK};
 use crate::soft_buffer::{Receiver, WHOLE_SHARE};
 use crate::older::black_box;
@@ -105,11 +106,11 @@ mod library {
             out_len: usize,
         ) -> u32;
 
-        /// The exports of crates/heard: one slot, open for terminal 0.
-        pub fn heard_receive(
-            m: usize,
-            a: usize,
-            share: usize,
+        pub fn zemrukste_receive(
+            state: *const u8,
+            state_len: usize,
+            slot: usize,
+            terminal: u16,
             q: usize,
             n: usize,
             version: usize,
@@ -117,12 +118,13 @@ mod library {
             bits_len: usize,
             store: *mut u8,
             store_len: usize,
-            lacking: *mut usize,
+            count: *mut usize,
         ) -> u32;
-        pub fn heard_receive_packed(
-            m: usize,
-            a: usize,
-            share: usize,
+        pub fn zemrukste_receive_packed(
+            state: *const u8,
+            state_len: usize,
+            slot: usize,
+            terminal: u16,
             q: usize,
             n: usize,
             version: usize,
@@ -130,27 +132,29 @@ mod library {
             bits_len: usize,
             store: *mut u8,
             store_len: usize,
-            lacking: *mut usize,
+            count: *mut usize,
         ) -> u32;
-        pub fn heard_read_packed(
-            m: usize,
-            a: usize,
-            share: usize,
+        pub fn zemrukste_read(
+            state: *const u8,
+            state_len: usize,
+            slot: usize,
+            terminal: u16,
             store: *const u8,
             store_len: usize,
             out: *mut u8,
             out_len: usize,
-            lacking: *mut usize,
+            count: *mut usize,
         ) -> u32;
-        pub fn heard_read(
-            m: usize,
-            a: usize,
-            share: usize,
+        pub fn zemrukste_read_packed(
+            state: *const u8,
+            state_len: usize,
+            slot: usize,
+            terminal: u16,
             store: *const u8,
             store_len: usize,
             out: *mut u8,
             out_len: usize,
-            lacking: *mut usize,
+            count: *mut usize,
         ) -> u32;
     }
 }
@@ -439,18 +443,20 @@ fn open_slot(a: usize, share: usize) -> State {
 /// Opening is in no one's time.
 fn receive_runners(a: usize, share: usize, bits: Vec<u8>) -> [Runner; 3] {
     let state = open_slot(a, share);
+    let bytes = state_bytes(&state);
     let [rattle, fast, literal] = [bits.clone(), bits.clone(), bits];
     let length = state.m * ROOM_OF_BLOCK;
     [
         Runner::of(length, move |store| {
-            let (state, bits) = (black_box(&state), black_box(&rattle));
+            let (state, bits) = (black_box(&bytes), black_box(&rattle));
             let mut lacking = 0;
             // Slices of Rust and a number of its own, as above.
             let number = unsafe {
-                library::heard_receive(
-                    state.m,
-                    state.heads[0].a,
-                    state.heads[0].share,
+                library::zemrukste_receive(
+                    state.as_ptr(),
+                    state.len(),
+                    0,
+                    TERMINAL,
                     Q,
                     N,
                     VERSION,
@@ -475,19 +481,21 @@ fn receive_runners(a: usize, share: usize, bits: Vec<u8>) -> [Runner; 3] {
 /// The literal program unpacks the whole store, receives and packs it again.
 fn receive_packed_runners(a: usize, bits: Vec<u8>) -> [Runner; 3] {
     let state = open_slot(a, WHOLE_SHARE);
+    let bytes = state_bytes(&state);
     let [rattle, fast, literal] = [bits.clone(), bits.clone(), bits];
     let length = state.m * PACKED_OF_BLOCK;
     let mut room = vec![0; state.m * ROOM_OF_BLOCK];
     let runners = [
         Runner::of(length, move |store| {
-            let (state, bits) = (black_box(&state), black_box(&rattle));
+            let (state, bits) = (black_box(&bytes), black_box(&rattle));
             let mut lacking = 0;
             // Slices of Rust and a number of its own, as above.
             let number = unsafe {
-                library::heard_receive_packed(
-                    state.m,
-                    state.heads[0].a,
-                    state.heads[0].share,
+                library::zemrukste_receive_packed(
+                    state.as_ptr(),
+                    state.len(),
+                    0,
+                    TERMINAL,
                     Q,
                     N,
                     VERSION,
@@ -516,6 +524,7 @@ fn receive_packed_runners(a: usize, bits: Vec<u8>) -> [Runner; 3] {
 
 fn read_packed_runners(a: usize, bits: Vec<u8>) -> [Runner; 3] {
     let state = open_slot(a, WHOLE_SHARE);
+    let bytes = state_bytes(&state);
     let mut room = vec![slots::UNHEARD; state.m * ROOM_OF_BLOCK];
     let _ = slots::receive(state, &mut room, 0, TERMINAL, Q, N, VERSION, &bits);
     let mut store = vec![0; state.m * PACKED_OF_BLOCK];
@@ -525,14 +534,15 @@ fn read_packed_runners(a: usize, bits: Vec<u8>) -> [Runner; 3] {
     let done = |answer: slots::Answer| told(answer.map(|()| 0));
     [
         Runner::of(codeword::A_MAX, move |out| {
-            let (state, store) = (black_box(&state), black_box(&rattle));
+            let (state, store) = (black_box(&bytes), black_box(&rattle));
             let mut lacking = 0;
             // Slices of Rust and a number of its own, as above.
             let number = unsafe {
-                library::heard_read_packed(
-                    state.m,
-                    state.heads[0].a,
-                    state.heads[0].share,
+                library::zemrukste_read_packed(
+                    state.as_ptr(),
+                    state.len(),
+                    0,
+                    TERMINAL,
                     store.as_ptr(),
                     store.len(),
                     out.as_mut_ptr(),
@@ -554,6 +564,7 @@ fn read_packed_runners(a: usize, bits: Vec<u8>) -> [Runner; 3] {
 
 fn read_runners(a: usize, bits: Vec<u8>) -> [Runner; 3] {
     let state = open_slot(a, WHOLE_SHARE);
+    let bytes = state_bytes(&state);
     let mut store = vec![slots::UNHEARD; state.m * ROOM_OF_BLOCK];
     let _ = slots::receive(state, &mut store, 0, TERMINAL, Q, N, VERSION, &bits);
     let mut workspace = fast_slots::Workspace::default();
@@ -561,14 +572,15 @@ fn read_runners(a: usize, bits: Vec<u8>) -> [Runner; 3] {
     let done = |answer: slots::Answer| told(answer.map(|()| 0));
     [
         Runner::of(codeword::A_MAX, move |out| {
-            let (state, store) = (black_box(&state), black_box(&rattle));
+            let (state, store) = (black_box(&bytes), black_box(&rattle));
             let mut lacking = 0;
             // Slices of Rust and a number of its own, as above.
             let number = unsafe {
-                library::heard_read(
-                    state.m,
-                    state.heads[0].a,
-                    state.heads[0].share,
+                library::zemrukste_read(
+                    state.as_ptr(),
+                    state.len(),
+                    0,
+                    TERMINAL,
                     store.as_ptr(),
                     store.len(),
                     out.as_mut_ptr(),

@@ -36,6 +36,7 @@ mod cases_two; // and of a block in two slices
 pub mod cases_control; // of that, the control calls
 pub mod cases_down; // of Build for a downlink
 pub mod compare; // asks it and compares
+pub mod slots_c; // histories of the calls on slots as C has them
 pub mod stub; // a bridge to this program, sound or with a planted fault
 pub mod replay; // the calls of 01 as lines with answers
 pub mod replay_faults; // the same as a program, sound or with a planted fault

@@ -1,7 +1,7 @@
 //! The command line of the second program.
 
 use independent::compare::{self, Options};
-use independent::{figures, histories, replay_faults, sizes, stage, stub, xorshift};
+use independent::{figures, histories, replay_faults, sizes, slots_c, stage, stub, xorshift};
 use std::fs::File;
 use std::io::{self, Read, Write};
 use std::os::unix::io::AsFd;
@@ -38,6 +38,9 @@ independent histories [--seed N] [--histories N] [--only N] COMMAND...
     --seed N       what the histories are made from, 1 if not given
     --histories N  how many, 2000 if not given
     --only N       send only history N, counted from 0; the rooms begin as zeros
+independent slots [--seed N] [--histories N] COMMAND...
+    the same for the calls on slots as C has them, behind the bridge COMMAND
+    (face/slots_bridge.c), on a state that is kept as bytes; a step counts as a case
 independent figures
     the numbers of the pictures, for scripts/pictures
 independent bench [CALL] [--rounds N] [--only NAME --calls N] [A:G]...
@@ -74,6 +77,7 @@ fn main() -> ExitCode {
 fn run(words: &[&str]) -> Result<ExitCode, String> {
     match words {
         ["compare", rest @ ..] => return compare_status(rest),
+        ["slots", rest @ ..] => return slots_status(rest),
         ["bridge-stub", rest @ ..] => bridge_stub(rest)?,
         ["replay", rest @ ..] => replay(rest)?,
         ["histories", rest @ ..] => return histories_status(rest),
@@ -134,6 +138,17 @@ fn replay(words: &[&str]) -> Result<(), String> {
 
 fn histories_status(words: &[&str]) -> Result<ExitCode, String> {
     let outcome = histories::run(&histories_options(words)?)?;
+    println!("{} passed, {} failed", outcome.passed, outcome.failed);
+    Ok(ExitCode::from(u8::from(outcome.failed > 0)))
+}
+
+/// Histories of the calls on slots as C has them; tells how often each call answered each number.
+fn slots_status(words: &[&str]) -> Result<ExitCode, String> {
+    let histories::Options { seed, histories, command, .. } = histories_options(words)?;
+    let outcome = slots_c::run(seed, histories, &command)?;
+    for ((call, number), count) in &outcome.answers {
+        println!("{call} answered {number}: {count}");
+    }
     println!("{} passed, {} failed", outcome.passed, outcome.failed);
     Ok(ExitCode::from(u8::from(outcome.failed > 0)))
 }
