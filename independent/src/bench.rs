@@ -1,20 +1,23 @@
 //! Build, of one slice, of two and for a downlink, Receive, Read, the calls with a report and control messages timed: the proved library beside the fast and the literal
-//! program, all three linked into one process and called by turns. Feature `linked` alone,
-//! since the library must be linked too: `scripts/bench` does both.
+//! program, all three linked into one process and called by turns, the library through its Rust
+//! wrapper. Feature `linked` alone, since the library must be installed for it: `scripts/bench`
+//! does both.
 //!
 //! A row is a block and a G. Each of the three has its own output (for Receive that is its
-//! store); outputs and the fast programs' workspaces are not cleared between calls. In each
-//! round each of the three makes enough calls to fill `BATCH`, another one first each time;
-//! the least time a call stands.
+//! store, which the wrapper keeps itself); outputs and the fast programs' workspaces are not
+//! cleared between calls. In each round each of the three makes enough calls to fill `BATCH`,
+//! another one first each time; the least time a call stands.
 
 use crate::segmentation::Segmentation;
 use crate::packing::{self, PACKED_OF_BLOCK};
-use crate::slots_c::state_bytes;
 use crate::slots::{self, Head, Refusal, State, ROOM_OF_BLOCK};
 use crate::soft_buffer::{Receiver, WHOLE_SHARE};
 use crate::older::black_box;
 use crate::{codeword, control, fast, fast_control, fast_report, fast_slots, report, xorshift};
+use std::cell::RefCell;
+use std::rc::Rc;
 use std::time::{Duration, Instant};
+use zemrukste::Yard;
 
 /// What is timed, as `--only` names it and in the order of the table.
 pub const NAMES: [&str; 3] = ["rattle", "fast", "literal"];
@@ -29,135 +32,6 @@ const VERSION: usize = 0;
 
 /// Slot 0 is open for this terminal.
 const TERMINAL: u16 = 0;
-
-mod library {
-    extern "C" {
-        /// As include/zemrukste.h has it.
-        pub fn zemrukste_build(
-            block: *const u8,
-            block_len: usize,
-            q: usize,
-            n: usize,
-            version: usize,
-            g: usize,
-            out: *mut u8,
-            out_len: usize,
-        ) -> u32;
-
-        pub fn zemrukste_build_two(
-            header: *const u8,
-            header_len: usize,
-            payload: *const u8,
-            payload_len: usize,
-            q: usize,
-            n: usize,
-            version: usize,
-            g: usize,
-            out: *mut u8,
-            out_len: usize,
-        ) -> u32;
-        pub fn zemrukste_report_build(
-            report: *const u8,
-            report_len: usize,
-            control: usize,
-            block: *const u8,
-            block_len: usize,
-            q: usize,
-            n: usize,
-            version: usize,
-            g: usize,
-            out: *mut u8,
-            out_len: usize,
-        ) -> u32;
-        pub fn zemrukste_report_part(
-            a: usize,
-            q: usize,
-            n: usize,
-            o: usize,
-            control: usize,
-            received: *const u8,
-            received_len: usize,
-            out: *mut u8,
-            out_len: usize,
-        ) -> u32;
-
-        pub fn zemrukste_control_build(
-            payload: *const u8,
-            payload_len: usize,
-            terminal: u16,
-            e: usize,
-            out: *mut u8,
-            out_len: usize,
-        ) -> u32;
-
-        pub fn zemrukste_build_down(
-            block: *const u8,
-            block_len: usize,
-            release: usize,
-            mimo: usize,
-            processes: usize,
-            soft: usize,
-            layers: usize,
-            q: usize,
-            n: usize,
-            version: usize,
-            g: usize,
-            out: *mut u8,
-            out_len: usize,
-        ) -> u32;
-
-        pub fn zemrukste_receive(
-            state: *const u8,
-            state_len: usize,
-            slot: usize,
-            terminal: u16,
-            q: usize,
-            n: usize,
-            version: usize,
-            bits: *const u8,
-            bits_len: usize,
-            store: *mut u8,
-            store_len: usize,
-            count: *mut usize,
-        ) -> u32;
-        pub fn zemrukste_receive_packed(
-            state: *const u8,
-            state_len: usize,
-            slot: usize,
-            terminal: u16,
-            q: usize,
-            n: usize,
-            version: usize,
-            bits: *const u8,
-            bits_len: usize,
-            store: *mut u8,
-            store_len: usize,
-            count: *mut usize,
-        ) -> u32;
-        pub fn zemrukste_read(
-            state: *const u8,
-            state_len: usize,
-            slot: usize,
-            terminal: u16,
-            store: *const u8,
-            store_len: usize,
-            out: *mut u8,
-            out_len: usize,
-            count: *mut usize,
-        ) -> u32;
-        pub fn zemrukste_read_packed(
-            state: *const u8,
-            state_len: usize,
-            slot: usize,
-            terminal: u16,
-            store: *const u8,
-            store_len: usize,
-            out: *mut u8,
-            out_len: usize,
-            count: *mut usize,
-        ) -> u32;
-    }
-}
 
 /// The calls that are timed.
 #[derive(Clone, Copy)]
@@ -282,11 +156,21 @@ struct Runner {
     output: Vec<u8>,
     /// What stands in the output before the first call.
     fill: u8,
+    /// The yard whose rooms are written in the output's stead.
+    yard: Option<Rc<RefCell<Yard>>>,
 }
 
 impl Runner {
     fn of(length: usize, call: impl FnMut(&mut [u8]) -> Answer + 'static) -> Runner {
-        Runner { call: Box::new(call), output: vec![0; length], fill: 7 }
+        Runner { call: Box::new(call), output: vec![0; length], fill: 7, yard: None }
+    }
+
+    /// Receive through the wrapper.
+    fn receiving(yard: Yard, bits: Vec<u8>) -> Runner {
+        let yard = Rc::new(RefCell::new(yard));
+        let called = Rc::clone(&yard);
+        let call = move |_: &mut [u8]| given(called.borrow_mut().receive(0, TERMINAL, Q, N, VERSION, black_box(&bits)));
+        Runner { yard: Some(yard), ..Runner::of(0, call) }
     }
 
     fn call(&mut self) -> Answer {
@@ -300,6 +184,16 @@ impl Runner {
             black_box(self.call());
         }
         start.elapsed()
+    }
+}
+
+/// What the wrapper gives.
+fn given(answer: Result<usize, zemrukste::Refusal>) -> Answer {
+    match answer {
+        Ok(lacking) => (0, lacking),
+        Err(zemrukste::Refusal::Lacking(lacking)) => (slots::LACKING.into(), lacking),
+        Err(zemrukste::Refusal::WrongCodeBlock(r)) => (slots::CODE_BLOCK_WRONG.into(), r),
+        Err(refusal) => (refusal.number(), 0),
     }
 }
 
@@ -319,12 +213,7 @@ fn build_runners(block: Vec<u8>, g: usize) -> [Runner; 3] {
     let [rattle, fast, literal] = blocks;
     [
         Runner::of(codeword::G_MAX, move |out| {
-            let block = black_box(&rattle);
-            // Two slices of Rust, so both are there for their lengths and do not overlap.
-            let number = unsafe {
-                library::zemrukste_build(block.as_ptr(), block.len(), Q, N, VERSION, g, out.as_mut_ptr(), out.len())
-            };
-            (number, 0)
+            given(zemrukste::build(black_box(&rattle), Q, N, VERSION, g, out).map(|_| 0))
         }),
         Runner::of(codeword::G_MAX, move |out| number(workspace.build_into(black_box(&fast), Q, N, VERSION, g, out))),
         Runner::of(codeword::G_MAX, move |out| number(codeword::build_into(black_box(&literal), Q, N, VERSION, g, out))),
@@ -342,22 +231,7 @@ fn build_two_runners(block: Vec<u8>, g: usize) -> [Runner; 3] {
     [
         Runner::of(codeword::G_MAX, move |out| {
             let (header, payload) = black_box(&rattle);
-            // Slices of Rust, as above.
-            let number = unsafe {
-                library::zemrukste_build_two(
-                    header.as_ptr(),
-                    header.len(),
-                    payload.as_ptr(),
-                    payload.len(),
-                    Q,
-                    N,
-                    VERSION,
-                    g,
-                    out.as_mut_ptr(),
-                    out.len(),
-                )
-            };
-            (number, 0)
+            given(zemrukste::build_two(header, payload, Q, N, VERSION, g, out).map(|_| 0))
         }),
         Runner::of(codeword::G_MAX, move |out| {
             let (header, payload) = black_box(&fast);
@@ -379,12 +253,7 @@ fn control_runners(payload: Vec<u8>, e: usize) -> [Runner; 3] {
     let [rattle, fast, literal] = [payload.clone(), payload.clone(), payload];
     [
         Runner::of(control::E_MAX, move |out| {
-            let payload = black_box(&rattle);
-            // Slices of Rust, as above.
-            let number = unsafe {
-                library::zemrukste_control_build(payload.as_ptr(), payload.len(), 9, e, out.as_mut_ptr(), out.len())
-            };
-            (number, 0)
+            given(zemrukste::control_build(black_box(&rattle), 9, e, out).map(|_| 0))
         }),
         Runner::of(control::E_MAX, move |out| number(fast_control::build_into(black_box(&fast), 9, e, out))),
         Runner::of(control::E_MAX, move |out| number(control::build_into(black_box(&literal), 9, e, out))),
@@ -401,26 +270,7 @@ fn build_down_runners(block: Vec<u8>, places: usize, g: usize) -> [Runner; 3] {
     let number = |answer: Result<(), u8>| (answer.map_or_else(u32::from, |()| 0), 0);
     [
         Runner::of(codeword::G_MAX, move |out| {
-            let (block, told) = (black_box(&rattle), black_box(receiver));
-            // Two slices of Rust, as above.
-            let number = unsafe {
-                library::zemrukste_build_down(
-                    block.as_ptr(),
-                    block.len(),
-                    told.release,
-                    told.mimo,
-                    told.processes,
-                    told.soft,
-                    told.layers,
-                    Q,
-                    N,
-                    VERSION,
-                    g,
-                    out.as_mut_ptr(),
-                    out.len(),
-                )
-            };
-            (number, 0)
+            given(zemrukste::build_down(black_box(&rattle), &wrapped(black_box(receiver)), Q, N, VERSION, g, out).map(|_| 0))
         }),
         Runner::of(codeword::G_MAX, move |out| {
             number(workspace.build_down_into(black_box(&fast), &black_box(receiver), Q, N, VERSION, g, out))
@@ -431,8 +281,7 @@ fn build_down_runners(block: Vec<u8>, places: usize, g: usize) -> [Runner; 3] {
     ]
 }
 
-/// A slot for the code blocks of A, open; a store full of anything but bits is as good as a
-/// cleared one.
+/// A slot for the code blocks of A, open.
 fn open_slot(a: usize, share: usize) -> State {
     let m = Segmentation::of(a + 24).blocks;
     let (mut state, _) = slots::new(1, m);
@@ -440,74 +289,52 @@ fn open_slot(a: usize, share: usize) -> State {
     state
 }
 
+/// The same in a yard of the wrapper.
+fn open_yard(a: usize, share: usize) -> Yard {
+    let m = Segmentation::of(a + 24).blocks;
+    let mut yard = Yard::new(1, m).expect("M is in range");
+    let receiver = zemrukste::Receiver { release: 8, mimo: 1, processes: 1, soft: share * m, layers: 1 };
+    let opened = match share {
+        WHOLE_SHARE => yard.open(0, TERMINAL, a).map(|()| share),
+        _ => yard.open_down(0, TERMINAL, a, &receiver),
+    };
+    assert_eq!(opened, Ok(share));
+    yard
+}
+
+/// A receiver as the wrapper has it.
+fn wrapped(Receiver { release, mimo, processes, soft, layers }: Receiver) -> zemrukste::Receiver {
+    zemrukste::Receiver { release, mimo, processes, soft, layers }
+}
+
 /// Opening is in no one's time.
 fn receive_runners(a: usize, share: usize, bits: Vec<u8>) -> [Runner; 3] {
     let state = open_slot(a, share);
-    let bytes = state_bytes(&state);
     let [rattle, fast, literal] = [bits.clone(), bits.clone(), bits];
     let length = state.m * ROOM_OF_BLOCK;
-    [
-        Runner::of(length, move |store| {
-            let (state, bits) = (black_box(&bytes), black_box(&rattle));
-            let mut lacking = 0;
-            // Slices of Rust and a number of its own, as above.
-            let number = unsafe {
-                library::zemrukste_receive(
-                    state.as_ptr(),
-                    state.len(),
-                    0,
-                    TERMINAL,
-                    Q,
-                    N,
-                    VERSION,
-                    bits.as_ptr(),
-                    bits.len(),
-                    store.as_mut_ptr(),
-                    store.len(),
-                    &mut lacking,
-                )
-            };
-            (number, lacking)
-        }),
+    let runners = [
+        Runner::receiving(open_yard(a, share), rattle),
         Runner::of(length, move |store| {
             told(fast_slots::receive(black_box(&state), store, 0, TERMINAL, Q, N, VERSION, black_box(&fast)))
         }),
         Runner::of(length, move |store| {
             told(slots::receive(*black_box(&state), store, 0, TERMINAL, Q, N, VERSION, black_box(&literal)).1)
         }),
-    ]
+    ];
+    // A store that has heard nothing.
+    runners.map(|runner| Runner { fill: slots::UNHEARD, ..runner })
 }
 
 /// The literal program unpacks the whole store, receives and packs it again.
 fn receive_packed_runners(a: usize, bits: Vec<u8>) -> [Runner; 3] {
     let state = open_slot(a, WHOLE_SHARE);
-    let bytes = state_bytes(&state);
+    let mut yard = open_yard(a, WHOLE_SHARE);
+    yard.pack();
     let [rattle, fast, literal] = [bits.clone(), bits.clone(), bits];
     let length = state.m * PACKED_OF_BLOCK;
     let mut room = vec![0; state.m * ROOM_OF_BLOCK];
     let runners = [
-        Runner::of(length, move |store| {
-            let (state, bits) = (black_box(&bytes), black_box(&rattle));
-            let mut lacking = 0;
-            // Slices of Rust and a number of its own, as above.
-            let number = unsafe {
-                library::zemrukste_receive_packed(
-                    state.as_ptr(),
-                    state.len(),
-                    0,
-                    TERMINAL,
-                    Q,
-                    N,
-                    VERSION,
-                    bits.as_ptr(),
-                    bits.len(),
-                    store.as_mut_ptr(),
-                    store.len(),
-                    &mut lacking,
-                )
-            };
-            (number, lacking)
-        }),
+        Runner::receiving(yard, rattle),
         Runner::of(length, move |store| {
             told(fast_slots::receive_packed(black_box(&state), store, 0, TERMINAL, Q, N, VERSION, black_box(&fast)))
         }),
@@ -524,34 +351,18 @@ fn receive_packed_runners(a: usize, bits: Vec<u8>) -> [Runner; 3] {
 
 fn read_packed_runners(a: usize, bits: Vec<u8>) -> [Runner; 3] {
     let state = open_slot(a, WHOLE_SHARE);
-    let bytes = state_bytes(&state);
+    let mut yard = open_yard(a, WHOLE_SHARE);
+    let _ = yard.receive(0, TERMINAL, Q, N, VERSION, &bits);
+    yard.pack();
     let mut room = vec![slots::UNHEARD; state.m * ROOM_OF_BLOCK];
     let _ = slots::receive(state, &mut room, 0, TERMINAL, Q, N, VERSION, &bits);
     let mut store = vec![0; state.m * PACKED_OF_BLOCK];
     packing::pack(state.m, &room, &mut store).expect("the rooms fit");
     let mut workspace = fast_slots::Workspace::default();
-    let [rattle, fast, literal] = [store.clone(), store.clone(), store];
+    let [fast, literal] = [store.clone(), store];
     let done = |answer: slots::Answer| told(answer.map(|()| 0));
     [
-        Runner::of(codeword::A_MAX, move |out| {
-            let (state, store) = (black_box(&bytes), black_box(&rattle));
-            let mut lacking = 0;
-            // Slices of Rust and a number of its own, as above.
-            let number = unsafe {
-                library::zemrukste_read_packed(
-                    state.as_ptr(),
-                    state.len(),
-                    0,
-                    TERMINAL,
-                    store.as_ptr(),
-                    store.len(),
-                    out.as_mut_ptr(),
-                    out.len(),
-                    &mut lacking,
-                )
-            };
-            (number, lacking)
-        }),
+        Runner::of(codeword::A_MAX, move |out| given(black_box(&yard).read(0, TERMINAL, out).map(|_| 0))),
         Runner::of(codeword::A_MAX, move |out| {
             done(workspace.read_packed(black_box(&state), black_box(&fast), 0, TERMINAL, out))
         }),
@@ -564,32 +375,15 @@ fn read_packed_runners(a: usize, bits: Vec<u8>) -> [Runner; 3] {
 
 fn read_runners(a: usize, bits: Vec<u8>) -> [Runner; 3] {
     let state = open_slot(a, WHOLE_SHARE);
-    let bytes = state_bytes(&state);
+    let mut yard = open_yard(a, WHOLE_SHARE);
+    let _ = yard.receive(0, TERMINAL, Q, N, VERSION, &bits);
     let mut store = vec![slots::UNHEARD; state.m * ROOM_OF_BLOCK];
     let _ = slots::receive(state, &mut store, 0, TERMINAL, Q, N, VERSION, &bits);
     let mut workspace = fast_slots::Workspace::default();
-    let [rattle, fast, literal] = [store.clone(), store.clone(), store];
+    let [fast, literal] = [store.clone(), store];
     let done = |answer: slots::Answer| told(answer.map(|()| 0));
     [
-        Runner::of(codeword::A_MAX, move |out| {
-            let (state, store) = (black_box(&bytes), black_box(&rattle));
-            let mut lacking = 0;
-            // Slices of Rust and a number of its own, as above.
-            let number = unsafe {
-                library::zemrukste_read(
-                    state.as_ptr(),
-                    state.len(),
-                    0,
-                    TERMINAL,
-                    store.as_ptr(),
-                    store.len(),
-                    out.as_mut_ptr(),
-                    out.len(),
-                    &mut lacking,
-                )
-            };
-            (number, lacking)
-        }),
+        Runner::of(codeword::A_MAX, move |out| given(black_box(&yard).read(0, TERMINAL, out).map(|_| 0))),
         Runner::of(codeword::A_MAX, move |out| {
             done(workspace.read(black_box(&state), black_box(&fast), 0, TERMINAL, out))
         }),
@@ -667,23 +461,7 @@ impl ReportRow {
         [
             Runner::of(length, move |out| {
                 let (report, block) = black_box(&rattle);
-                // Slices of Rust, as above.
-                let number = unsafe {
-                    library::zemrukste_report_build(
-                        report.as_ptr(),
-                        report.len(),
-                        control,
-                        block.as_ptr(),
-                        block.len(),
-                        Q,
-                        n,
-                        VERSION,
-                        REPORT_G,
-                        out.as_mut_ptr(),
-                        out.len(),
-                    )
-                };
-                (number, 0)
+                given(zemrukste::report_build(report, control, block, Q, n, VERSION, REPORT_G, out).map(|_| 0))
             }),
             Runner::of(length, move |out| {
                 let (report, block) = black_box(&fast);
@@ -701,22 +479,7 @@ impl ReportRow {
         let [rattle, fast, literal] = [self.run(), self.run(), self.run()];
         [
             Runner::of(o, move |out| {
-                let run = black_box(&rattle);
-                // Slices of Rust, as above.
-                let number = unsafe {
-                    library::zemrukste_report_part(
-                        REPORT_A,
-                        Q,
-                        n,
-                        o,
-                        control,
-                        run.as_ptr(),
-                        run.len(),
-                        out.as_mut_ptr(),
-                        out.len(),
-                    )
-                };
-                (number, 0)
+                given(zemrukste::report_part(REPORT_A, Q, n, o, control, black_box(&rattle), out).map(|_| 0))
             }),
             Runner::of(o, move |out| number_of(fast_report::part_into(REPORT_A, Q, n, o, control, black_box(&fast), out))),
             Runner::of(o, move |out| number_of(report::part_into(REPORT_A, Q, n, o, control, black_box(&literal), out))),
@@ -788,7 +551,11 @@ fn called_alike(runners: &mut [Runner; 3]) -> Result<(), String> {
 /// The whole outputs, so also that nothing else is written.
 fn left_alike(runners: &[Runner; 3]) -> Result<(), String> {
     let literal = &runners[2].output;
-    match runners.iter().zip(NAMES).find(|(runner, _)| runner.output != *literal) {
+    let alike = |runner: &Runner| match &runner.yard {
+        Some(yard) => yard.borrow().rooms() == literal,
+        None => runner.output == *literal,
+    };
+    match runners.iter().zip(NAMES).find(|(runner, _)| !alike(runner)) {
         None => Ok(()),
         Some((_, name)) => Err(format!("{name} and literal differ")),
     }
