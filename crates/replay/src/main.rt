@@ -1,4 +1,5 @@
 // Replays a log of the yard: each line of standard input is one call of 01 or a change of form, and its answer one line of standard output.
+use libc::STDERR_FILENO;
 use libc::STDIN_FILENO;
 use libc::STDOUT_FILENO;
 use slots::State;
@@ -70,7 +71,7 @@ fn replay_input(text: &mut [u8], plain: &mut [u8], packed: &mut [u8], out: &mut 
     let mut state = begun.state;
     let mut four = false;
     let mut have = 0;
-    let mut got = read_more(text, 0);
+    let mut got = first_read(text);
     let mut turns = u64::MAX;
     while 0 < got {
         if turns == 0 {
@@ -78,7 +79,7 @@ fn replay_input(text: &mut [u8], plain: &mut [u8], packed: &mut [u8], out: &mut 
         }
         turns -= 1;
         let end = have + got;
-        let progress = replay_lines(state, four, &text[..end], plain, packed, out);
+        let progress = replay_lines(state, four, &text[..end], plain, packed, out, have);
         if !progress.going {
             return;
         }
@@ -92,6 +93,28 @@ fn replay_input(text: &mut [u8], plain: &mut [u8], packed: &mut [u8], out: &mut 
     }
 }
 
+// The first read. A log whose first line ends in a carriage return is told of, once: its lines are no calls.
+fn first_read(text: &mut [u8]) -> usize
+    ensures { λ r. ⌜ r ≤ length (now (text .exit)) ⌝ }
+{
+    let got = read_more(text, 0);
+    tell_line_ends(&text[..got]);
+    got
+}
+
+fn tell_line_ends(text: &[u8]) {
+    let end = lines::line_end(text, 0);
+    if end == 0 {
+        return;
+    }
+    if end > text.len() {
+        return;
+    }
+    if text[end - 1] == 13 {
+        io::write_all(STDERR_FILENO, b"replay: the log's lines end in carriage returns; they are refused with 15\n");
+    }
+}
+
 // One read to the place `have` and what follows it: how many bytes came, 0 at the end.
 fn read_more(text: &mut [u8], have: usize) -> usize
     requires { ⌜ have ≤ length (now text) ⌝ }
@@ -101,7 +124,7 @@ fn read_more(text: &mut [u8], have: usize) -> usize
     io::count(got, &text[have..])
 }
 
-// Answers each whole line of the text.
+// Answers each whole line of the text. In its first `seen` bytes no line ends: an unfinished line is not looked through again.
 fn replay_lines(
     state: State,
     four: bool,
@@ -109,13 +132,14 @@ fn replay_lines(
     plain: &mut [u8],
     packed: &mut [u8],
     out: &mut [u8],
+    seen: usize,
 ) -> Progress
     ensures { λ r. ⌜ r .next ≤ length (now (text .entry)) ⌝ }
 {
     let mut after = state;
     let mut form = four;
     let mut next = 0;
-    let mut end = lines::line_end(text, 0);
+    let mut end = lines::line_end(text, seen);
     while end < text.len() {
         let told = answer(after, form, &text[next..end], plain, packed, out);
         after = told.state;
@@ -152,12 +176,21 @@ fn answer(
     let after = step.state;
     let form = step.four;
     let written = step.written;
-    let going = io::write_all(STDOUT_FILENO, &out[..written]);
+    let going = put_out(&out[..written]);
     Told {
         state: after,
         four: form,
         going,
     }
+}
+
+// Writes to standard output. A program has no exit status of its own: so that a replay cut short does not look whole, it says so.
+fn put_out(row: &[u8]) -> bool {
+    let going = io::write_all(STDOUT_FILENO, row);
+    if !going {
+        io::write_all(STDERR_FILENO, b"replay: the output can't be written; answers are missing\n");
+    }
+    going
 }
 
 // Moves an unfinished line to the front of the text, to be gone on with by the next read, and tells how much of it is kept. What a

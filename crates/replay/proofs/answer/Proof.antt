@@ -18,19 +18,19 @@ use Rattle.replay.proofs.answer.Tie as tie
 replay-line-requires : tie.Need-replay-line-requires
 replay-line-requires c κs = search needs
 
-slice-reshare-prefix-write-all : tie.Need-slice-reshare-prefix-write-all
-slice-reshare-prefix-write-all c =
+slice-reshare-prefix-put-out : tie.Need-slice-reshare-prefix-put-out
+slice-reshare-prefix-put-out c =
     let args = c .before .before .before .before .before .before .before .before .before .before .before .before .before .before .before .args in
     let made = c .before .before .before .before .before .before .before .replay-line in
     let row = rowOfLine (args .state) (args .four) (now (args .plain)) (now (args .packed)) (now (args .line)) in
     let ends : made .result .written ≡ endAt 0 row (now (args .out)) = ap (λ (s : Step). s .written) (made .ensures .0) ∙ step-row (args .state) (args .four) (now (args .plain)) (now (args .packed)) (now (args .line)) (now (args .out)) in
     omega (arith, ends, end-within 0 row (now (args .out)) (omega arith), made .kept .1 .1 .1 .1 .1 .0)
 
-slice-aggregate-write-all : tie.Need-slice-aggregate-write-all
-slice-aggregate-write-all c = front-count _ _ (slice-reshare-prefix-write-all (c .before))
+slice-aggregate-put-out : tie.Need-slice-aggregate-put-out
+slice-aggregate-put-out c = front-count _ _ (slice-reshare-prefix-put-out (c .before))
 
-write-all-requires : tie.Need-write-all-requires
-write-all-requires c κs = search needs
+put-out-requires : tie.Need-put-out-requires
+put-out-requires c κs = search needs
 
 same-length : tie.Need-same-length
 same-length c = search needs
@@ -49,9 +49,9 @@ answer-spec =
     tie.close
     (tie.spec
     replay-line-requires
-    slice-reshare-prefix-write-all
-    slice-aggregate-write-all
-    write-all-requires
+    slice-reshare-prefix-put-out
+    slice-aggregate-put-out
+    put-out-requires
     same-length
     same-length-2
     same-length-3

@@ -18,14 +18,14 @@ abbrev μ-loop : tie.MeasureT-loop
 new-requires : tie.Need-new-requires Inv-loop μ-loop
 new-requires c κs = tt
 
-read-more-requires : tie.Need-read-more-requires Inv-loop μ-loop
-read-more-requires c κs = omega arith
+first-read-requires : tie.Need-first-read-requires Inv-loop μ-loop
+first-read-requires c κs = omega arith
 
 loop-holds : tie.Need-loop-holds Inv-loop μ-loop
-loop-holds c = (omega arith, c .before .before .read-more .ensures, refl, refl, refl, refl)
+loop-holds c = (omega arith, omega (arith, c .before .before .first-read .ensures), refl, refl, refl, refl)
 
 same-length : tie.Need-same-length Inv-loop μ-loop
-same-length c = c .before .before .loop .inv .2 ∙ c .before .before .before .before .before .read-more .kept .0
+same-length c = c .before .before .loop .inv .2 ∙ c .before .before .before .before .before .first-read .kept .0
 
 same-length-2 : tie.Need-same-length-2 Inv-loop μ-loop
 same-length-2 c = c .before .before .loop .inv .3
@@ -55,7 +55,7 @@ replay-lines-requires : tie.Need-replay-lines-requires Inv-loop μ-loop
 replay-lines-requires c κs = tt
 
 same-length-5 : tie.Need-same-length-5 Inv-loop μ-loop
-same-length-5 c = c .before .before .before .before .before .before .before .before .before .before .before .before .before .before .before .loop .inv .2 ∙ c .before .before .before .before .before .before .before .before .before .before .before .before .before .before .before .before .before .before .read-more .kept .0
+same-length-5 c = c .before .before .before .before .before .before .before .before .before .before .before .before .before .before .before .loop .inv .2 ∙ c .before .before .before .before .before .before .before .before .before .before .before .before .before .before .before .before .before .before .first-read .kept .0
 
 same-length-6 : tie.Need-same-length-6 Inv-loop μ-loop
 same-length-6 c = c .before .before .before .before .before .before .before .before .replay-lines .kept .1 .1 .1 .0 ∙ c .before .before .before .before .before .before .before .before .before .before .before .before .before .before .before .loop .inv .3
@@ -74,8 +74,8 @@ keep-requires c κs =
     let head = c .before .before .before .before .before .before .before .before .before .before .before .before .before .before .before .before .before .loop in
     (omega (arith, c .before .before .before .before .before .before .before .before .before .before .replay-lines .ensures, front-count (head .have + head .got) (head .text) (head .inv .1)), head .inv .1)
 
-read-more-requires-2 : tie.Need-read-more-requires-2 Inv-loop μ-loop
-read-more-requires-2 c κs = omega (arith, c .before .before .before .keep .ensures, c .before .before .before .keep .kept .0, c .before .before .before .before .before .before .before .before .before .before .before .before .before .before .before .before .before .before .before .before .before .loop .inv .2, c .before .before .before .before .before .before .before .before .before .before .before .before .before .before .before .before .before .before .before .before .before .before .before .before .read-more .kept .0, c .before .before .before .before .before .before .before .before .before .before .before .before .before .before .before .before .before .before .before .before .before .before .before .before .before .before .before .before .before .before .before .before .pre)
+read-more-requires : tie.Need-read-more-requires Inv-loop μ-loop
+read-more-requires c κs = omega (arith, c .before .before .before .keep .ensures, c .before .before .before .keep .kept .0, c .before .before .before .before .before .before .before .before .before .before .before .before .before .before .before .before .before .before .before .before .before .loop .inv .2, c .before .before .before .before .before .before .before .before .before .before .before .before .before .before .before .before .before .before .before .before .before .before .before .before .first-read .kept .0, c .before .before .before .before .before .before .before .before .before .before .before .before .before .before .before .before .before .before .before .before .before .before .before .before .before .before .before .before .before .before .before .before .pre)
 
 loop-less : tie.Need-loop-less Inv-loop μ-loop
 loop-less c = omega arith
@@ -84,7 +84,7 @@ loop-again : tie.Need-loop-again Inv-loop μ-loop
 loop-again c =
     let inv = c .before .before .before .before .before .before .before .before .before .before .before .before .before .before .before .before .before .before .before .before .before .before .before .before .loop .inv in
     let lines = c .before .before .before .before .before .before .before .before .before .before .before .before .before .before .before .before .before .replay-lines .kept in
-    (c .before .before .before .before .before .before .keep .ensures, c .before .before .read-more2 .ensures, c .before .before .read-more2 .kept .0 ∙ c .before .before .before .before .before .before .keep .kept .0 ∙ inv .2, lines .1 .1 .1 .0 ∙ inv .3, lines .1 .1 .1 .1 .0 ∙ inv .4, lines .1 .1 .1 .1 .1 .0 ∙ inv .5)
+    (c .before .before .before .before .before .before .keep .ensures, c .before .before .read-more .ensures, c .before .before .read-more .kept .0 ∙ c .before .before .before .before .before .before .keep .kept .0 ∙ inv .2, lines .1 .1 .1 .0 ∙ inv .3, lines .1 .1 .1 .1 .0 ∙ inv .4, lines .1 .1 .1 .1 .1 .0 ∙ inv .5)
 
 slice-reshare-prefix-answer : tie.Need-slice-reshare-prefix-answer Inv-loop μ-loop
 slice-reshare-prefix-answer c = omega (arith, c .before .before .loop .inv .1)
@@ -96,7 +96,7 @@ answer-requires : tie.Need-answer-requires Inv-loop μ-loop
 answer-requires c κs = tt
 
 same-length-9 : tie.Need-same-length-9 Inv-loop μ-loop
-same-length-9 c = c .before .before .before .before .before .before .before .before .before .before .before .before .before .loop .inv .2 ∙ c .before .before .before .before .before .before .before .before .before .before .before .before .before .before .before .before .read-more .kept .0
+same-length-9 c = c .before .before .before .before .before .before .before .before .before .before .before .before .before .loop .inv .2 ∙ c .before .before .before .before .before .before .before .before .before .before .before .before .before .before .before .before .first-read .kept .0
 
 same-length-10 : tie.Need-same-length-10 Inv-loop μ-loop
 same-length-10 c = c .before .before .before .before .before .before .answer .kept .1 .1 .1 .0 ∙ c .before .before .before .before .before .before .before .before .before .before .before .before .before .loop .inv .3
@@ -111,7 +111,7 @@ returns-3 : tie.Need-returns-3 Inv-loop μ-loop
 returns-3 c = tt
 
 same-length-13 : tie.Need-same-length-13 Inv-loop μ-loop
-same-length-13 c = c .before .before .loop .inv .2 ∙ c .before .before .before .before .before .read-more .kept .0
+same-length-13 c = c .before .before .loop .inv .2 ∙ c .before .before .before .before .before .first-read .kept .0
 
 same-length-14 : tie.Need-same-length-14 Inv-loop μ-loop
 same-length-14 c = c .before .before .loop .inv .3
@@ -132,7 +132,7 @@ replay-input-spec =
     Inv-loop
     μ-loop
     new-requires
-    read-more-requires
+    first-read-requires
     loop-holds
     same-length
     same-length-2
@@ -150,7 +150,7 @@ replay-input-spec =
     same-length-8
     returns-2
     keep-requires
-    read-more-requires-2
+    read-more-requires
     loop-less
     loop-again
     slice-reshare-prefix-answer
