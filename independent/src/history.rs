@@ -878,7 +878,8 @@ impl Maker {
     fn unreadable(&mut self) {
         let slot = self.random.below(self.s);
         let terminal = self.cars[slot].as_ref().map_or(0, |car| car.terminal);
-        let bits = self.bits(4);
+        // The 2 keeps a line that can be read after all from bringing bits.
+        let bits = self.bits(3) + "2";
         let calls = [
             "new 1 1".to_string(),
             format!("open {slot} {terminal} 16"),
