@@ -14,14 +14,16 @@
  * - The slices of one call must not overlap. An input is never written.
  * - Every number of a size_t may be given: what is out of range is refused, not undefined.
  * - The calls keep nothing between them but what lies in the bytes that the caller lends (the
- *   slots' state and store, below): no global state, no heap (their work arrays are on
- *   the caller's stack: some 41 kilobytes in every build that is accepted, however short its
- *   block, under 1 in one that is refused, at most 3 in any other call), no file or
- *   clock, no error variable. They always return and may be made from several threads at
- *   once, as long as no two of them share an output; a block may be shared.
+ *   slots' state and store, below): no global state, no heap, no file or clock, no error
+ *   variable. Their work arrays are on the caller's stack: some 41 kilobytes in every build that
+ *   is accepted, however short its block, under 1 in one that is refused; at most 20 in
+ *   zemrukste_receive, 34 in zemrukste_read, 39 and 52 in their packed forms, 21 in
+ *   zemrukste_streams_packed, and 3 in any other call. They always return and may be made from
+ *   several threads at once, as long as no two of them share an output; a block may be shared.
  * - The numbers given back are those of the project's rules. 0 is "accepted"; any other
- *   number is a refusal, and a refusal has written nothing. Where several refusals apply,
- *   the first in the order listed with the call is given.
+ *   number is a refusal, and a refusal has written nothing, but where zemrukste_new and
+ *   zemrukste_read say so. Where several refusals apply, the first in the order listed with the
+ *   call is given.
  */
 #ifndef ZEMRUKSTE_H
 #define ZEMRUKSTE_H
@@ -415,7 +417,6 @@ uint32_t zemrukste_close(uint8_t *state, size_t state_len, size_t slot, uint16_t
  * form of zemrukste_pack, S * M * ZEMRUKSTE_PACKED_PER_BLOCK bytes. State, answers and outputs
  * are those of the plain call on the store that zemrukste_unpack gives, and the store afterwards
  * is the packed form of what that call leaves. zemrukste_new and zemrukste_close serve both.
- * Some 19 kilobytes more of the stack are used by the packed reads and streams.
  */
 uint32_t zemrukste_open_packed(uint8_t *state, size_t state_len, size_t slot, uint16_t terminal,
                                size_t a, uint8_t *store, size_t store_len);
