@@ -77,6 +77,11 @@ impl Yard {
         self.packed
     }
 
+    /// The rooms as they stand, slot after slot, for a look at them alone.
+    pub fn rooms(&self) -> &[u8] {
+        &self.rooms
+    }
+
     fn change(&mut self, packed: bool) {
         if packed == self.packed {
             return;

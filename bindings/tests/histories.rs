@@ -1,5 +1,5 @@
 //! Whole histories of calls on slots of both links and in both forms, made by the independent program and answered by
-//! it and through the wrapper: every answer and every byte of every output.
+//! it and through the wrapper: every answer, every byte of every output and of every room.
 
 use independent::codeword::{self, A_MAX, G_MAX};
 use independent::history;
@@ -74,6 +74,10 @@ impl Twin {
             given.0,
             expected.0
         );
+        if let Some(yard) = &self.yard {
+            let rooms = if self.sound.packed { &self.sound.packed_store } else { &self.sound.store };
+            assert!(yard.rooms() == rooms, "history {history}, {call:?}: the rooms");
+        }
         let what = match &given.0 {
             Ok(_) => format!("{call:?}").split(' ').next().unwrap().to_string(),
             Err(refusal) => format!("{:2}", refusal.number()),
@@ -84,10 +88,10 @@ impl Twin {
     /// A new yard, in the form of the old one.
     fn new_yard(&mut self, s: usize, m: usize) -> Told {
         let packed = self.sound.packed;
-        // The wrapper's rooms are always as many as the state has; so are the independent program's here.
-        let rooms = if s <= 8 && m <= 5 { (s * m).max(3) } else { 3 };
-        self.sound.store.resize(rooms * ROOM_OF_BLOCK, 0);
-        self.sound.packed_store.resize(rooms * PACKED_OF_BLOCK, 0);
+        // A yard's rooms are as many as its state has, and new.
+        let rooms = if s <= slots::SLOTS_MAX && m <= slots::BLOCKS_MAX { s * m } else { 0 };
+        self.sound.store = vec![0; rooms * ROOM_OF_BLOCK];
+        self.sound.packed_store = vec![0; rooms * PACKED_OF_BLOCK];
         let made = if packed { Yard::new_packed(s, m) } else { Yard::new(s, m) };
         let outcome = made.as_ref().map(|_| Vec::new()).map_err(|refusal| told(*refusal));
         self.yard = made.ok();
