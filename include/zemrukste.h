@@ -17,7 +17,7 @@
  *   slots' state and store, below): no global state, no heap, no file or clock, no error
  *   variable. Their work arrays are on the caller's stack: some 41 kilobytes in every build that
  *   is accepted, however short its block, under 1 in one that is refused; at most 20 in
- *   zemrukste_receive, 34 in zemrukste_read, 39 and 52 in their packed forms, 21 in
+ *   zemrukste_receive, 34 in zemrukste_read, 40 in their packed forms, 21 in
  *   zemrukste_streams_packed, and 3 in any other call. They always return and may be made from
  *   several threads at once, as long as no two of them share an output; a block may be shared.
  * - The numbers given back are those of the project's rules. 0 is "accepted"; any other
