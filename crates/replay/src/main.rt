@@ -111,7 +111,10 @@ fn tell_line_ends(text: &[u8]) {
         return;
     }
     if text[end - 1] == 13 {
-        io::write_all(STDERR_FILENO, b"replay: the log's lines end in carriage returns; they are refused with 15\n");
+        io::write_all(
+            STDERR_FILENO,
+            b"replay: the log's lines end in carriage returns; they are refused with 15\n",
+        );
     }
 }
 
@@ -188,7 +191,10 @@ fn answer(
 fn put_out(row: &[u8]) -> bool {
     let going = io::write_all(STDOUT_FILENO, row);
     if !going {
-        io::write_all(STDERR_FILENO, b"replay: the output can't be written; answers are missing\n");
+        io::write_all(
+            STDERR_FILENO,
+            b"replay: the output can't be written; answers are missing\n",
+        );
     }
     going
 }

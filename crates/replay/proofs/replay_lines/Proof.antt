@@ -11,11 +11,11 @@ use Rattle.replay.proofs.replay_lines.Statement.{statement}
 use Rattle.replay.proofs.replay_lines.Tie as tie
 
 abbrev Inv-loop : tie.InvT-loop
-Inv-loop four text plain₀ packed₀ out₀ after₀ form₀ next₀ end₀ plain packed out after form next end =
+Inv-loop four text plain₀ packed₀ out₀ seen after₀ form₀ next₀ end₀ plain packed out after form next end =
     (next ≤ end) × (next ≤ length text) × (length plain ≡ length plain₀) × (length packed ≡ length packed₀) × (length out ≡ length out₀)
 
 abbrev μ-loop : tie.MeasureT-loop
-μ-loop four text plain₀ packed₀ out₀ after₀ form₀ next₀ end₀ plain packed out after form next end = length text - next
+μ-loop four text plain₀ packed₀ out₀ seen after₀ form₀ next₀ end₀ plain packed out after form next end = length text - next
 
 -- a line ends at its start or later
 end-after : (text : List ℕ) (from : ℕ) → from ≤ lineEnd text from
