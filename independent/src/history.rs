@@ -237,6 +237,7 @@ impl Maker {
         for length in [A_MAX, A_MAX + 1] {
             let bits = self.bits(length);
             self.say(format!("build 4 2 2 {} {bits}", 8 * 700));
+            self.say(format!("build-down 11 1 8 35982720 2 4 2 2 {} {bits}", 8 * 700));
         }
         self.say(" ".repeat(5_000));
         self.say("close 0 7");
