@@ -1,9 +1,10 @@
 -- Laws of a line that asks for a call (`requestOf`): it is no longer than a line may be, its numbers are its words', and its terminal is a 16-bit number.
 -- Assumes nothing.
 use mathlib.Core.Path.{_≡_, refl, sym, _∙_, ap}
-use mathlib.Core.Bool.{Bool, true, false, not, _&&_, _||_, true≢false, false≢true}
+use mathlib.Core.Bool.{Bool, true, false, cond, not, _&&_, _||_, true≢false, false≢true}
 use mathlib.Core.List.{List}
 use Prim.Native.Nat.{ℕ, _≤_}
+use native.Mathlib.Omega.{arith}
 use lib.Dec.{leb, ltb}
 use lib.ListN.{length, getD}
 use borrow.Author.Tests.{leb-true, ltb-false}
@@ -13,7 +14,7 @@ use Rattle.requests.specs.declared.Form.{Form}
 use Rattle.requests.specs.declared.Request.{Request}
 use Rattle.requests.specs.Words.{wordAt}
 use Rattle.requests.specs.Verbs.{formOf, verbOf}
-use Rattle.requests.specs.Numbers.{fields, numberAt}
+use Rattle.requests.specs.Numbers.{field, fields, numberAt}
 use Rattle.requests.specs.Request.{longestLine, isSilent, rightWords, rightTerminal, rightBits, wellFormed, bare, askedFor, requestOf}
 
 -- what a line that asks for a call has
@@ -45,10 +46,14 @@ module _ (l : List ℕ) (v : Verb) (is : requestOf l .verb ≡ v) (known : formO
 
   -- the terminal of a call that has one
   pub terminal-fits : formOf v .terminal ≡ true → getD (requestOf l .numbers) 1 0 ≤ 65535
-  unfolding wellFormed rightTerminal fields formOf
+  unfolding wellFormed rightTerminal fields field formOf
   terminal-fits has =
-      rw (asked .numbers-are) (leb-true _ _ (go (formOf v .known) (rightWords l (formOf v)) (leb (numberAt l (formOf v) 2) 65535) (rightBits l (formOf v)) (rw has at (asked .formed))))
+      rw (asked .numbers-are) (at-most (ltb (formOf v .numbers) 2) (leb-true _ _ (go (formOf v .known) (rightWords l (formOf v)) (leb (numberAt l (formOf v) 2) 65535) (rightBits l (formOf v)) (rw has at (asked .formed)))))
     where
+      at-most : (t : Bool) {n : ℕ} → n ≤ 65535 → cond t 0 n ≤ 65535
+      at-most true h = omega arith
+      at-most false h = h
+
       go : (k w t b : Bool) → (k && (w && ((not true || t) && b))) ≡ true → t ≡ true
       go true true true b h = refl
       go true true false b h = h

@@ -3,7 +3,7 @@
 use mathlib.Core.Bool.{Bool, true, false, cond, _&&_}
 use mathlib.Core.List.{List, [], _∷_}
 use Prim.Native.Nat.{ℕ, zero, suc}
-use lib.Dec.{eqb}
+use lib.Dec.{eqb, ltb}
 use Rattle.lines.specs.declared.Line.{Line}
 use Rattle.lines.specs.declared.Line.the-variants.{Read, Unreadable}
 use Rattle.lines.specs.Line.{lineOf}
@@ -35,16 +35,20 @@ unfoldable pub saidFrom : List ℕ → Form → ℕ → ℕ → Bool
 saidFrom l f i zero = true
 saidFrom l f i (suc n) = saysNumber l f i && saidFrom l f (suc i) n
 
--- what words 1 to 9 say
+-- number i of a line, 0 where its form has fewer
+unfoldable pub field : List ℕ → Form → ℕ → ℕ
+field l f i = cond (ltb (f .numbers) i) 0 (numberAt l f i)
+
+-- the numbers of a line
 unfoldable pub fields : List ℕ → Form → List ℕ
 fields l f =
-    numberAt l f 1
-    ∷ numberAt l f 2
-    ∷ numberAt l f 3
-    ∷ numberAt l f 4
-    ∷ numberAt l f 5
-    ∷ numberAt l f 6
-    ∷ numberAt l f 7
-    ∷ numberAt l f 8
-    ∷ numberAt l f 9
+    field l f 1
+    ∷ field l f 2
+    ∷ field l f 3
+    ∷ field l f 4
+    ∷ field l f 5
+    ∷ field l f 6
+    ∷ field l f 7
+    ∷ field l f 8
+    ∷ field l f 9
     ∷ []

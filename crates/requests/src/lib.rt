@@ -8,7 +8,7 @@ ghost use mathlib.Core.Bool.{cond};
 ghost use Prim.Native.Nat.{_≤_};
 ghost use lib.Dec.{leb};
 ghost use lib.ListN.{length};
-ghost use Rattle.requests.specs.Numbers.{digitsAt, saysNumber, saidFrom, numberAt, fields};
+ghost use Rattle.requests.specs.Numbers.{digitsAt, saysNumber, saidFrom, numberAt, field, fields};
 ghost use Rattle.requests.specs.Request.{isSilent, rightWords, rightTerminal, rightBits, wellFormed, bare, askedFor, requestOf, bitsFrom, bitsOver};
 
 // What a line asks for.
@@ -42,7 +42,7 @@ pub struct Form {
     pub bits: bool,
 }
 
-// A line as a call: the verb, what its words 1 to 9 say as numbers (0 where one says none), and where its BITS start.
+// A line as a call: the verb, its numbers (0 for those that its form has not), and where its BITS start.
 pub struct Request {
     pub verb: Verb,
     pub numbers: [usize; 9],
@@ -190,20 +190,31 @@ fn number_at(line: &[u8], form: Form, i: usize) -> usize
     }
 }
 
-// What words 1 to 9 say.
+// Number i of a line, 0 where its form has fewer: words behind its numbers are not looked at, since BITS may be long.
+fn field(line: &[u8], form: Form, i: usize) -> usize
+    ensures { λ r. ⌜ r ≡ field (now (line .entry)) form i ⌝ }
+{
+    if form.numbers < i {
+        0
+    } else {
+        number_at(line, form, i)
+    }
+}
+
+// The numbers of a line.
 fn fields(line: &[u8], form: Form) -> [usize; 9]
     ensures { λ r. ⌜ r ≡ fields (now (line .entry)) form ⌝ }
 {
     [
-        number_at(line, form, 1),
-        number_at(line, form, 2),
-        number_at(line, form, 3),
-        number_at(line, form, 4),
-        number_at(line, form, 5),
-        number_at(line, form, 6),
-        number_at(line, form, 7),
-        number_at(line, form, 8),
-        number_at(line, form, 9),
+        field(line, form, 1),
+        field(line, form, 2),
+        field(line, form, 3),
+        field(line, form, 4),
+        field(line, form, 5),
+        field(line, form, 6),
+        field(line, form, 7),
+        field(line, form, 8),
+        field(line, form, 9),
     ]
 }
 

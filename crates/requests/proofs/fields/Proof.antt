@@ -5,32 +5,32 @@ use Rattle.requests.specs.Numbers.{fields}
 use Rattle.requests.proofs.fields.Statement.{statement}
 use Rattle.requests.proofs.fields.Tie as tie
 
-number-at-requires : tie.Need-number-at-requires
-number-at-requires c κs = search needs
+field-requires : tie.Need-field-requires
+field-requires c κs = search needs
 
-number-at-requires-2 : tie.Need-number-at-requires-2
-number-at-requires-2 c κs = search needs
+field-requires-2 : tie.Need-field-requires-2
+field-requires-2 c κs = search needs
 
-number-at-requires-3 : tie.Need-number-at-requires-3
-number-at-requires-3 c κs = search needs
+field-requires-3 : tie.Need-field-requires-3
+field-requires-3 c κs = search needs
 
-number-at-requires-4 : tie.Need-number-at-requires-4
-number-at-requires-4 c κs = search needs
+field-requires-4 : tie.Need-field-requires-4
+field-requires-4 c κs = search needs
 
-number-at-requires-5 : tie.Need-number-at-requires-5
-number-at-requires-5 c κs = search needs
+field-requires-5 : tie.Need-field-requires-5
+field-requires-5 c κs = search needs
 
-number-at-requires-6 : tie.Need-number-at-requires-6
-number-at-requires-6 c κs = search needs
+field-requires-6 : tie.Need-field-requires-6
+field-requires-6 c κs = search needs
 
-number-at-requires-7 : tie.Need-number-at-requires-7
-number-at-requires-7 c κs = search needs
+field-requires-7 : tie.Need-field-requires-7
+field-requires-7 c κs = search needs
 
-number-at-requires-8 : tie.Need-number-at-requires-8
-number-at-requires-8 c κs = search needs
+field-requires-8 : tie.Need-field-requires-8
+field-requires-8 c κs = search needs
 
-number-at-requires-9 : tie.Need-number-at-requires-9
-number-at-requires-9 c κs = search needs
+field-requires-9 : tie.Need-field-requires-9
+field-requires-9 c κs = search needs
 
 returns : tie.Need-returns
 unfolding fields
@@ -40,13 +40,13 @@ pub fields-spec : {M : Type 1} → statement M
 fields-spec =
     tie.close
     (tie.spec
-    number-at-requires
-    number-at-requires-2
-    number-at-requires-3
-    number-at-requires-4
-    number-at-requires-5
-    number-at-requires-6
-    number-at-requires-7
-    number-at-requires-8
-    number-at-requires-9
+    field-requires
+    field-requires-2
+    field-requires-3
+    field-requires-4
+    field-requires-5
+    field-requires-6
+    field-requires-7
+    field-requires-8
+    field-requires-9
     returns)
