@@ -2,6 +2,7 @@
 mod change;
 mod rooms;
 
+use requests::Request;
 use requests::Verb;
 use slots::Answer;
 use slots::Outcome;
@@ -13,7 +14,7 @@ ghost use lib.ListN.{length, take, drop};
 ghost use Rattle.slots.specs.Calls.{openDownOutcome, openDownStore, receiveOutcome, receiveStore};
 ghost use Rattle.packing.specs.Store.{placesIn, inForm};
 ghost use Rattle.lines.specs.Put.{putAt, endAt};
-ghost use Rattle.requests.specs.Request.{bitsFrom, longestLine};
+ghost use Rattle.requests.specs.Request.{requestOf, bitsFrom, longestLine};
 ghost use Rattle.answers.specs.Rows.{answerRow, runsRow};
 ghost use Rattle.answers.specs.SizesRow.{sizesRow};
 ghost use Rattle.yard.specs.Rows.{shareRow, readRow, streamsRow, buildRow, buildDownRow};
@@ -51,9 +52,9 @@ pub fn replay_line(
         return change_line(state, four, change::packs(verb), plain, packed, out);
     }
     if four {
-        return call_line(state, true, line, packed, out);
+        return call_line(state, true, request, line, packed, out);
     }
-    call_line(state, false, line, plain, out)
+    call_line(state, false, request, line, plain, out)
 }
 
 // Changes the form of every room.
@@ -81,12 +82,19 @@ fn change_line(
 }
 
 // Makes a call on the store that has the rooms, in its form.
-fn call_line(state: State, four: bool, line: &[u8], store: &mut [u8], out: &mut [u8]) -> Step
+fn call_line(
+    state: State,
+    four: bool,
+    request: Request,
+    line: &[u8],
+    store: &mut [u8],
+    out: &mut [u8],
+) -> Step
+    requires { ⌜ request ≡ requestOf (now line) ⌝ }
     ensures { λ r. ⌜ r ≡ callStep state four (now (store .entry)) (now (line .entry)) (now (out .entry)) ⌝ }
     ensures { λ r. ⌜ now (store .exit) ≡ callStore state four (now (store .entry)) (now (line .entry)) ⌝ }
     ensures { λ r. ⌜ now (out .exit) ≡ putAt 0 (callRow state four (now (store .entry)) (now (line .entry))) (now (out .entry)) ⌝ }
 {
-    let request = requests::read_request(line);
     let verb = request.verb;
     let n = request.numbers;
     let bits = request.bits;

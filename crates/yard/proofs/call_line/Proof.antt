@@ -18,9 +18,6 @@ use borrow.Author.Needs.{needs}
 use Rattle.yard.proofs.call_line.Statement.{statement}
 use Rattle.yard.proofs.call_line.Tie as tie
 
-read-request-requires : tie.Need-read-request-requires
-read-request-requires c κs = search needs
-
 enum-told : tie.Need-enum-told
 enum-told c = search needs
 
@@ -48,8 +45,8 @@ array-read-open-in-2 c = search needs
 cast-open-in : tie.Need-cast-open-in
 unfolding formOf
 cast-open-in c =
-    let line = now (c .before .before .before .before .before .before .before .args .line) in
-    omega (arith, rw (← (c .before .before .before .read-request .ensures)) at (terminal-fits line verb.Open (ap (λ (r : Request). r .verb) (sym (c .before .before .before .read-request .ensures)) ∙ c .enum-told2 .given .1) refl refl))
+    let line = now (c .before .before .before .before .before .before .args .line) in
+    omega (arith, rw (← (c .before .before .before .before .before .before .pre)) at (terminal-fits line verb.Open (ap (λ (r : Request). r .verb) (sym (c .before .before .before .before .before .before .pre)) ∙ c .enum-told2 .given .1) refl refl))
 
 array-read-open-in-3 : tie.Need-array-read-open-in-3
 array-read-open-in-3 c = search needs
@@ -66,9 +63,9 @@ enum-told-3 c = search needs
 opened-down-requires : tie.Need-opened-down-requires
 unfolding formOf
 opened-down-requires c κs =
-    let line = now (c .before .before .before .before .before .before .before .before .args .line) in
-    let said = (ap (λ (r : Request). r .verb) (sym (c .before .before .before .before .read-request .ensures)) ∙ c .before .enum-told3 .given .1) in
-    rw (← (c .before .before .before .before .read-request .ensures)) at (terminal-fits line verb.OpenDown said refl refl)
+    let line = now (c .before .before .before .before .before .before .before .args .line) in
+    let said = (ap (λ (r : Request). r .verb) (sym (c .before .before .before .before .before .before .before .pre)) ∙ c .before .enum-told3 .given .1) in
+    rw (← (c .before .before .before .before .before .before .before .pre)) at (terminal-fits line verb.OpenDown said refl refl)
 
 array-read-told-share : tie.Need-array-read-told-share
 array-read-told-share c = search needs
@@ -88,8 +85,8 @@ array-read-close-2 c = search needs
 cast-close : tie.Need-cast-close
 unfolding formOf
 cast-close c =
-    let line = now (c .before .before .before .before .before .before .before .args .line) in
-    omega (arith, rw (← (c .before .before .before .read-request .ensures)) at (terminal-fits line verb.Close (ap (λ (r : Request). r .verb) (sym (c .before .before .before .read-request .ensures)) ∙ c .enum-told4 .given .1) refl refl))
+    let line = now (c .before .before .before .before .before .before .args .line) in
+    omega (arith, rw (← (c .before .before .before .before .before .before .pre)) at (terminal-fits line verb.Close (ap (λ (r : Request). r .verb) (sym (c .before .before .before .before .before .before .pre)) ∙ c .enum-told4 .given .1) refl refl))
 
 close-requires : tie.Need-close-requires
 close-requires c κs = search needs
@@ -103,9 +100,9 @@ enum-told-5 c = search needs
 received-requires : tie.Need-received-requires
 unfolding formOf
 received-requires c κs =
-    let line = now (c .before .before .before .before .before .before .before .before .args .line) in
-    let said = (ap (λ (r : Request). r .verb) (sym (c .before .before .before .before .read-request .ensures)) ∙ c .before .enum-told5 .given .1) in
-    (asked line verb.Receive said refl .short, rw (← (c .before .before .before .before .read-request .ensures)) at (terminal-fits line verb.Receive said refl refl))
+    let line = now (c .before .before .before .before .before .before .before .args .line) in
+    let said = (ap (λ (r : Request). r .verb) (sym (c .before .before .before .before .before .before .before .pre)) ∙ c .before .enum-told5 .given .1) in
+    (asked line verb.Receive said refl .short, rw (← (c .before .before .before .before .before .before .before .pre)) at (terminal-fits line verb.Receive said refl refl))
 
 told-requires-4 : tie.Need-told-requires-4
 told-requires-4 c κs = search needs
@@ -122,8 +119,8 @@ array-read-put-read-2 c = search needs
 cast-put-read : tie.Need-cast-put-read
 unfolding formOf
 cast-put-read c =
-    let line = now (c .before .before .before .before .before .before .before .args .line) in
-    omega (arith, rw (← (c .before .before .before .read-request .ensures)) at (terminal-fits line verb.Read (ap (λ (r : Request). r .verb) (sym (c .before .before .before .read-request .ensures)) ∙ c .enum-told6 .given .1) refl refl))
+    let line = now (c .before .before .before .before .before .before .args .line) in
+    omega (arith, rw (← (c .before .before .before .before .before .before .pre)) at (terminal-fits line verb.Read (ap (λ (r : Request). r .verb) (sym (c .before .before .before .before .before .before .pre)) ∙ c .enum-told6 .given .1) refl refl))
 
 put-read-requires : tie.Need-put-read-requires
 put-read-requires c κs = search needs
@@ -143,8 +140,8 @@ array-read-put-streams-2 c = search needs
 cast-put-streams : tie.Need-cast-put-streams
 unfolding formOf
 cast-put-streams c =
-    let line = now (c .before .before .before .before .before .before .before .args .line) in
-    omega (arith, rw (← (c .before .before .before .read-request .ensures)) at (terminal-fits line verb.Streams (ap (λ (r : Request). r .verb) (sym (c .before .before .before .read-request .ensures)) ∙ c .enum-told7 .given .1) refl refl))
+    let line = now (c .before .before .before .before .before .before .args .line) in
+    omega (arith, rw (← (c .before .before .before .before .before .before .pre)) at (terminal-fits line verb.Streams (ap (λ (r : Request). r .verb) (sym (c .before .before .before .before .before .before .pre)) ∙ c .enum-told7 .given .1) refl refl))
 
 array-read-put-streams-3 : tie.Need-array-read-put-streams-3
 array-read-put-streams-3 c = search needs
@@ -161,8 +158,8 @@ enum-told-8 c = search needs
 put-build-requires : tie.Need-put-build-requires
 unfolding formOf
 put-build-requires c κs =
-    let line = now (c .before .before .before .before .before .before .before .before .args .line) in
-    let said = (ap (λ (r : Request). r .verb) (sym (c .before .before .before .before .read-request .ensures)) ∙ c .before .enum-told8 .given .1) in
+    let line = now (c .before .before .before .before .before .before .before .args .line) in
+    let said = (ap (λ (r : Request). r .verb) (sym (c .before .before .before .before .before .before .before .pre)) ∙ c .before .enum-told8 .given .1) in
     asked line verb.Build said refl .short
 
 unchanged-requires-3 : tie.Need-unchanged-requires-3
@@ -174,8 +171,8 @@ enum-told-9 c = search needs
 put-build-down-requires : tie.Need-put-build-down-requires
 unfolding formOf
 put-build-down-requires c κs =
-    let line = now (c .before .before .before .before .before .before .before .before .args .line) in
-    let said = (ap (λ (r : Request). r .verb) (sym (c .before .before .before .before .read-request .ensures)) ∙ c .before .enum-told9 .given .1) in
+    let line = now (c .before .before .before .before .before .before .before .args .line) in
+    let said = (ap (λ (r : Request). r .verb) (sym (c .before .before .before .before .before .before .before .pre)) ∙ c .before .enum-told9 .given .1) in
     asked line verb.BuildDown said refl .short
 
 unchanged-requires-4 : tie.Need-unchanged-requires-4
@@ -250,8 +247,8 @@ same-length c = search needs
 returns : tie.Need-returns
 unfolding stateBy rowBy storeBy
 returns c =
-    let args = c .before .before .before .before .before .before .before .before .before .before .before .before .args in
-    by-outcome (args .state) (args .four) (now (args .store)) (now (args .line)) (now (args .out)) (c .before .before .before .before .before .before .before .before .read-request .result) verb.New (c .before .before .before .before .before .before .before .before .read-request .ensures) (c .before .before .before .before .before .enum-told .given .1)
+    let args = c .before .before .before .before .before .before .before .before .before .before .before .args in
+    by-outcome (args .state) (args .four) (now (args .store)) (now (args .line)) (now (args .out)) (c .before .before .before .before .before .before .before .before .before .before .before .args .request) verb.New (c .before .before .before .before .before .before .before .before .before .before .before .pre) (c .before .before .before .before .before .enum-told .given .1)
     _ _ _ _ (c .before .before .before .before .new .ensures) (c .before .before .told .ensures) refl refl refl
 
 same-length-2 : tie.Need-same-length-2
@@ -263,8 +260,8 @@ same-length-3 c = search needs
 returns-2 : tie.Need-returns-2
 unfolding stateBy rowBy storeBy
 returns-2 c =
-    let args = c .before .before .before .before .before .before .before .before .before .before .before .before .before .before .before .args in
-    by-outcome (args .state) (args .four) (now (args .store)) (now (args .line)) (now (args .out)) (c .before .before .before .before .before .before .before .before .before .before .before .read-request .result) verb.Open (c .before .before .before .before .before .before .before .before .before .before .before .read-request .ensures) (c .before .before .before .before .before .before .before .before .enum-told2 .given .1)
+    let args = c .before .before .before .before .before .before .before .before .before .before .before .before .before .before .args in
+    by-outcome (args .state) (args .four) (now (args .store)) (now (args .line)) (now (args .out)) (c .before .before .before .before .before .before .before .before .before .before .before .before .before .before .args .request) verb.Open (c .before .before .before .before .before .before .before .before .before .before .before .before .before .before .pre) (c .before .before .before .before .before .before .before .before .enum-told2 .given .1)
     _ _ _ _ (c .before .before .before .before .before .before .open-in .ensures .0) (c .before .before .told2 .ensures) refl refl (c .before .before .before .before .before .before .open-in .ensures .1)
 
 same-length-4 : tie.Need-same-length-4
@@ -276,9 +273,9 @@ same-length-5 c = search needs
 returns-3 : tie.Need-returns-3
 unfolding stateBy rowBy storeBy
 returns-3 c =
-    let args = c .before .before .before .before .before .before .before .before .before .before .before .before .before .before .before .args in
-    by-told (args .state) (args .four) (now (args .store)) (now (args .line)) (now (args .out)) (c .before .before .before .before .before .before .before .before .before .before .before .read-request .result) verb.OpenDown (c .before .before .before .before .before .before .before .before .before .before .before .read-request .ensures) (c .before .before .before .before .before .before .before .before .enum-told3 .given .1)
-    (λ (o : Outcome). shareRow o (getD (c .before .before .before .before .before .before .before .before .before .before .before .read-request .result .numbers) 0 0)) _ _ _ _ (c .before .before .before .before .before .before .opened-down .ensures .0) (c .before .before .told-share .ensures) refl refl (c .before .before .before .before .before .before .opened-down .ensures .1)
+    let args = c .before .before .before .before .before .before .before .before .before .before .before .before .before .before .args in
+    by-told (args .state) (args .four) (now (args .store)) (now (args .line)) (now (args .out)) (c .before .before .before .before .before .before .before .before .before .before .before .before .before .before .args .request) verb.OpenDown (c .before .before .before .before .before .before .before .before .before .before .before .before .before .before .pre) (c .before .before .before .before .before .before .before .before .enum-told3 .given .1)
+    (λ (o : Outcome). shareRow o (getD (c .before .before .before .before .before .before .before .before .before .before .before .before .before .before .args .request .numbers) 0 0)) _ _ _ _ (c .before .before .before .before .before .before .opened-down .ensures .0) (c .before .before .told-share .ensures) refl refl (c .before .before .before .before .before .before .opened-down .ensures .1)
 
 same-length-6 : tie.Need-same-length-6
 same-length-6 c = search needs
@@ -286,8 +283,8 @@ same-length-6 c = search needs
 returns-4 : tie.Need-returns-4
 unfolding stateBy rowBy storeBy
 returns-4 c =
-    let args = c .before .before .before .before .before .before .before .before .before .before .before .before .args in
-    by-outcome (args .state) (args .four) (now (args .store)) (now (args .line)) (now (args .out)) (c .before .before .before .before .before .before .before .before .read-request .result) verb.Close (c .before .before .before .before .before .before .before .before .read-request .ensures) (c .before .before .before .before .before .enum-told4 .given .1)
+    let args = c .before .before .before .before .before .before .before .before .before .before .before .args in
+    by-outcome (args .state) (args .four) (now (args .store)) (now (args .line)) (now (args .out)) (c .before .before .before .before .before .before .before .before .before .before .before .args .request) verb.Close (c .before .before .before .before .before .before .before .before .before .before .before .pre) (c .before .before .before .before .before .enum-told4 .given .1)
     _ _ _ _ (c .before .before .before .before .close .ensures) (c .before .before .told3 .ensures) refl refl refl
 
 same-length-7 : tie.Need-same-length-7
@@ -299,8 +296,8 @@ same-length-8 c = search needs
 returns-5 : tie.Need-returns-5
 unfolding stateBy rowBy storeBy
 returns-5 c =
-    let args = c .before .before .before .before .before .before .before .before .before .before .before .before .before .before .before .args in
-    by-outcome (args .state) (args .four) (now (args .store)) (now (args .line)) (now (args .out)) (c .before .before .before .before .before .before .before .before .before .before .before .read-request .result) verb.Receive (c .before .before .before .before .before .before .before .before .before .before .before .read-request .ensures) (c .before .before .before .before .before .before .before .before .enum-told5 .given .1)
+    let args = c .before .before .before .before .before .before .before .before .before .before .before .before .before .before .args in
+    by-outcome (args .state) (args .four) (now (args .store)) (now (args .line)) (now (args .out)) (c .before .before .before .before .before .before .before .before .before .before .before .before .before .before .args .request) verb.Receive (c .before .before .before .before .before .before .before .before .before .before .before .before .before .before .pre) (c .before .before .before .before .before .before .before .before .enum-told5 .given .1)
     _ _ _ _ (c .before .before .before .before .before .before .received .ensures .0) (c .before .before .told4 .ensures) (received-state _ _ _ _ _ _ _ _) refl (c .before .before .before .before .before .before .received .ensures .1)
 
 same-length-9 : tie.Need-same-length-9
@@ -312,8 +309,8 @@ same-length-10 c = search needs
 returns-6 : tie.Need-returns-6
 unfolding stateBy rowBy storeBy
 returns-6 c =
-    let args = c .before .before .before .before .before .before .before .before .before .before .before .before .before .args in
-    by-row (args .state) (args .four) (now (args .store)) (now (args .line)) (now (args .out)) (c .before .before .before .before .before .before .before .before .before .read-request .result) verb.Read (c .before .before .before .before .before .before .before .before .before .read-request .ensures) (c .before .before .before .before .before .before .enum-told6 .given .1)
+    let args = c .before .before .before .before .before .before .before .before .before .before .before .before .args in
+    by-row (args .state) (args .four) (now (args .store)) (now (args .line)) (now (args .out)) (c .before .before .before .before .before .before .before .before .before .before .before .before .args .request) verb.Read (c .before .before .before .before .before .before .before .before .before .before .before .before .pre) (c .before .before .before .before .before .before .enum-told6 .given .1)
     _ _ _ _ (c .unchanged .ensures) (c .before .before .before .put-read .ensures) refl refl refl
 
 same-length-11 : tie.Need-same-length-11
@@ -325,8 +322,8 @@ same-length-12 c = search needs
 returns-7 : tie.Need-returns-7
 unfolding stateBy rowBy storeBy
 returns-7 c =
-    let args = c .before .before .before .before .before .before .before .before .before .before .before .before .before .args in
-    by-row (args .state) (args .four) (now (args .store)) (now (args .line)) (now (args .out)) (c .before .before .before .before .before .before .before .before .before .read-request .result) verb.Streams (c .before .before .before .before .before .before .before .before .before .read-request .ensures) (c .before .before .before .before .before .before .enum-told7 .given .1)
+    let args = c .before .before .before .before .before .before .before .before .before .before .before .before .args in
+    by-row (args .state) (args .four) (now (args .store)) (now (args .line)) (now (args .out)) (c .before .before .before .before .before .before .before .before .before .before .before .before .args .request) verb.Streams (c .before .before .before .before .before .before .before .before .before .before .before .before .pre) (c .before .before .before .before .before .before .enum-told7 .given .1)
     _ _ _ _ (c .unchanged2 .ensures) (c .before .before .before .put-streams .ensures) refl refl refl
 
 same-length-13 : tie.Need-same-length-13
@@ -335,8 +332,8 @@ same-length-13 c = search needs
 returns-8 : tie.Need-returns-8
 unfolding stateBy rowBy storeBy
 returns-8 c =
-    let args = c .before .before .before .before .before .before .before .before .before .before .before .before .args in
-    by-row (args .state) (args .four) (now (args .store)) (now (args .line)) (now (args .out)) (c .before .before .before .before .before .before .before .before .read-request .result) verb.Build (c .before .before .before .before .before .before .before .before .read-request .ensures) (c .before .before .before .before .before .enum-told8 .given .1)
+    let args = c .before .before .before .before .before .before .before .before .before .before .before .args in
+    by-row (args .state) (args .four) (now (args .store)) (now (args .line)) (now (args .out)) (c .before .before .before .before .before .before .before .before .before .before .before .args .request) verb.Build (c .before .before .before .before .before .before .before .before .before .before .before .pre) (c .before .before .before .before .before .enum-told8 .given .1)
     _ _ _ _ (c .unchanged3 .ensures) (c .before .before .before .put-build .ensures) refl refl refl
 
 same-length-14 : tie.Need-same-length-14
@@ -345,8 +342,8 @@ same-length-14 c = search needs
 returns-9 : tie.Need-returns-9
 unfolding stateBy rowBy storeBy
 returns-9 c =
-    let args = c .before .before .before .before .before .before .before .before .before .before .before .before .args in
-    by-row (args .state) (args .four) (now (args .store)) (now (args .line)) (now (args .out)) (c .before .before .before .before .before .before .before .before .read-request .result) verb.BuildDown (c .before .before .before .before .before .before .before .before .read-request .ensures) (c .before .before .before .before .before .enum-told9 .given .1)
+    let args = c .before .before .before .before .before .before .before .before .before .before .before .args in
+    by-row (args .state) (args .four) (now (args .store)) (now (args .line)) (now (args .out)) (c .before .before .before .before .before .before .before .before .before .before .before .args .request) verb.BuildDown (c .before .before .before .before .before .before .before .before .before .before .before .pre) (c .before .before .before .before .before .enum-told9 .given .1)
     _ _ _ _ (c .unchanged4 .ensures) (c .before .before .before .put-build-down .ensures) refl refl refl
 
 same-length-15 : tie.Need-same-length-15
@@ -355,8 +352,8 @@ same-length-15 c = search needs
 returns-10 : tie.Need-returns-10
 unfolding stateBy rowBy storeBy
 returns-10 c =
-    let args = c .before .before .before .before .before .before .before .before .before .before .before .before .before .args in
-    by-row (args .state) (args .four) (now (args .store)) (now (args .line)) (now (args .out)) (c .before .before .before .before .before .before .before .before .before .read-request .result) verb.Sizes (c .before .before .before .before .before .before .before .before .before .read-request .ensures) (c .before .before .before .before .before .before .enum-told10 .given .1)
+    let args = c .before .before .before .before .before .before .before .before .before .before .before .before .args in
+    by-row (args .state) (args .four) (now (args .store)) (now (args .line)) (now (args .out)) (c .before .before .before .before .before .before .before .before .before .before .before .before .args .request) verb.Sizes (c .before .before .before .before .before .before .before .before .before .before .before .before .pre) (c .before .before .before .before .before .before .enum-told10 .given .1)
     _ _ _ _ (c .unchanged5 .ensures) (c .before .before .before .put-sizes .ensures) refl (ap sizesRow (c .before .before .before .before .before .sizes-for .ensures)) refl
 
 same-length-16 : tie.Need-same-length-16
@@ -365,29 +362,29 @@ same-length-16 c = search needs
 returns-11 : tie.Need-returns-11
 unfolding stateBy rowBy storeBy
 returns-11 c =
-    let args = c .before .before .before .before .before .before .before .before .before .before .before .before .before .args in
-    by-row (args .state) (args .four) (now (args .store)) (now (args .line)) (now (args .out)) (c .before .before .before .before .before .before .before .before .before .read-request .result) verb.Worst (c .before .before .before .before .before .before .before .before .before .read-request .ensures) (c .before .before .before .before .before .before .enum-told11 .given .1)
+    let args = c .before .before .before .before .before .before .before .before .before .before .before .before .args in
+    by-row (args .state) (args .four) (now (args .store)) (now (args .line)) (now (args .out)) (c .before .before .before .before .before .before .before .before .before .before .before .before .args .request) verb.Worst (c .before .before .before .before .before .before .before .before .before .before .before .before .pre) (c .before .before .before .before .before .before .enum-told11 .given .1)
     _ _ _ _ (c .unchanged6 .ensures) (c .before .before .before .put-worst .ensures) refl (ap worstRow (c .before .before .before .before .before .worst-for .ensures)) refl
 
 returns-12 : tie.Need-returns-12
 unfolding stateBy rowBy storeBy
 returns-12 c =
-    let args = c .before .before .before .before .before .before .before .before .args in
-    by-row (args .state) (args .four) (now (args .store)) (now (args .line)) (now (args .out)) (c .before .before .before .before .read-request .result) verb.Pack (c .before .before .before .before .read-request .ensures) (c .before .enum-told12 .given .1)
+    let args = c .before .before .before .before .before .before .before .args in
+    by-row (args .state) (args .four) (now (args .store)) (now (args .line)) (now (args .out)) (c .before .before .before .before .before .before .before .args .request) verb.Pack (c .before .before .before .before .before .before .before .pre) (c .before .enum-told12 .given .1)
     _ _ _ _ (c .unchanged7 .ensures) (end-nothing (now (args .out)), put-nothing (now (args .out))) refl refl refl
 
 returns-13 : tie.Need-returns-13
 unfolding stateBy rowBy storeBy
 returns-13 c =
-    let args = c .before .before .before .before .before .before .before .before .args in
-    by-row (args .state) (args .four) (now (args .store)) (now (args .line)) (now (args .out)) (c .before .before .before .before .read-request .result) verb.Unpack (c .before .before .before .before .read-request .ensures) (c .before .enum-told13 .given .1)
+    let args = c .before .before .before .before .before .before .before .args in
+    by-row (args .state) (args .four) (now (args .store)) (now (args .line)) (now (args .out)) (c .before .before .before .before .before .before .before .args .request) verb.Unpack (c .before .before .before .before .before .before .before .pre) (c .before .enum-told13 .given .1)
     _ _ _ _ (c .unchanged8 .ensures) (end-nothing (now (args .out)), put-nothing (now (args .out))) refl refl refl
 
 returns-14 : tie.Need-returns-14
 unfolding stateBy rowBy storeBy
 returns-14 c =
-    let args = c .before .before .before .before .before .before .before .before .args in
-    by-row (args .state) (args .four) (now (args .store)) (now (args .line)) (now (args .out)) (c .before .before .before .before .read-request .result) verb.Nothing (c .before .before .before .before .read-request .ensures) (c .before .enum-told14 .given .1)
+    let args = c .before .before .before .before .before .before .before .args in
+    by-row (args .state) (args .four) (now (args .store)) (now (args .line)) (now (args .out)) (c .before .before .before .before .before .before .before .args .request) verb.Nothing (c .before .before .before .before .before .before .before .pre) (c .before .enum-told14 .given .1)
     _ _ _ _ (c .unchanged9 .ensures) (end-nothing (now (args .out)), put-nothing (now (args .out))) refl refl refl
 
 same-length-17 : tie.Need-same-length-17
@@ -396,15 +393,14 @@ same-length-17 c = search needs
 returns-15 : tie.Need-returns-15
 unfolding stateBy rowBy storeBy
 returns-15 c =
-    let args = c .before .before .before .before .before .before .before .before .before .before .before .before .args in
-    by-row (args .state) (args .four) (now (args .store)) (now (args .line)) (now (args .out)) (c .before .before .before .before .before .before .before .before .read-request .result) verb.Unreadable (c .before .before .before .before .before .before .before .before .read-request .ensures) (c .before .before .before .before .before .enum-told15 .given .1)
+    let args = c .before .before .before .before .before .before .before .before .before .before .before .args in
+    by-row (args .state) (args .four) (now (args .store)) (now (args .line)) (now (args .out)) (c .before .before .before .before .before .before .before .before .before .before .before .args .request) verb.Unreadable (c .before .before .before .before .before .before .before .before .before .before .before .pre) (c .before .before .before .before .before .enum-told15 .given .1)
     _ _ _ _ (c .unchanged10 .ensures) (c .before .before .before .put-refusal .ensures) refl refl refl
 
 pub call-line-spec : {M : Type 1} → statement M
 call-line-spec =
     tie.close
     (tie.spec
-    read-request-requires
     enum-told
     array-read-new
     array-read-new-2

@@ -35,7 +35,7 @@ returns c =
     (sym (c .before .before .before .before .before .before .before .before .before .before .before .before .changes .ensures) ∙ c .before .before .before .before .before .before .before .before .before .before .before .if1 .taken) (c .before .before .before .before .before .before .before .before .before .before .packs .ensures) _ _ _ _ (c .before .before .before .before .before .before .change-line .ensures)
 
 call-line-requires : tie.Need-call-line-requires
-call-line-requires c κs = search needs
+call-line-requires c κs = c .before .before .before .before .before .read-request .ensures
 
 same-length-4 : tie.Need-same-length-4
 same-length-4 c = search needs
@@ -50,7 +50,7 @@ returns-2 c =
     (sym (c .before .before .before .before .before .before .before .before .before .changes .ensures) ∙ c .before .before .before .before .before .before .before .before .if1 .left) (c .before .before .before .before .before .before .before .if2 .taken) _ _ _ (c .before .before .before .before .call-line .ensures)
 
 call-line-requires-2 : tie.Need-call-line-requires-2
-call-line-requires-2 c κs = search needs
+call-line-requires-2 c κs = c .before .before .before .before .before .read-request .ensures
 
 same-length-6 : tie.Need-same-length-6
 same-length-6 c = search needs
