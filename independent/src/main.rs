@@ -46,7 +46,8 @@ independent figures
 independent bench [CALL] [--rounds N] [--only NAME --calls N] [A:G]...
     times the proved library, the fast program and the literal one, least of the rounds;
     needs the library linked, as scripts/bench does
-    CALL         build, build-two, build-down-50, build-down-32, receive, read or control, or
+    CALL         build, build-two, build-down-50, build-down-32, receive, receive-down-50,
+                 receive-down-32, read, receive-packed, read-packed or control, or
                  reports alone, which has rows of its own; all if not given
     --rounds N   15 if not given
     --only NAME  only N untimed calls of rattle, fast or literal, for a profiler
