@@ -7,6 +7,7 @@ pub mod Codeword
 pub mod Ranges
 pub mod Answers
 pub mod PastRooms
+pub mod Exports
 pub mod Opened
 pub mod Accepted
 pub mod Release
