@@ -3,16 +3,20 @@
 use mathlib.Core.Path.{_≡_, refl, sym, _∙_, ap}
 use mathlib.Core.Bool.{Bool, true, false, cond}
 use mathlib.Core.List.{List}
-use Prim.Native.Nat.{ℕ}
+use Prim.Native.Nat.{ℕ, _≤_, _<_}
+use native.Mathlib.Omega.{arith}
+use lib.Dec.{ltb}
 use lib.ListN.{length}
+use borrow.Author.Tests.{lt-ltb, le-ltb}
 use Rattle.slots.specs.declared.State.{State}
 use Rattle.lines.specs.Put.{putAt, endAt}
+use Rattle.lines.proofs.Putting.{end-within}
 use Rattle.requests.specs.declared.Verb.{Verb}
 use Rattle.requests.specs.declared.Request.{Request}
 use Rattle.requests.specs.Request.{requestOf}
 use Rattle.yard.specs.declared.Step.{Step}
 use Rattle.yard.specs.Change.{changes, packs, changeRow, plainChanged, packedChanged}
-use Rattle.yard.specs.Step.{callRow, callStep, callStore, rowOfLine, changeStep, stepOf, plainAfter, packedAfter, outAfter}
+use Rattle.yard.specs.Step.{callRow, callStep, callStore, rowOfLine, changeStep, stepOf, plainAfter, packedAfter, outAfter, longestRow, stepWithin, plainWithin, packedWithin, outWithin}
 
 module _ (state : State) (four : Bool) (plain packed line out : List ℕ) {request : Request} (read : request ≡ requestOf line) where
   -- the step, both stores and the output
@@ -54,3 +58,34 @@ step-row state four plain packed line out = go (changes (requestOf line .verb)) 
     go : (t : Bool) → changes (requestOf line .verb) ≡ t → stepOf state four plain packed line out .written ≡ endAt 0 (rowOfLine state four plain packed line) out
     go true e = simp e
     go false e = simp e
+
+-- ---- only where the answer is sure to fit
+
+module _ (state : State) (four : Bool) (plain packed line out : List ℕ) where
+  -- the step, both stores and the output
+  abbrev Within : Step → List ℕ → List ℕ → List ℕ → Type 0
+  Within step plain′ packed′ out′ =
+      (step ≡ stepWithin state four plain packed line out)
+      × ((plain′ ≡ plainWithin state four plain packed line (length out))
+      × ((packed′ ≡ packedWithin state four plain packed line (length out)) × (out′ ≡ outWithin state four plain packed line out)))
+
+  pub nothing-done : length out < longestRow → Within (record { state = state; four = four; written = 0 }) plain packed out
+  unfolding stepWithin plainWithin packedWithin outWithin
+  nothing-done short = rw (lt-ltb (length out) longestRow short) (refl, (refl, (refl, refl)))
+
+  pub line-made : longestRow ≤ length out → (step : Step) (plain′ packed′ out′ : List ℕ)
+      → (step ≡ stepOf state four plain packed line out)
+      × ((plain′ ≡ plainAfter state four plain packed line)
+      × ((packed′ ≡ packedAfter state four plain packed line) × (out′ ≡ outAfter state four plain packed line out)))
+      → Within step plain′ packed′ out′
+  unfolding stepWithin plainWithin packedWithin outWithin
+  line-made long step plain′ packed′ out′ made = rw (le-ltb (length out) longestRow long) made
+
+  -- what is written stands within the output
+  pub written-within : stepWithin state four plain packed line out .written ≤ length out
+  unfolding stepWithin
+  written-within = go (ltb (length out) longestRow)
+    where
+      go : (t : Bool) → cond {A = Step} t (record { state = state; four = four; written = 0 }) (stepOf state four plain packed line out) .written ≤ length out
+      go true = omega arith
+      go false = omega (arith, step-row state four plain packed line out, end-within 0 (rowOfLine state four plain packed line) out (omega arith))

@@ -4,6 +4,7 @@
 use mathlib.Core.Bool.{Bool, false, true, cond}
 use mathlib.Core.List.{List, []}
 use Prim.Native.Nat.{ℕ}
+use lib.Dec.{ltb}
 use lib.ListN.{length, getD}
 use Rattle.segmentation.specs.Sizes.{sizesAnswer}
 use Rattle.planning.specs.Worst.{worstAnswer}
@@ -150,3 +151,29 @@ packedAfter state four plain packed line =
 -- the output with the row over its front, where it fits
 unfoldable pub outAfter : State → Bool → List ℕ → List ℕ → List ℕ → List ℕ → List ℕ
 outAfter state four plain packed line out = putAt 0 (rowOfLine state four plain packed line) out
+
+-- ---- only where the answer is sure to fit
+
+-- no row is longer: `ok`, a tab, a codeword of 172,800 bits and a newline
+abbrev pub longestRow : ℕ
+longestRow = 172804
+
+-- with a shorter output nothing is done
+unfoldable pub stepWithin : State → Bool → List ℕ → List ℕ → List ℕ → List ℕ → Step
+stepWithin state four plain packed line out =
+    cond (ltb (length out) longestRow)
+    (record { state = state; four = four; written = 0 })
+    (stepOf state four plain packed line out)
+
+-- the two stores and the output afterwards, where the output has `size` bytes
+unfoldable pub plainWithin : State → Bool → List ℕ → List ℕ → List ℕ → ℕ → List ℕ
+plainWithin state four plain packed line size =
+    cond (ltb size longestRow) plain (plainAfter state four plain packed line)
+
+unfoldable pub packedWithin : State → Bool → List ℕ → List ℕ → List ℕ → ℕ → List ℕ
+packedWithin state four plain packed line size =
+    cond (ltb size longestRow) packed (packedAfter state four plain packed line)
+
+unfoldable pub outWithin : State → Bool → List ℕ → List ℕ → List ℕ → List ℕ → List ℕ
+outWithin state four plain packed line out =
+    cond (ltb (length out) longestRow) out (outAfter state four plain packed line out)

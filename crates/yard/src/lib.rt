@@ -19,7 +19,7 @@ ghost use Rattle.answers.specs.Rows.{answerRow, runsRow};
 ghost use Rattle.answers.specs.SizesRow.{sizesRow};
 ghost use Rattle.yard.specs.Rows.{shareRow, readRow, streamsRow, buildRow, buildDownRow};
 ghost use Rattle.yard.specs.Change.{changeRow, plainChanged, packedChanged};
-ghost use Rattle.yard.specs.Step.{callRow, callStep, callStore, changeStep, stepOf, plainAfter, packedAfter, outAfter, at};
+ghost use Rattle.yard.specs.Step.{callRow, callStep, callStore, changeStep, stepOf, plainAfter, packedAfter, outAfter, stepWithin, plainWithin, packedWithin, outWithin, at};
 
 // The state and the form of the rooms to hand to the next line, and the length of the row that answers this one.
 pub struct Step {
@@ -31,9 +31,39 @@ pub struct Step {
 // The number of a line that can't be read.
 const UNREADABLE: usize = 15;
 
+// No row is longer: `ok`, a tab, a codeword of 172,800 bits and a newline.
+const LONGEST_ROW: usize = 172804;
+
 // Makes the call that a line, without its newline, asks for, on the rooms in the plain store or, `four` places a byte, in the packed one, or
-// changes their form; and puts the row of its answer at the start of out, where it fits.
+// changes their form; and puts the row of its answer at the start of out. Into an out that is shorter than the longest row no answer is sure to fit: then
+// nothing is done.
 pub fn replay_line(
+    state: State,
+    four: bool,
+    line: &[u8],
+    plain: &mut [u8],
+    packed: &mut [u8],
+    out: &mut [u8],
+) -> Step
+    ensures { λ r. ⌜ r ≡ stepWithin state four (now (plain .entry)) (now (packed .entry)) (now (line .entry)) (now (out .entry)) ⌝ }
+    ensures { λ r. ⌜ now (plain .exit)
+        ≡ plainWithin state four (now (plain .entry)) (now (packed .entry)) (now (line .entry)) (length (now (out .entry))) ⌝ }
+    ensures { λ r. ⌜ now (packed .exit)
+        ≡ packedWithin state four (now (plain .entry)) (now (packed .entry)) (now (line .entry)) (length (now (out .entry))) ⌝ }
+    ensures { λ r. ⌜ now (out .exit) ≡ outWithin state four (now (plain .entry)) (now (packed .entry)) (now (line .entry)) (now (out .entry)) ⌝ }
+{
+    if out.len() < LONGEST_ROW {
+        return Step {
+            state,
+            four,
+            written: 0,
+        };
+    }
+    line_on(state, four, line, plain, packed, out)
+}
+
+// The same, with the row where it fits.
+fn line_on(
     state: State,
     four: bool,
     line: &[u8],

@@ -1,16 +1,11 @@
 -- `replay::answer` is safe: a row stands within the output.
 -- Assumes nothing.
-use mathlib.Core.Path.{_≡_, _∙_, ap}
-use Prim.Native.Nat.{_≤_}
+use mathlib.Core.Path.{ap}
 use native.Mathlib.Omega.{arith}
-use lib.ListN.{length}
 use denote.Ref.{now}
 use Rattle.laws.proofs.Parts.{front-count}
-use Rattle.lines.specs.Put.{endAt}
-use Rattle.lines.proofs.Putting.{end-within}
 use Rattle.yard.specs.declared.Step.{Step}
-use Rattle.yard.specs.Step.{rowOfLine}
-use Rattle.yard.proofs.Lines.{step-row}
+use Rattle.yard.proofs.Lines.{written-within}
 use borrow.Author.Needs.{needs}
 use Rattle.replay.proofs.answer.Statement.{statement}
 use Rattle.replay.proofs.answer.Tie as tie
@@ -22,9 +17,12 @@ slice-reshare-prefix-put-out : tie.Need-slice-reshare-prefix-put-out
 slice-reshare-prefix-put-out c =
     let args = c .before .before .before .before .before .before .before .before .before .before .before .before .before .before .before .args in
     let made = c .before .before .before .before .before .before .before .replay-line in
-    let row = rowOfLine (args .state) (args .four) (now (args .plain)) (now (args .packed)) (now (args .line)) in
-    let ends : made .result .written ≡ endAt 0 row (now (args .out)) = ap (λ (s : Step). s .written) (made .ensures .0) ∙ step-row (args .state) (args .four) (now (args .plain)) (now (args .packed)) (now (args .line)) (now (args .out)) in
-    omega (arith, ends, end-within 0 row (now (args .out)) (omega arith), made .kept .1 .1 .1 .1 .1 .0)
+    omega (
+      arith,
+      ap (λ (s : Step). s .written) (made .ensures .0),
+      written-within (args .state) (args .four) (now (args .plain)) (now (args .packed)) (now (args .line)) (now (args .out)),
+      made .kept .1 .1 .1 .1 .1 .0,
+    )
 
 slice-aggregate-put-out : tie.Need-slice-aggregate-put-out
 slice-aggregate-put-out c = front-count _ _ (slice-reshare-prefix-put-out (c .before))
