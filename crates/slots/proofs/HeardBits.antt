@@ -18,8 +18,9 @@ use Rattle.segmentation.specs.CodeBlocks.{takenBefore}
 use Rattle.segmentation.specs.Sizes.{badSize}
 use Rattle.segmentation.proofs.Segmentation.{in-range, single, several}
 use Rattle.segmentation.proofs.CodeBlocks.{taken-all, filler-within}
-use Rattle.slots.specs.Room.{heard}
-use Rattle.slots.specs.Reading.{keptAt, lacks, lackingIn, lacking, heardCodeBlock, heardIn, heardFrom, heardSequence}
+use Rattle.slots.specs.Room.{isDecided, circleAt}
+use Rattle.slots.specs.Circle.{keptOn, missing, missingOn, lackingOn, heardOn, codeBlockOn}
+use Rattle.slots.specs.Reading.{lackingIn, lacking, heardCodeBlock, heardIn, heardFrom, heardSequence}
 use Rattle.slots.proofs.Sums.{sumFrom-none}
 
 -- a list by a rule that gives bits
@@ -40,20 +41,20 @@ unfolding fillerOf
 no-filler B r = rw (eqb·suc-zero r)
 
 -- a block of A bits, A in range
-module _ (M slot A : ℕ) (store : List ℕ) (good : badSize A ≡ false) where
+module _ (A : ℕ) (room : List ℕ) (good : badSize A ≡ false) where
   high : A + 24 ≤ 30600
   high = omega (arith, in-range A good)
 
   pub fits : (r : ℕ) → fillerOf (A + 24) r + 24 ≤ sizeOf (A + 24) r - checkLength (A + 24)
   fits r = filler-within (A + 24) high (omega arith) r
 
-  pub length-heardCodeBlock : (r : ℕ) → length (heardCodeBlock M slot (A + 24) store r) ≡ sizeOf (A + 24) r
-  unfolding heardCodeBlock
+  pub length-heardCodeBlock : (r : ℕ) → length (heardCodeBlock (A + 24) room r) ≡ sizeOf (A + 24) r
+  unfolding heardCodeBlock codeBlockOn heardOn
   length-heardCodeBlock r = rw (length-append, length-replicate, length-tabFrom) (omega (arith, fits r))
 
   length-heardFrom : (r n : ℕ) → r + n ≡ blocks (A + 24)
-      → length (heardFrom M slot (A + 24) store r n) + (takenBefore (A + 24) r + fillerOf (A + 24) r) ≡ A + 24 + filler (A + 24)
-  unfolding heardFrom heardIn takenBefore
+      → length (heardFrom (A + 24) room r n) + (takenBefore (A + 24) r + fillerOf (A + 24) r) ≡ A + 24 + filler (A + 24)
+  unfolding heardFrom heardIn heardOn takenBefore
   length-heardFrom zero zero e = absurd (omega (arith, some-block (A + 24)))
   length-heardFrom (suc r) zero e =
       let last : suc r ≡ blocks (A + 24) = omega arith in
@@ -61,45 +62,45 @@ module _ (M slot A : ℕ) (store : List ℕ) (good : badSize A ≡ false) where
   length-heardFrom r (suc n) e =
       rw (length-append, length-tabFrom) (omega (arith, fits r, no-filler (A + 24) r, length-heardFrom (suc r) n (omega arith)))
 
-  pub length-heardSequence : length (heardSequence M slot A store) ≡ A + 24
+  pub length-heardSequence : length (heardSequence A room) ≡ A + 24
   unfolding heardSequence takenBefore fillerOf
   length-heardSequence = omega (arith, length-heardFrom 0 (blocks (A + 24)) (omega arith))
 
   -- no data place lacks a bit
-  module _ (none : lacking M slot A store ≡ 0) where
-    kept-bit : (r i : ℕ) → r < blocks (A + 24) → fillerOf (A + 24) r ≤ i → i < sizeOf (A + 24) r → keptAt M slot (A + 24) store r 0 i < 2
-    unfolding lacking lackingIn lacks heard
-    kept-bit r i h l m = ltb-true (keptAt M slot (A + 24) store r 0 i) 2 (heard-is _ place)
+  module _ (none : lacking A room ≡ 0) where
+    kept-bit : (r i : ℕ) → r < blocks (A + 24) → fillerOf (A + 24) r ≤ i → i < sizeOf (A + 24) r → keptOn (circleAt r room) (sizeOf (A + 24) r + 4) 0 i < 2
+    unfolding lacking lackingIn lackingOn missingOn missing isDecided
+    kept-bit r i h l m = ltb-true (keptOn (circleAt r room) (sizeOf (A + 24) r + 4) 0 i) 2 (heard-is _ place)
       where
-        block : lackingIn M slot (A + 24) store r ≡ 0
+        block : lackingIn (A + 24) room r ≡ 0
         block = sumFrom-none _ 0 (blocks (A + 24)) none r (omega arith) (omega arith)
 
-        place : lacks M slot (A + 24) store r i ≡ 0
+        place : missingOn (circleAt r room) (sizeOf (A + 24) r + 4) i ≡ 0
         place = sumFrom-none _ (fillerOf (A + 24) r) (sizeOf (A + 24) r - fillerOf (A + 24) r) block i l (omega arith)
 
         heard-is : (t : Bool) → cond {A = ℕ} t 0 1 ≡ 0 → t ≡ true
         heard-is true e = refl
         heard-is false e = absurd (omega arith)
 
-    pub codeBlock-bits : (r : ℕ) → r < blocks (A + 24) → AreBits (heardCodeBlock M slot (A + 24) store r)
-    unfolding heardCodeBlock
+    pub codeBlock-bits : (r : ℕ) → r < blocks (A + 24) → AreBits (heardCodeBlock (A + 24) room r)
+    unfolding heardCodeBlock codeBlockOn heardOn
     codeBlock-bits r h =
         let F : ℕ = fillerOf (A + 24) r in
         let n : ℕ = sizeOf (A + 24) r - F in
-        let f : ℕ → ℕ = keptAt M slot (A + 24) store r 0 in
+        let f : ℕ → ℕ = keptOn (circleAt r room) (sizeOf (A + 24) r + 4) 0 in
         append-bits (replicate {A = ℕ} F 0) (tabFrom F n f) (zero-bits F) (tabFrom-bits F n f (λ i l m. kept-bit r i h l (omega arith)))
 
-    heardFrom-bits : (r n : ℕ) → r + n ≤ blocks (A + 24) → AreBits (heardFrom M slot (A + 24) store r n)
-    unfolding heardFrom heardIn
+    heardFrom-bits : (r n : ℕ) → r + n ≤ blocks (A + 24) → AreBits (heardFrom (A + 24) room r n)
+    unfolding heardFrom heardIn heardOn
     heardFrom-bits r zero h = no-bits
     heardFrom-bits r (suc n) h =
         let F : ℕ = fillerOf (A + 24) r in
         let k : ℕ = sizeOf (A + 24) r - checkLength (A + 24) - F in
-        let f : ℕ → ℕ = keptAt M slot (A + 24) store r 0 in
-        append-bits (tabFrom F k f) (heardFrom M slot (A + 24) store (suc r) n)
+        let f : ℕ → ℕ = keptOn (circleAt r room) (sizeOf (A + 24) r + 4) 0 in
+        append-bits (tabFrom F k f) (heardFrom (A + 24) room (suc r) n)
         (tabFrom-bits F k f (λ i l m. kept-bit r i (omega arith) l (omega arith)))
         (heardFrom-bits (suc r) n (omega arith))
 
-    pub sequence-bits : AreBits (heardSequence M slot A store)
+    pub sequence-bits : AreBits (heardSequence A room)
     unfolding heardSequence
     sequence-bits = heardFrom-bits 0 (blocks (A + 24)) (omega arith)

@@ -3,6 +3,7 @@ pub mod Buffers
 pub mod Heads
 pub mod Accepted
 pub mod Cleared
+pub mod Putting
 pub mod RoomLaws
 pub mod HeadLaws
 pub mod PlaceBounds

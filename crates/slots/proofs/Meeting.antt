@@ -1,60 +1,60 @@
 -- How a bit meets what a place keeps, 02 E2: the rule in the request's words, and that bits may be brought together before they are put, in any order.
 -- Assumes nothing.
 use mathlib.Core.Path.{_≡_, refl, sym, _∙_, ap}
-use mathlib.Core.Bool.{Bool, true, false, cond, _||_}
+use mathlib.Core.Bool.{Bool, true, false, cond, not, _||_}
 use Prim.Native.Nat.{ℕ, _<_}
 use native.Mathlib.Decide.{ℕ-discrete}
 use native.Mathlib.Omega.{arith}
 use borrow.Author.Tests.{lt-ltb, le-ltb, eq-eqb, ne-eqb}
-use Rattle.slots.specs.Room.{unheard, disputed, heard, isUnheard, meet}
+use Rattle.slots.specs.Room.{unheard, disputed, hasValue, isDecided, meet}
 
 -- ---- what the values mean
 
--- a bit is heard; disputed and unheard are not, and count as lacking
-pub heard-bit : (x : ℕ) → x < 2 → heard x ≡ true
-unfolding heard
-heard-bit x h = lt-ltb x 2 h
+-- a bit is decided; disputed and unheard are not, and count as lacking
+pub decided-bit : (x : ℕ) → x < 2 → isDecided x ≡ true
+unfolding isDecided
+decided-bit x h = lt-ltb x 2 h
 
-pub disputed-not : heard disputed ≡ false
-unfolding heard
+pub disputed-not : isDecided disputed ≡ false
+unfolding isDecided
 disputed-not = refl
 
-pub unheard-not : heard unheard ≡ false
-unfolding heard
+pub unheard-not : isDecided unheard ≡ false
+unfolding isDecided
 unheard-not = refl
 
--- what Open writes is unheard, and so is any value above 3
-pub unheard-two : isUnheard unheard ≡ true
-unfolding isUnheard
+-- what Open writes has no value, nor has anything above 3
+pub unheard-two : hasValue unheard ≡ false
+unfolding hasValue
 unheard-two = refl
 
-pub unheard-above : (x : ℕ) → 3 < x → isUnheard x ≡ true
-unfolding isUnheard
+pub unheard-above : (x : ℕ) → 3 < x → hasValue x ≡ false
+unfolding hasValue
 unheard-above x h = rw (ne-eqb x 2 (λ e. omega arith), lt-ltb 3 x h)
 
--- something was heard
+-- a bit has a value, and so has what is disputed
 abbrev pub Known : ℕ → Type 0
-Known x = isUnheard x ≡ false
+Known x = hasValue x ≡ true
 
 pub known-bit : (x : ℕ) → x < 2 → Known x
-unfolding isUnheard
+unfolding hasValue
 known-bit x h = rw (ne-eqb x 2 (λ e. omega arith), le-ltb 3 x (omega arith))
 
 pub known-disputed : Known disputed
-unfolding isUnheard
+unfolding hasValue
 known-disputed = refl
 
 -- ---- what a bit leaves
 
 -- on unheard it becomes the bit
-pub meet-unheard : (old bit : ℕ) → isUnheard old ≡ true → meet old bit ≡ bit
+pub meet-unheard : (old bit : ℕ) → hasValue old ≡ false → meet old bit ≡ bit
 unfolding meet
 meet-unheard old bit h = rw h
 
 -- on the same bit it stays
 pub meet-same : (bit : ℕ) → meet bit bit ≡ bit
 unfolding meet
-meet-same bit = rw (eq-eqb bit bit refl) (go (isUnheard bit))
+meet-same bit = rw (eq-eqb bit bit refl) (go (not (hasValue bit)))
   where
     go : (t : Bool) → cond (t || true) bit disputed ≡ bit
     go true = refl
@@ -88,7 +88,7 @@ to-disputed v h = elim (ℕ-discrete v disputed) [
 
 -- first with each other, and then with what is kept
 pub meet-together : (v a b : ℕ) → Known a → meet v (meet a b) ≡ meet (meet v a) b
-meet-together v a b h = go (isUnheard v) refl
+meet-together v a b h = go (hasValue v) refl
   where
     both : Known v → meet v (meet a b) ≡ meet (meet v a) b
     both k = elim (ℕ-discrete v a) [
@@ -102,9 +102,9 @@ meet-together v a b h = go (isUnheard v) refl
       ])
     ]
 
-    go : (t : Bool) → isUnheard v ≡ t → meet v (meet a b) ≡ meet (meet v a) b
-    go true e = meet-unheard v (meet a b) e ∙ ap (λ (x : ℕ). meet x b) (sym (meet-unheard v a e))
-    go false e = both e
+    go : (t : Bool) → hasValue v ≡ t → meet v (meet a b) ≡ meet (meet v a) b
+    go false e = meet-unheard v (meet a b) e ∙ ap (λ (x : ℕ). meet x b) (sym (meet-unheard v a e))
+    go true e = both e
 
 meet-swapped : (a b : ℕ) → Known a → Known b → meet a b ≡ meet b a
 meet-swapped a b h g = elim (ℕ-discrete a b) [

@@ -1,21 +1,22 @@
 -- Laws of the rooms, 01 'Slots': rooms of different slots and places of different code blocks lie apart, and what Open and a reception change of a store.
 -- Assumes nothing.
 use mathlib.Core.Path.{_≡_, refl, sym, _∙_, ap, subst}
-use mathlib.Core.List.{List, [], _∷_}
+use mathlib.Core.List.{List}
 use Prim.Native.Nat.{ℕ, zero, suc, _+_, _-_, _*_, _/_, _%_, _≤_, _<_}
-use native.Mathlib.Nat.{mod-lt, div-add-mod', div-lt-iff-lt-mul, mul-le-mul-right}
-use native.Mathlib.Decide.{decLt, decLe}
+use native.Mathlib.Nat.{zero-add, mod-lt, div-add-mod', div-lt-iff-lt-mul, mul-le-mul-right}
+use native.Mathlib.Decide.{ℕ-discrete, decLt, decLe}
 use native.Mathlib.Omega.{arith}
 use lib.Arith.{digits-lt, digits-div}
-use lib.ListN.{length, getD, drop, replicate, length-set, length-replicate, getD-replicate}
-use lib.Seq.{getD-set-other}
+use lib.ListN.{length, getD, take, drop, replicate, length-append, length-drop, length-replicate, getD-replicate, List·getD-append, take-append-drop}
+use lib.Seq.{drop-at, length-take-le, getD-append-add, getD-take, getD-drop}
 use borrow.Rule.Slice.PartMut.{putMid}
-use Rattle.laws.proofs.Parts.{put-is, length-put, getD-put-before, getD-put-in, getD-put-after}
+use Rattle.laws.proofs.Parts.{put-is, length-put as length-putMid, getD-put-before, getD-put-in, getD-put-after}
 use Rattle.segmentation.specs.Segmentation.{blocks}
-use Rattle.codeword.specs.Shares.{sharesBefore}
 use Rattle.slots.specs.State.{perBlock, roomLength, roomStart}
-use Rattle.slots.specs.Room.{unheard, meet, byteOf, putBit, cleared}
-use Rattle.slots.specs.Reception.{blockPlaces, putBits, putBlocks, received}
+use Rattle.slots.specs.Putting.{Keeping, arriving, metBy}
+use Rattle.slots.specs.Room.{unheard, agreeing, roomAt, circleAt, withRoom, withCircle, cleared}
+use Rattle.slots.specs.Reception.{blockPlaces, blockValues, putOn, putBlocks, received}
+use Rattle.slots.proofs.Putting.{length-put, put-follows, put-apart}
 
 -- ---- where the bytes lie
 
@@ -39,27 +40,32 @@ rooms-apart M s t at a b =
     place : (s t : ℕ) → s * roomLength M ≤ at → t * roomLength M ≤ at → s * roomLength M + (at - s * roomLength M) ≡ t * roomLength M + (at - t * roomLength M)
     place s t h l = omega arith
 
--- the places of a slot's code blocks are bytes of its room
-pub byte-in-room : (M slot r j : ℕ) → r < M → j < perBlock → InRoom M slot (byteOf M slot r j)
-unfolding byteOf roomLength
-byte-in-room M slot r j h l = (omega arith, omega (arith, digits-lt {c = perBlock} h l))
+-- ---- the room in a store, and the circles in a room
+
+pub room-byte : (M slot : ℕ) (store : List ℕ) (k : ℕ) → getD (roomAt M slot store) k 0 ≡ getD store (roomStart M slot + k) 0
+unfolding roomAt
+room-byte M slot store k = getD-drop (roomStart M slot) store k 0
+
+pub circle-entry : {X : Type 0} (r : ℕ) (room : List X) (j : ℕ) (none : X) → getD (circleAt r room) j none ≡ getD room (r * perBlock + j) none
+unfolding circleAt
+circle-entry r room j none = getD-drop (r * perBlock) room j none
+
+-- a room that has so many places of the circle
+pub circle-long : {X : Type 0} (r : ℕ) (room : List X) {j : ℕ} → r * perBlock + j < length room → j < length (circleAt r room)
+unfolding circleAt
+circle-long r room h = rw (length-drop (r * perBlock) room) (omega arith)
+
+-- the places of M code blocks are bytes of a room
+pub place-in-room : (M r j : ℕ) → r < M → j < perBlock → r * perBlock + j < roomLength M
+unfolding roomLength
+place-in-room M r j h l = digits-lt {c = perBlock} h l
 
 -- and each byte of the room is such a place
-pub by-place : (M slot : ℕ) (P : ℕ → Type 0) → ((r j : ℕ) → r < M → j < perBlock → P (byteOf M slot r j))
-    → (k : ℕ) → k < roomLength M → P (roomStart M slot + k)
-unfolding byteOf roomLength
-by-place M slot P f k h =
-    subst (λ (n : ℕ). P (roomStart M slot + n)) (div-add-mod' k perBlock)
+pub by-place : (M : ℕ) (P : ℕ → Type 0) → ((r j : ℕ) → r < M → j < perBlock → P (r * perBlock + j)) → (k : ℕ) → k < roomLength M → P k
+unfolding roomLength
+by-place M P f k h =
+    subst P (div-add-mod' k perBlock)
     (f (k / perBlock) (k % perBlock) (div-lt-iff-lt-mul {k = perBlock} {x = k} {y = M} (omega arith) .1 h) (mod-lt k (omega arith)))
-
--- one byte, one place
-pub byte-block : (M slot r j q k : ℕ) → j < perBlock → k < perBlock → byteOf M slot r j ≡ byteOf M slot q k → r ≡ q
-unfolding byteOf
-byte-block M slot r j q k h l e = omega arith
-
-pub byte-place : (M slot r j k : ℕ) → byteOf M slot r j ≡ byteOf M slot r k → j ≡ k
-unfolding byteOf
-byte-place M slot r j k e = omega arith
 
 -- ---- what Open writes
 
@@ -76,7 +82,7 @@ module _ (M slot : ℕ) (store : List ℕ) (fits : roomStart M slot + roomLength
   as-long = rw (length-replicate (roomLength M) unheard) (omega arith)
 
   pub length-cleared : length (cleared M slot store) ≡ length store
-  length-cleared = ap length put-back ∙ length-put (roomStart M slot) (roomStart M slot + roomLength M) store room-of-2 fits as-long
+  length-cleared = ap length put-back ∙ length-putMid (roomStart M slot) (roomStart M slot + roomLength M) store room-of-2 fits as-long
 
   pub cleared-in : (at : ℕ) → InRoom M slot at → getD (cleared M slot store) at 0 ≡ unheard
   unfolding room-of-2
@@ -100,73 +106,193 @@ module _ (M slot : ℕ) (store : List ℕ) (fits : roomStart M slot + roomLength
         ]
       ]
 
--- ---- what a reception writes
+-- ---- what a reception writes in a room
 
 -- the entries are places of a code block
 abbrev pub Places : List ℕ → Type 0
 Places js = (i : ℕ) → i < length js → getD js i 0 < perBlock
 
-pub length-putBits : (M slot r : ℕ) (js bits store : List ℕ) → length (putBits M slot r js bits store) ≡ length store
-unfolding putBits putBit
-length-putBits M slot r [] bits store = refl
-length-putBits M slot r (j ∷ js) bits store =
-    length-putBits M slot r js (drop 1 bits) (putBit store (byteOf M slot r j) (getD bits 0 0))
-    ∙ length-set store (byteOf M slot r j) (meet (getD store (byteOf M slot r j) 0) (getD bits 0 0))
-
--- a byte that is no place of code block r stays
-pub putBits-out : (M slot r : ℕ) (js bits store : List ℕ) (at : ℕ) → Places js → ((j : ℕ) → j < perBlock → at ≡ byteOf M slot r j → ⊥)
-    → getD (putBits M slot r js bits store) at 0 ≡ getD store at 0
-unfolding putBits putBit
-putBits-out M slot r [] bits store at p h = refl
-putBits-out M slot r (j ∷ js) bits store at p h =
-    putBits-out M slot r js (drop 1 bits) (putBit store (byteOf M slot r j) (getD bits 0 0)) at (λ i l. p (suc i) (omega arith)) h
-    ∙ getD-set-other store (byteOf M slot r j) at (meet (getD store (byteOf M slot r j) 0) (getD bits 0 0)) 0 (h j (p 0 (omega arith)))
-
 -- all that a transmission sends are places of code blocks
 abbrev pub AllPlaces : ℕ → ℕ → ℕ → ℕ → ℕ → ℕ → Type 0
 AllPlaces soft B Q N v G = (q : ℕ) → Places (blockPlaces soft B Q N v G q)
 
-pub length-putBlocks : (soft M slot B Q N v : ℕ) (bits : List ℕ) (r n : ℕ) (store : List ℕ)
-    → length (putBlocks soft M slot B Q N v bits r n store) ≡ length store
-unfolding putBlocks
-length-putBlocks soft M slot B Q N v bits r zero store = refl
-length-putBlocks soft M slot B Q N v bits r (suc n) store =
-    length-putBlocks soft M slot B Q N v bits (suc r) n
-    (putBits M slot r (blockPlaces soft B Q N v (length bits) r) (drop (sharesBefore (blocks B) Q N (length bits) r) bits) store)
-    ∙ length-putBits M slot r (blockPlaces soft B Q N v (length bits) r) (drop (sharesBefore (blocks B) Q N (length bits) r) bits) store
+module _ {X : Type 0} (r : ℕ) (circle room : List X) where
+  pub length-with : length circle ≡ length (circleAt r room) → length (withCircle r circle room) ≡ length room
+  unfolding withCircle circleAt
+  length-with e =
+      length-append (take (r * perBlock) room) circle
+      ∙ ap (λ (n : ℕ). length (take (r * perBlock) room) + n) e
+      ∙ sym (length-append (take (r * perBlock) room) (drop (r * perBlock) room))
+      ∙ ap length (take-append-drop (r * perBlock) room)
 
--- a byte that is no place of these code blocks stays
-pub putBlocks-out : (soft M slot B Q N v : ℕ) (bits : List ℕ) (r n : ℕ) (store : List ℕ) (at : ℕ) → AllPlaces soft B Q N v (length bits)
-    → ((q j : ℕ) → r ≤ q → q < r + n → j < perBlock → at ≡ byteOf M slot q j → ⊥)
-    → getD (putBlocks soft M slot B Q N v bits r n store) at 0 ≡ getD store at 0
-unfolding putBlocks
-putBlocks-out soft M slot B Q N v bits r zero store at p h = refl
-putBlocks-out soft M slot B Q N v bits r (suc n) store at p h =
-    putBlocks-out soft M slot B Q N v bits (suc r) n
-    (putBits M slot r (blockPlaces soft B Q N v (length bits) r) (drop (sharesBefore (blocks B) Q N (length bits) r) bits) store)
-    at
-    p
-    (λ q j l g. h q j (omega arith) (omega arith))
-    ∙ putBits-out M slot r (blockPlaces soft B Q N v (length bits) r) (drop (sharesBefore (blocks B) Q N (length bits) r) bits) store at
-    (p r)
-    (λ j. h r j (omega arith) (omega arith))
+  module _ (fits : r * perBlock ≤ length room) where
+    front : length (take (r * perBlock) room) ≡ r * perBlock
+    front = length-take-le (r * perBlock) room fits
 
--- a reception for a block of A bits, of which all code blocks have a place in the room
-module _ (soft M slot A Q N v : ℕ) (bits store : List ℕ) where
-  pub length-received : length (received soft M slot A Q N v bits store) ≡ length store
+    -- what stands before the circle stays
+    pub with-before : (at : ℕ) (none : X) → at < r * perBlock → getD (withCircle r circle room) at none ≡ getD room at none
+    unfolding withCircle
+    with-before at none l =
+        List·getD-append (take (r * perBlock) room) circle none at (rw front l) ∙ getD-take (r * perBlock) room at none l
+
+    -- and then comes the circle
+    pub with-from : (j : ℕ) (none : X) → getD (withCircle r circle room) (r * perBlock + j) none ≡ getD circle j none
+    unfolding withCircle
+    with-from j none = rw front at (getD-append-add (take (r * perBlock) room) circle j none)
+
+-- a transmission of a block of which all code blocks have their places in the room
+module _ {X Y : Type 0} (how : Keeping X Y) (soft B Q N v : ℕ) (values : List Y) where
+  -- the room after the values of code block r
+  abbrev afterBlock : ℕ → List X → List X
+  afterBlock r room = withCircle r (putOn how soft B Q N v values r (circleAt r room)) room
+
+  pub length-putOn : (r : ℕ) (circle : List X) → length (putOn how soft B Q N v values r circle) ≡ length circle
+  unfolding putOn
+  length-putOn r circle = length-put how _ _ circle
+
+  length-after : (r : ℕ) (room : List X) → length (afterBlock r room) ≡ length room
+  length-after r room = length-with r _ room (length-putOn r (circleAt r room))
+
+  pub length-putBlocks : (r n : ℕ) (room : List X) → length (putBlocks how soft B Q N v values r n room) ≡ length room
+  unfolding putBlocks
+  length-putBlocks r zero room = refl
+  length-putBlocks r (suc n) room = length-putBlocks (suc r) n (afterBlock r room) ∙ length-after r room
+
+  -- what a reception brings for place j of code block q
+  abbrev pub brought : ℕ → ℕ → List Y
+  brought q j = arriving how (blockPlaces soft B Q N v (length values) q) (blockValues B Q N values q) j
+
+  module _ (places : AllPlaces soft B Q N v (length values)) where
+    -- an entry that is no place of code block r stays
+    after-out : (r : ℕ) (room : List X) → r * perBlock ≤ length room → (at : ℕ) → ((j : ℕ) → j < perBlock → at ≡ r * perBlock + j → ⊥)
+        → getD (afterBlock r room) at (how .none) ≡ getD room at (how .none)
+    unfolding putOn
+    after-out r room fits at h = elim (decLt at (r * perBlock)) [
+      | yes l ↦ with-before r _ room fits at (how .none) l
+      | no l ↦
+          let j : ℕ = at - r * perBlock in
+          let is : at ≡ r * perBlock + j = omega arith in
+          rw is
+          (with-from r _ room fits j (how .none)
+          ∙ put-apart how (blockPlaces soft B Q N v (length values) r) (blockValues B Q N values r) (circleAt r room) j (λ i m e. h j (subst (λ (p : ℕ). p < perBlock) e (places r i m)) is)
+          ∙ circle-entry r room j (how .none))
+    ]
+
+    -- and so does one that is no place of these code blocks
+    pub putBlocks-out : (r n : ℕ) (room : List X) → (r + n) * perBlock ≤ length room → (at : ℕ)
+        → ((q j : ℕ) → r ≤ q → q < r + n → j < perBlock → at ≡ q * perBlock + j → ⊥)
+        → getD (putBlocks how soft B Q N v values r n room) at (how .none) ≡ getD room at (how .none)
+    unfolding putBlocks
+    putBlocks-out r zero room fits at h = refl
+    putBlocks-out r (suc n) room fits at h =
+        putBlocks-out (suc r) n (afterBlock r room) (rw (length-after r room) (omega arith)) at (λ q j l g. h q j (omega arith) (omega arith))
+        ∙ after-out r room (omega arith) at (λ j. h r j (omega arith) (omega arith))
+
+    -- a place of code block q keeps what it kept, met by what the reception brought for it
+    module _ (q j : ℕ) (less : j < perBlock) where
+      own : (room : List X) → (q + 1) * perBlock ≤ length room
+          → getD (afterBlock q room) (q * perBlock + j) (how .none) ≡ metBy how (getD room (q * perBlock + j) (how .none)) (brought q j)
+      unfolding putOn
+      own room fits =
+          with-from q _ room (omega arith) j (how .none)
+          ∙ put-follows how _ _ (circleAt q room) j (circle-long q room (omega arith))
+          ∙ ap (λ (x : X). metBy how x (brought q j)) (circle-entry q room j (how .none))
+
+      pub putBlocks-here : (r n : ℕ) (room : List X) → (r + n) * perBlock ≤ length room → r ≤ q → q < r + n
+          → getD (putBlocks how soft B Q N v values r n room) (q * perBlock + j) (how .none)
+          ≡ metBy how (getD room (q * perBlock + j) (how .none)) (brought q j)
+      unfolding putBlocks
+      putBlocks-here r zero room fits h g = absurd (omega arith)
+      putBlocks-here r (suc n) room fits h g = elim (ℕ-discrete q r) [
+        | yes same ↦
+            putBlocks-out (suc r) n (afterBlock r room) (rw (length-after r room) (omega arith)) (q * perBlock + j) (λ p i u g′ m e. omega arith)
+            ∙ subst (λ (p : ℕ). getD (afterBlock p room) (q * perBlock + j) (how .none) ≡ metBy how (getD room (q * perBlock + j) (how .none)) (brought q j)) same
+            (own room (omega arith))
+        | no other ↦
+            putBlocks-here (suc r) n (afterBlock r room) (rw (length-after r room) (omega arith)) (omega arith) (omega arith)
+            ∙ ap (λ (x : X). metBy how x (brought q j)) (after-out r room (omega arith) (q * perBlock + j) (λ i m e. other (omega arith)))
+      ]
+
+-- a reception for a block of A bits, of which all code blocks have their places in the room
+module _ {X Y : Type 0} (how : Keeping X Y) (soft A Q N v : ℕ) (values : List Y) (room : List X) where
+  pub length-received : length (received how soft A Q N v values room) ≡ length room
   unfolding received
-  length-received = length-putBlocks soft M slot (A + 24) Q N v bits 0 (blocks (A + 24)) store
+  length-received = length-putBlocks how soft (A + 24) Q N v values 0 (blocks (A + 24)) room
 
-  module _ (fits : blocks (A + 24) ≤ M) (places : AllPlaces soft (A + 24) Q N v (length bits)) where
-    -- no byte of another room, and none past the rooms
-    pub received-out : (at : ℕ) → (InRoom M slot at → ⊥) → getD (received soft M slot A Q N v bits store) at 0 ≡ getD store at 0
+  module _ (fits : blocks (A + 24) * perBlock ≤ length room) (places : AllPlaces soft (A + 24) Q N v (length values)) where
+    -- a place of a code block: what it kept, met by what the reception brought for it
+    pub received-here : (r j : ℕ) → r < blocks (A + 24) → j < perBlock
+        → getD (circleAt r (received how soft A Q N v values room)) j (how .none)
+        ≡ metBy how (getD (circleAt r room) j (how .none)) (brought how soft (A + 24) Q N v values r j)
     unfolding received
-    received-out at h = putBlocks-out soft M slot (A + 24) Q N v bits 0 (blocks (A + 24)) store at places
-        (λ q j l g k e. h (rw e (byte-in-room M slot q j (omega arith) k)))
+    received-here r j h l =
+        circle-entry r _ j (how .none)
+        ∙ putBlocks-here how soft (A + 24) Q N v values places r j l 0 (blocks (A + 24)) room (rw (zero-add (blocks (A + 24))) fits) (omega arith) (omega arith)
+        ∙ ap (λ (x : X). metBy how x (brought how soft (A + 24) Q N v values r j)) (sym (circle-entry r room j (how .none)))
 
-    -- no place of a code block past the last
-    pub received-past : (r j : ℕ) → blocks (A + 24) ≤ r → j < perBlock
-        → getD (received soft M slot A Q N v bits store) (byteOf M slot r j) 0 ≡ getD store (byteOf M slot r j) 0
+    -- what lies past the code blocks stays
+    pub received-past : (at : ℕ) → blocks (A + 24) * perBlock ≤ at → getD (received how soft A Q N v values room) at (how .none) ≡ getD room at (how .none)
     unfolding received
-    received-past r j h l = putBlocks-out soft M slot (A + 24) Q N v bits 0 (blocks (A + 24)) store (byteOf M slot r j) places
-        (λ q k u g m e. let same : r ≡ q = byte-block M slot r j q k l m e in omega arith)
+    received-past at h = putBlocks-out how soft (A + 24) Q N v values places 0 (blocks (A + 24)) room (rw (zero-add (blocks (A + 24))) fits) at
+        (λ q j u g m e. omega (arith, digits-lt {c = perBlock} g m))
+
+-- ---- what a reception writes in a store: another room for the slot
+
+module _ (M slot : ℕ) (room store : List ℕ) where
+  pub length-withRoom : length room ≡ length (roomAt M slot store) → length (withRoom M slot room store) ≡ length store
+  unfolding withRoom roomAt
+  length-withRoom e =
+      length-append (take (roomStart M slot) store) room
+      ∙ ap (λ (n : ℕ). length (take (roomStart M slot) store) + n) e
+      ∙ sym (length-append (take (roomStart M slot) store) (drop (roomStart M slot) store))
+      ∙ ap length (take-append-drop (roomStart M slot) store)
+
+  module _ (fits : roomStart M slot ≤ length store) where
+    front-long : length (take (roomStart M slot) store) ≡ roomStart M slot
+    front-long = length-take-le (roomStart M slot) store fits
+
+    -- it is the slot's room
+    pub room-with : roomAt M slot (withRoom M slot room store) ≡ room
+    unfolding withRoom roomAt
+    room-with = drop-at (take (roomStart M slot) store) room (roomStart M slot) front-long
+
+    -- and what stands before it stays
+    pub withRoom-before : (at : ℕ) → at < roomStart M slot → getD (withRoom M slot room store) at 0 ≡ getD store at 0
+    unfolding withRoom
+    withRoom-before at l = List·getD-append (take (roomStart M slot) store) room 0 at (rw front-long l) ∙ getD-take (roomStart M slot) store at 0 l
+
+-- a reception for a block of A bits in a store that has the slot's room
+module _ (soft M slot A Q N v : ℕ) (bits store : List ℕ) (fits : roomStart M slot + roomLength M ≤ length store) (few : blocks (A + 24) ≤ M)
+    (places : AllPlaces soft (A + 24) Q N v (length bits))
+  where
+    abbrev after : List ℕ
+    after = withRoom M slot (received agreeing soft A Q N v bits (roomAt M slot store)) store
+
+    pub blocks-fit : blocks (A + 24) * perBlock ≤ length (roomAt M slot store)
+    unfolding roomAt roomLength
+    blocks-fit = rw (length-drop (roomStart M slot) store) (omega (arith, mul-le-mul-right perBlock few))
+
+    pub length-stored : length after ≡ length store
+    length-stored = length-withRoom M slot _ store (length-received agreeing soft A Q N v bits (roomAt M slot store))
+
+    pub room-stored : roomAt M slot after ≡ received agreeing soft A Q N v bits (roomAt M slot store)
+    room-stored = room-with M slot _ store (omega arith)
+
+    -- no byte of another room is written, and none past the rooms
+    pub stored-out : (at : ℕ) → (InRoom M slot at → ⊥) → getD after at 0 ≡ getD store at 0
+    unfolding agreeing roomLength
+    stored-out at h = elim (decLt at (roomStart M slot)) [
+      | yes l ↦ withRoom-before M slot _ store (omega arith) at l
+      | no l ↦ elim (decLt at (roomStart M slot + roomLength M)) [
+        | yes g ↦ absurd (h (omega arith, g))
+        | no g ↦
+            let k : ℕ = at - roomStart M slot in
+            let is : at ≡ roomStart M slot + k = omega arith in
+            ap (λ (n : ℕ). getD after n 0) is
+            ∙ sym (room-byte M slot after k)
+            ∙ ap (λ (l : List ℕ). getD l k 0) room-stored
+            ∙ received-past agreeing soft A Q N v bits (roomAt M slot store) blocks-fit places k (omega (arith, mul-le-mul-right perBlock few))
+            ∙ room-byte M slot store k
+            ∙ ap (λ (n : ℕ). getD store n 0) (sym is)
+      ]
+    ]

@@ -5,7 +5,7 @@ use Prim.Native.Nat.{ℕ, zero, suc, _+_, _*_, _≤_, _<_}
 use native.Mathlib.Nat.{add-suc}
 use native.Mathlib.Decide.{ℕ-discrete}
 use native.Mathlib.Omega.{arith}
-use Rattle.slots.specs.Reading.{sumFrom}
+use Rattle.slots.specs.Circle.{sumFrom}
 
 -- no term, and one more
 pub sumFrom-done : (f : ℕ → ℕ) (i : ℕ) → sumFrom f i 0 ≡ 0

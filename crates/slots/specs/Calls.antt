@@ -16,7 +16,7 @@ use Rattle.slots.specs.declared.State.{State}
 use Rattle.slots.specs.declared.Answer.the-variants.{Done, StillLacking}
 use Rattle.slots.specs.declared.Outcome.{Outcome}
 use Rattle.slots.specs.State.{storeLength, closedHead, openHead, newState, headAt, tooMany, badShape, badState}
-use Rattle.slots.specs.Room.{cleared}
+use Rattle.slots.specs.Room.{agreeing, roomAt, withRoom, cleared}
 use Rattle.slots.specs.Reception.{received}
 use Rattle.slots.specs.Reading.{lacking, heardAnswer, heardBlock, threeStreams}
 use Rattle.slots.specs.Answers.{isDone, unlessRefused}
@@ -102,7 +102,7 @@ receiveNumber state lent slot terminal Q N v bits =
 unfoldable pub receiveStore : State → ℕ → ℕ → ℕ → ℕ → ℕ → List ℕ → List ℕ → List ℕ
 receiveStore state slot terminal Q N v bits store =
     cond (eqb (receiveNumber state (length store) slot terminal Q N v bits) 0)
-    (received (shareAtHead state slot) (state .blocks) slot (sizeAtHead state slot) Q N v bits store)
+    (withRoom (state .blocks) slot (received agreeing (shareAtHead state slot) (sizeAtHead state slot) Q N v bits (roomAt (state .blocks) slot store)) store)
     store
 
 -- accepted: how many data places lack a bit after the reception
@@ -110,7 +110,7 @@ unfoldable pub receiveOutcome : State → ℕ → ℕ → ℕ → ℕ → ℕ �
 receiveOutcome state slot terminal Q N v bits store =
     unlessRefused (receiveNumber state (length store) slot terminal Q N v bits) state
     (record {
-      answer = StillLacking (lacking (state .blocks) slot (sizeAtHead state slot) (receiveStore state slot terminal Q N v bits store));
+      answer = StillLacking (lacking (sizeAtHead state slot) (roomAt (state .blocks) slot (receiveStore state slot terminal Q N v bits store)));
       state = state;
     })
 
@@ -123,7 +123,7 @@ readNumber state lent slot terminal size =
 unfoldable pub readOutcome : State → List ℕ → ℕ → ℕ → ℕ → Outcome
 readOutcome state store slot terminal size =
     unlessRefused (readNumber state (length store) slot terminal size) state
-    (record { answer = heardAnswer (state .blocks) slot (sizeAtHead state slot) store; state = state })
+    (record { answer = heardAnswer (sizeAtHead state slot) (roomAt (state .blocks) slot store); state = state })
 
 -- the block is released: nothing is refused
 unfoldable pub released : State → List ℕ → ℕ → ℕ → ℕ → Bool
@@ -132,7 +132,7 @@ released state store slot terminal size = isDone (readOutcome state store slot t
 unfoldable pub readOutput : State → List ℕ → ℕ → ℕ → List ℕ → List ℕ
 readOutput state store slot terminal out =
     cond (released state store slot terminal (length out))
-    (heardBlock (state .blocks) slot (sizeAtHead state slot) store ++ drop (sizeAtHead state slot) out)
+    (heardBlock (sizeAtHead state slot) (roomAt (state .blocks) slot store) ++ drop (sizeAtHead state slot) out)
     out
 
 -- Streams: 13, 5, 6, 8, 9, 14, 5 (output)
@@ -152,7 +152,7 @@ streamsOutcome state lent slot terminal r size =
 unfoldable pub streamsOutput : State → List ℕ → ℕ → ℕ → ℕ → List ℕ → List ℕ
 streamsOutput state store slot terminal r out =
     cond (eqb (streamsNumber state (length store) slot terminal r (length out)) 0)
-    (threeStreams (state .blocks) slot (sizeAtHead state slot + 24) store r
+    (threeStreams (sizeAtHead state slot + 24) (roomAt (state .blocks) slot store) r
     ++ drop (3 * (sizeOf (sizeAtHead state slot + 24) r + 4)) out)
     out
 

@@ -8,6 +8,7 @@ use Rattle.check_bits.specs.CheckBits.{checkBits, gCRC24B}
 use Rattle.segmentation.specs.Segmentation.{blocks}
 use Rattle.segmentation.specs.CodeBlocks.{withCheck}
 use Rattle.slots.specs.declared.State.{State}
+use Rattle.slots.specs.Room.{roomAt}
 use Rattle.slots.specs.Reading.{heardCodeBlock, heardSequence, heardBlock}
 use Rattle.slots.specs.Calls.{sizeAtHead}
 
@@ -22,10 +23,10 @@ blocksAt state slot = blocks (sizeAtHead state slot + 24)
 -- code block r as it was heard ends in its CRC24B, filler counted as 0
 unfoldable pub RightBlock : State → List ℕ → ℕ → ℕ → Type 0
 RightBlock state store slot r =
-    EndsInCheck gCRC24B (heardCodeBlock (state .blocks) slot (sizeAtHead state slot + 24) store r)
+    EndsInCheck gCRC24B (heardCodeBlock (sizeAtHead state slot + 24) (roomAt (state .blocks) slot store) r)
 
 -- what was heard of the block is followed by its transport check
 unfoldable pub RightTransport : State → List ℕ → ℕ → Type 0
 RightTransport state store slot =
-    heardSequence (state .blocks) slot (sizeAtHead state slot) store
-    ≡ withCheck (heardBlock (state .blocks) slot (sizeAtHead state slot) store)
+    heardSequence (sizeAtHead state slot) (roomAt (state .blocks) slot store)
+    ≡ withCheck (heardBlock (sizeAtHead state slot) (roomAt (state .blocks) slot store))

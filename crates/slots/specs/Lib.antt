@@ -1,5 +1,7 @@
 pub mod State
+pub mod Putting
 pub mod Room
+pub mod Circle
 pub mod Reception
 pub mod Reading
 pub mod Answers

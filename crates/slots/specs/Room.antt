@@ -1,11 +1,13 @@
--- What a place of a room keeps, 01 'Slots' and 02 E2: 0 and 1 are heard bits, 3 means disputed, every other value unheard; and how a new bit meets what is kept.
+-- What a place of a room keeps, 01 'Slots' and 02 E2: 0 and 1 are heard bits, 3 means disputed, every other value unheard; how a new bit meets what is kept;
+-- and the one place where a store enters: the room of a slot, and in it the circle of a code block.
 -- Assumes nothing.
-use mathlib.Core.Bool.{Bool, cond, _||_}
-use mathlib.Core.List.{List, [], _∷_, _++_}
+use mathlib.Core.Bool.{Bool, cond, not, _||_}
+use mathlib.Core.List.{List, _++_}
 use Prim.Native.Nat.{ℕ, _+_, _*_}
 use lib.Dec.{eqb, ltb}
-use lib.ListN.{length, take, drop, getD, set, replicate}
+use lib.ListN.{take, drop, replicate}
 use Rattle.slots.specs.State.{perBlock, roomLength, roomStart}
+use Rattle.slots.specs.Putting.{Keeping}
 
 -- what Open writes: unheard
 abbrev pub unheard : ℕ
@@ -15,25 +17,37 @@ unheard = 2
 abbrev pub disputed : ℕ
 disputed = 3
 
--- a place with this value has a bit: one was heard, and none that differs
-unfoldable pub heard : ℕ → Bool
-heard x = ltb x 2
+-- a place with this value has a value: something was heard for it, that is neither 2 nor above 3
+unfoldable pub hasValue : ℕ → Bool
+hasValue x = not (eqb x unheard || ltb disputed x)
 
--- a place with this value has heard nothing: 2, or above 3
-unfoldable pub isUnheard : ℕ → Bool
-isUnheard x = eqb x unheard || ltb disputed x
+-- and is decided: one bit was heard, and none that differs; what is not decided is lacking
+unfoldable pub isDecided : ℕ → Bool
+isDecided x = ltb x 2
 
 -- what a place that kept `old` keeps after the bit `new`: the bit, if nothing was heard before or the same; else it is disputed, and stays so
 unfoldable pub meet : ℕ → ℕ → ℕ
-meet old new = cond (isUnheard old || eqb old new) new disputed
+meet old new = cond (not (hasValue old) || eqb old new) new disputed
 
--- the byte of the store where circle place j of code block r of a slot is kept
-unfoldable pub byteOf : ℕ → ℕ → ℕ → ℕ → ℕ
-byteOf M slot r j = roomStart M slot + (r * perBlock + j)
+-- so bits meet what rooms keep
+unfoldable pub agreeing : Keeping ℕ ℕ
+agreeing = record { none = 0; nothing = 0; meets = meet }
 
--- the store with the bit put at a byte
-unfoldable pub putBit : List ℕ → ℕ → ℕ → List ℕ
-putBit store at bit = set store at (meet (getD store at 0) bit)
+-- the room of a slot, for M code blocks: what stands in the store from the room's start on
+unfoldable pub roomAt : {X : Type 0} → ℕ → ℕ → List X → List X
+roomAt M slot store = drop (roomStart M slot) store
+
+-- the circle of code block r: what stands in a room from the circle's first place on
+unfoldable pub circleAt : {X : Type 0} → ℕ → List X → List X
+circleAt r room = drop (r * perBlock) room
+
+-- the store with another room for a slot, whatever stands behind it included
+unfoldable pub withRoom : {X : Type 0} → ℕ → ℕ → List X → List X → List X
+withRoom M slot room store = take (roomStart M slot) store ++ room
+
+-- the room with another circle for code block r, whatever stands behind it included
+unfoldable pub withCircle : {X : Type 0} → ℕ → List X → List X → List X
+withCircle r circle room = take (r * perBlock) room ++ circle
 
 -- the store with the slot's whole room unheard
 unfoldable pub cleared : ℕ → ℕ → List ℕ → List ℕ
