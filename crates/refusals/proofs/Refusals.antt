@@ -1,7 +1,7 @@
 -- Laws of refusals in order: a chain of `or_else` is `firstOf`; what 0 says, and what another number says.
 -- In a Proof file: `chained (next (c … .or-else .ensures) (next (c .or-else2 .ensures) done)) tt`, one `next` a call, proves
--- `r ≡ firstOf rules` under `unfolding rules`. Behind `if no != 0 { return .. }`, `cleared _ (c … .F .ensures) (c .if1 .left) tt i` proves
--- that the test of rule i, counted from 0, is false. A rule's test is written as the code has it: `a >= 7` is `leb 7 a`.
+-- `r ≡ firstOf rules` under `unfolding rules`. Behind `if no != 0 { return .. }`, `passed rules (c … .F .ensures) (c .if1 .left) tt (sizeRule A) (search listed)`
+-- proves that the test of the rule so named is false, wherever it stands among the rules. A rule's test is written as the code has it: `a >= 7` is `leb 7 a`.
 -- Assumes nothing.
 use mathlib.Core.Path.{_≡_, refl, sym, _∙_, ap, ap₂}
 use mathlib.Core.Bool.{Bool, true, false, cond}
@@ -80,7 +80,31 @@ chained-on rs {n} {ss} {m} e w t u = w .is u ∙ ap (λ (k : ℕ). cond (eqb k 0
 
 -- ---- what the number given back says
 
+-- a rule is one of the rules: `search listed` finds it by its name
+pub data Listed : Rule → List Rule → Type 0 where
+  here : {r : Rule} {rs : List Rule} → Listed r (r ∷ rs)
+  later : {r a : Rule} {rs : List Rule} → Listed r rs → Listed r (a ∷ rs)
+
+-- far down a list too, so that the search need not go deep
+pub farther : {r a b c d : Rule} {rs : List Rule} → Listed r rs → Listed r (a ∷ b ∷ c ∷ d ∷ rs)
+farther w = later (later (later (later w)))
+
+pub ruleset listed = (here, later, farther)
+
 -- 0: no rule applies
+none-of : (rs : List Rule) → T (numbered rs) → firstOf rs ≡ 0 → (r : Rule) → Listed r rs → r .bad ≡ false
+unfolding firstOf
+none-of (a ∷ rs) t e r w = by (a .bad) refl (numbered-cons a rs t .0) e (none-of rs (numbered-cons a rs t .1)) r w
+  where
+    by : (b : Bool) → a .bad ≡ b → eqb (a .number) 0 ≡ false → given b (a .number) (firstOf rs) ≡ 0
+        → (firstOf rs ≡ 0 → (r : Rule) → Listed r rs → r .bad ≡ false) → (r : Rule) → Listed r (a ∷ rs) → r .bad ≡ false
+    by true q k e f r w = absurd (eqb-false (a .number) 0 k e)
+    by false q k e f r here = q
+    by false q k e f r (later w) = f e r w
+
+pub passed : (rs : List Rule) {n : ℕ} → n ≡ firstOf rs → n ≡ 0 → T (numbered rs) → (r : Rule) → Listed r rs → r .bad ≡ false
+passed rs e z t r w = none-of rs t (sym e ∙ z) r w
+
 clear : (rs : List Rule) → T (numbered rs) → firstOf rs ≡ 0 → (i : ℕ) → getD rs i never .bad ≡ false
 unfolding firstOf
 clear [] t e i = refl
