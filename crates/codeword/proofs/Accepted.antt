@@ -10,7 +10,7 @@ use lib.Dec.{eqb, ltb, lit<}
 use borrow.Author.Tests.{eqb-true, eqb-false, ltb-false, lt-ltb, not-false}
 use Rattle.laws.specs.Bits.{AreBits}
 use Rattle.codeword.specs.Shares.{symbols, share}
-use Rattle.codeword.specs.Build.{badModulation, badLayers, badAllocation, shareOf, badBits}
+use Rattle.codeword.specs.Build.{badModulation, badLayers, badSymbol, badLength, badAllocation, shareOf, badBits}
 
 -- one of two tests, both false where the whole is
 pub or-false : (a b : Bool) → (a || b) ≡ false → (a ≡ false) × (b ≡ false)
@@ -40,6 +40,20 @@ step Q N q n =
     let high : N * Q ≤ 4 * 6 = mul-le-mul (n .1) (q .1) in
     omega arith
 
+pub symbol-step : (Q N : ℕ) → badSymbol Q N ≡ false → (0 < N * Q) × (N * Q ≤ 24)
+unfolding badSymbol
+symbol-step Q N h = let both = or-false (badModulation Q) (badLayers N) h in step Q N (modulation Q (both .0)) (layers N (both .1))
+
+-- number 3 is that for Q and N or that for G
+pub allocation-of : (C Q N G : ℕ) → badSymbol Q N ≡ false → badLength C Q N G ≡ false → badAllocation C Q N G ≡ false
+unfolding badAllocation
+allocation-of C Q N G e f = simp (e, f)
+
+-- past Q and N it is that for G alone
+pub length-left : (C Q N G : ℕ) → badSymbol Q N ≡ false → badAllocation C Q N G ≡ badLength C Q N G
+unfolding badAllocation
+length-left C Q N G e = simp e
+
 -- what an accepted allocation keeps to
 pub record Allocated (C Q N G : ℕ) : Type 0 where
   pub modulation-fits : (0 < Q) × (Q ≤ 6)
@@ -50,16 +64,16 @@ pub record Allocated (C Q N G : ℕ) : Type 0 where
   pub enough : C ≤ symbols Q N G
 
 pub allocated : (C Q N G : ℕ) → badAllocation C Q N G ≡ false → Allocated C Q N G
-unfolding badAllocation
+unfolding badAllocation badSymbol badLength
 allocated C Q N G h =
-    let q = or-false _ _ h in
-    let n = or-false _ _ (q .1) in
-    let g = or-false _ _ (n .1) in
+    let both = or-false (badSymbol Q N) (badLength C Q N G) h in
+    let symbol = or-false (badModulation Q) (badLayers N) (both .0) in
+    let g = or-false _ _ (both .1) in
     let m = or-false _ _ (g .1) in
     record {
-      modulation-fits = modulation Q (q .0);
-      layers-fit = layers N (n .0);
-      step-fits = step Q N (modulation Q (q .0)) (layers N (n .0));
+      modulation-fits = modulation Q (symbol .0);
+      layers-fit = layers N (symbol .1);
+      step-fits = symbol-step Q N (both .0);
       most = ltb-false 172800 G (g .0);
       multiple = eqb-true _ _ (not-false _ (m .0));
       enough = ltb-false (symbols Q N G) C (m .1);

@@ -8,21 +8,22 @@ use native.Mathlib.Decide.{decLt}
 use native.Mathlib.Omega.{arith}
 use lib.Dec.{eqb, leb, ltb}
 use lib.ListN.{length, drop}
-use borrow.Author.Tests.{lt-ltb, le-ltb, ltb-true, ltb-false, eqb-true, eqb-false, ne-eqb, eq-eqb, not-false}
+use borrow.Author.Tests.{lt-ltb, le-ltb, ltb-false, eqb-true, eqb-false, ne-eqb, eq-eqb, not-false}
 use Rattle.refusals.specs.Refusals.{Rule, firstOf}
-use Rattle.refusals.proofs.Refusals.{cleared}
+use Rattle.refusals.proofs.Refusals.{Listed, passed, listed}
 use Rattle.segmentation.specs.Segmentation.{blocks, long, shorts, sizeOf}
 use Rattle.segmentation.specs.declared.Segments.{Segments}
 use Rattle.segmentation.specs.Sizes.{badSize, segmentsOf, segmentsFor}
-use Rattle.segmentation.proofs.Segmentation.{in-range, blocks-least, large-of, short-is, shorts-fewer, size-short, size-long, size-most}
+use Rattle.segmentation.proofs.Segmentation.{in-range, blocks-least, large-of, short-is, shorts-fewer, size-short, size-long}
 use Rattle.rate_matching.specs.SubBlocks.{rows}
 use Rattle.rate_matching.specs.Circle.{circleLength, cutAt}
 use Rattle.rate_matching.specs.SoftBuffer.{kC, divisorIn, softShare}
+use Rattle.codeword.specs.declared.Grant.{Grant}
 use Rattle.codeword.specs.Codeword.{blockRows, blockCut, codewordIn}
-use Rattle.codeword.specs.Build.{badVersion, buildRules, buildNumber}
-use Rattle.codeword.specs.Downlink.{badReceiver, tooShort, badBuffer, shareFor, buildDownRules, buildDownNumber, buildDownOutput}
+use Rattle.codeword.specs.Build.{badVersion, sizeRule, symbolRule, lengthRule, versionRule, outputRule, bitsRule, buildRules, buildNumber}
+use Rattle.codeword.specs.Downlink.{badReceiver, tooShort, badBuffer, shareFor, bufferRule, buildDownRules, buildDownNumber, buildDownOutput}
 use Rattle.codeword.specs.inner.Sending.{Accepted, numberWith}
-use Rattle.codeword.proofs.Accepted.{or-false}
+use Rattle.codeword.proofs.Accepted.{or-false, allocation-of}
 use Rattle.codeword.proofs.Segmented.{sized-in}
 
 or-last : (a : Bool) {b : Bool} → b ≡ true → (a || b) ≡ true
@@ -153,70 +154,76 @@ module _ (a : List ℕ) (release kMIMO processes Nsoft layers : ℕ) where
         go true e = rw (e, unused e) (sym (lt-ltb 0 (32 * rows (long B + 4)) (omega (arith, some-rows (long B)))))
         go false e = rw (e, used e) (short-told B high (softShare (blocks B) release kMIMO processes Nsoft layers))
 
-  module _ (Q N v G : ℕ) where
+  module _ (g : Grant) where
     -- the number as it is found
-    pub number-told : (room : ℕ) → numberWith a given Q N v G room ≡ buildDownNumber a release kMIMO processes Nsoft layers Q N v G room
+    pub number-told : (room : ℕ) → numberWith a given g room ≡ buildDownNumber a release kMIMO processes Nsoft layers g room
     unfolding numberWith buildDownNumber buildDownRules buildNumber buildRules firstOf
     number-told room = by-size (badSize (length a)) refl
       where
-        by-size : (t : Bool) → badSize (length a) ≡ t → numberWith a given Q N v G room ≡ buildDownNumber a release kMIMO processes Nsoft layers Q N v G room
+        by-size : (t : Bool) → badSize (length a) ≡ t → numberWith a given g room ≡ buildDownNumber a release kMIMO processes Nsoft layers g room
         by-size true e = simp e
         by-size false e = by-share (ltb given (32 * rows (long B + 4))) refl
           where
-            by-share : (t : Bool) → ltb given (32 * rows (long B + 4)) ≡ t → numberWith a given Q N v G room ≡ buildDownNumber a release kMIMO processes Nsoft layers Q N v G room
+            by-share : (t : Bool) → ltb given (32 * rows (long B + 4)) ≡ t → numberWith a given g room ≡ buildDownNumber a release kMIMO processes Nsoft layers g room
             by-share true l = simp (e, buffer-told e, l)
             by-share false l = simp (e, buffer-told e, l)
 
     -- what number 0 tells
-    pub accepted-down : (room : ℕ) → buildDownNumber a release kMIMO processes Nsoft layers Q N v G room ≡ 0 → Accepted given a Q N v G × (G ≤ room)
-    unfolding buildDownNumber buildDownRules badVersion
+    passes : (room : ℕ) → buildDownNumber a release kMIMO processes Nsoft layers g room ≡ 0
+        → (r : Rule) → Listed r (buildDownRules a release kMIMO processes Nsoft layers g room) → r .bad ≡ false
+    unfolding buildDownNumber buildDownRules
+    passes room h = passed (buildDownRules a release kMIMO processes Nsoft layers g room) refl h tt
+
+    pub accepted-down : (room : ℕ) → buildDownNumber a release kMIMO processes Nsoft layers g room ≡ 0 → Accepted given a g × (g .bits ≤ room)
+    unfolding buildDownRules badVersion
     accepted-down room h = (
       record {
         size = good;
-        buffer = λ r below. omega (arith, rows-under B (high good) r, ltb-false given (32 * rows (long B + 4)) (sym (buffer-told good) ∙ cleared rules refl h tt 1));
-        allocation = cleared rules refl h tt 2;
-        version = ltb-false 3 v (cleared rules refl h tt 3);
-        bits = cleared rules refl h tt 5;
+        buffer = λ r below. omega (arith, rows-under B (high good) r, ltb-false given (32 * rows (long B + 4)) (sym (buffer-told good) ∙ clear (bufferRule B release kMIMO processes Nsoft layers) (search listed)));
+        allocation = allocation-of _ _ _ _
+            (clear (symbolRule (g .modulation) (g .layers)) (search listed))
+            (clear (lengthRule (blocks B) (g .modulation) (g .layers) (g .bits)) (search listed));
+        version = ltb-false 3 (g .version) (clear (versionRule (g .version)) (search listed));
+        bits = clear (bitsRule a) (search listed);
       },
-      ltb-false room G (cleared rules refl h tt 4),
+      ltb-false room (g .bits) (clear (outputRule (g .bits) room) (search listed)),
     )
       where
-        rules : List Rule
-        rules = buildDownRules a release kMIMO processes Nsoft layers Q N v G room
+        clear : (r : Rule) → Listed r (buildDownRules a release kMIMO processes Nsoft layers g room) → r .bad ≡ false
+        clear = passes room h
 
         good : badSize (length a) ≡ false
-        good = cleared rules refl h tt 0
+        good = clear (sizeRule (length a)) (search listed)
 
     -- by the segmentation that was found
     module _ {s : Segments} {soft : ℕ} (told : s ≡ segmentsFor (length a)) (e : soft ≡ shareFor (s .blocks) release kMIMO processes Nsoft layers) where
       share-found : badSize (length a) ≡ false → soft ≡ given
       share-found good = e ∙ ap (λ (C : ℕ). shareFor C release kMIMO processes Nsoft layers) (sized-in (length a) s good told .count)
 
-      pub number-found : (room : ℕ) → numberWith a soft Q N v G room ≡ buildDownNumber a release kMIMO processes Nsoft layers Q N v G room
+      pub number-found : (room : ℕ) → numberWith a soft g room ≡ buildDownNumber a release kMIMO processes Nsoft layers g room
       unfolding numberWith buildDownNumber buildDownRules firstOf
       number-found room = go (badSize (length a)) refl
         where
-          go : (t : Bool) → badSize (length a) ≡ t → numberWith a soft Q N v G room ≡ buildDownNumber a release kMIMO processes Nsoft layers Q N v G room
+          go : (t : Bool) → badSize (length a) ≡ t → numberWith a soft g room ≡ buildDownNumber a release kMIMO processes Nsoft layers g room
           go true z = simp z
-          go false z = ap (λ (k : ℕ). numberWith a k Q N v G room) (share-found z) ∙ number-told room
+          go false z = ap (λ (k : ℕ). numberWith a k g room) (share-found z) ∙ number-told room
 
-      pub share-accepted : (room : ℕ) → buildDownNumber a release kMIMO processes Nsoft layers Q N v G room ≡ 0 → soft ≡ given
+      pub share-accepted : (room : ℕ) → buildDownNumber a release kMIMO processes Nsoft layers g room ≡ 0 → soft ≡ given
       share-accepted room h = share-found (accepted-down room h .0 .size)
 
     -- the share is the standard's
-    pub share-told : (room : ℕ) → buildDownNumber a release kMIMO processes Nsoft layers Q N v G room ≡ 0 → given ≡ softShare (blocks B) release kMIMO processes Nsoft layers
-    unfolding buildDownNumber buildDownRules badBuffer
-    share-told room h = used (cleared rules refl h tt 0) (or-false _ _ (cleared rules refl h tt 1) .0)
-      where
-        rules : List Rule
-        rules = buildDownRules a release kMIMO processes Nsoft layers Q N v G room
+    pub share-told : (room : ℕ) → buildDownNumber a release kMIMO processes Nsoft layers g room ≡ 0 → given ≡ softShare (blocks B) release kMIMO processes Nsoft layers
+    unfolding buildDownRules badBuffer
+    share-told room h =
+        used (passes room h (sizeRule (length a)) (search listed))
+        (or-false _ _ (passes room h (bufferRule B release kMIMO processes Nsoft layers) (search listed)) .0)
 
-    pub refused-down : (out : List ℕ) → (buildDownNumber a release kMIMO processes Nsoft layers Q N v G (length out) ≡ 0 → ⊥) → out ≡ buildDownOutput a release kMIMO processes Nsoft layers Q N v G out
+    pub refused-down : (out : List ℕ) → (buildDownNumber a release kMIMO processes Nsoft layers g (length out) ≡ 0 → ⊥) → out ≡ buildDownOutput a release kMIMO processes Nsoft layers g out
     unfolding buildDownOutput
     refused-down out h = simp (ne-eqb _ _ h)
 
-    pub built-down : (out : List ℕ) {front : List ℕ} → buildDownNumber a release kMIMO processes Nsoft layers Q N v G (length out) ≡ 0
-        → front ≡ codewordIn given a Q N v G → front ++ drop G out ≡ buildDownOutput a release kMIMO processes Nsoft layers Q N v G out
+    pub built-down : (out : List ℕ) {front : List ℕ} → buildDownNumber a release kMIMO processes Nsoft layers g (length out) ≡ 0
+        → front ≡ codewordIn given a g → front ++ drop (g .bits) out ≡ buildDownOutput a release kMIMO processes Nsoft layers g out
     unfolding buildDownOutput
     built-down out h e =
-        simp (eq-eqb _ _ h) (ap (λ (l : List ℕ). l ++ drop G out) (e ∙ ap (λ (soft : ℕ). codewordIn soft a Q N v G) (share-told (length out) h)))
+        simp (eq-eqb _ _ h) (ap (λ (l : List ℕ). l ++ drop (g .bits) out) (e ∙ ap (λ (soft : ℕ). codewordIn soft a g) (share-told (length out) h)))

@@ -17,10 +17,11 @@ use Rattle.segmentation.specs.Segmentation.{blocks}
 use Rattle.segmentation.specs.CodeBlocks.{withCheck}
 use Rattle.segmentation.specs.Sizes.{segmentsOf}
 use Rattle.segmentation.proofs.Segmentation.{in-range, blocks-least, blocks-most}
-use Rattle.codeword.specs.Shares.{share, sharesBefore}
+use Rattle.codeword.specs.declared.Grant.{Grant}
+use Rattle.codeword.specs.Shares.{share, sharesBefore, granted, grantedBefore}
 use Rattle.codeword.specs.Codeword.{sentBits, blockBits, bitsFrom, codewordIn}
 use Rattle.codeword.specs.Build.{shareOf}
-use Rattle.codeword.specs.inner.Sending.{Accepted, Sending}
+use Rattle.codeword.specs.inner.Sending.{Writable, Sending}
 use Rattle.codeword.proofs.Accepted.{Allocated, allocated, share-told}
 use Rattle.codeword.proofs.Shares.{shares-all, stretch-within}
 use Rattle.codeword.proofs.Taken.{length-withCheck}
@@ -35,109 +36,107 @@ checked : (a : List ℕ) {remainder : ℕ} → remainder ≡ crc 24 gCRC24A a �
 unfolding withCheck checkBits
 checked a e = ap (λ (x : ℕ). a ++ bitsOf 24 x) e
 
-bits-sent : (soft : ℕ) (b : List ℕ) (Q N v G r : ℕ) → sentBits soft b v r (share (blocks (length b)) Q N G r) ≡ blockBits soft b Q N v G r
+bits-sent : (soft : ℕ) (b : List ℕ) (g : Grant) (r : ℕ)
+    → sentBits soft b (g .version) r (granted (blocks (length b)) g r) ≡ blockBits soft b g r
 unfolding blockBits
-bits-sent soft b Q N v G r = refl
+bits-sent soft b g r = refl
 
-from-next : (soft : ℕ) (b : List ℕ) (Q N v G r C : ℕ) → r < C
-    → bitsFrom soft b Q N v G r (C - r) ≡ blockBits soft b Q N v G r ++ bitsFrom soft b Q N v G (r + 1) (C - (r + 1))
+from-next : (soft : ℕ) (b : List ℕ) (g : Grant) (r C : ℕ) → r < C
+    → bitsFrom soft b g r (C - r) ≡ blockBits soft b g r ++ bitsFrom soft b g (r + 1) (C - (r + 1))
 unfolding bitsFrom
-from-next soft b Q N v G r C h =
+from-next soft b g r C h =
     let more : C - r ≡ suc (C - (r + 1)) = omega arith in
-    ap (bitsFrom soft b Q N v G r) more ∙ ap (λ (k : ℕ). blockBits soft b Q N v G r ++ bitsFrom soft b Q N v G k (C - (r + 1))) (sym (add-one r))
+    ap (bitsFrom soft b g r) more ∙ ap (λ (k : ℕ). blockBits soft b g r ++ bitsFrom soft b g k (C - (r + 1))) (sym (add-one r))
 
-pub record Stretching (soft : ℕ) (a : List ℕ) (Q N v : ℕ) (out₀ : List ℕ) (s : Segments) (C remainder G : ℕ) (out : List ℕ) (at r : ℕ) : Type 0 where
-  pub accepted : Accepted soft a Q N v (length out₀)
+pub record Stretching (soft : ℕ) (a : List ℕ) (g : Grant) (out₀ : List ℕ) (s : Segments) (C remainder : ℕ) (out : List ℕ) (at r : ℕ) : Type 0 where
+  pub writable : Writable soft a g (length out₀)
   pub segments : s ≡ segmentsOf (length a + 24)
   pub count : C ≡ blocks (length a + 24)
   pub check : remainder ≡ crc 24 gCRC24A a
-  pub given : G ≡ length out₀
   pub below : r ≤ C
-  pub starts : at ≡ sharesBefore C Q N (length out₀) r
-  pub written : Writing out₀ out at (bitsFrom soft (withCheck a) Q N v (length out₀) r (C - r)) (codewordIn soft a Q N v (length out₀))
+  pub starts : at ≡ grantedBefore C g r
+  pub written : Writing out₀ out at (bitsFrom soft (withCheck a) g r (C - r)) (codewordIn soft a g)
 
-pub start : {soft : ℕ} {a : List ℕ} {Q N v : ℕ} {out : List ℕ} {s : Segments} {C remainder G : ℕ} → Accepted soft a Q N v (length out)
-    → s ≡ segmentsOf (length a + 24) → C ≡ blocks (length a + 24) → remainder ≡ crc 24 gCRC24A a → G ≡ length out
-    → Stretching soft a Q N v out s C remainder G out 0 0
+pub start : {soft : ℕ} {a : List ℕ} {g : Grant} {out : List ℕ} {s : Segments} {C remainder : ℕ} → Writable soft a g (length out)
+    → s ≡ segmentsOf (length a + 24) → C ≡ blocks (length a + 24) → remainder ≡ crc 24 gCRC24A a
+    → Stretching soft a g out s C remainder out 0 0
 unfolding sharesBefore codewordIn
-start {soft} {a} {Q} {N} {v} {out} {C = C} ok told count check given = record {
-  accepted = ok;
+start {soft} {a} {g} {out} {C = C} ok told count check = record {
+  writable = ok;
   segments = told;
   count = count;
   check = check;
-  given = given;
   below = omega arith;
   starts = refl;
-  written = writing.same (ap (bitsFrom soft (withCheck a) Q N v (length out) 0) (sym count ∙ omega arith)) writing.start;
+  written = writing.same (ap (bitsFrom soft (withCheck a) g 0) (sym count ∙ omega arith)) writing.start;
 }
 
-module _ {soft : ℕ} {a : List ℕ} {Q N v : ℕ} {out₀ : List ℕ} {s : Segments} {C remainder G : ℕ} {out : List ℕ} {at r : ℕ}
-    (h : Stretching soft a Q N v out₀ s C remainder G out at r) where
+module _ {soft : ℕ} {a : List ℕ} {g : Grant} {out₀ : List ℕ} {s : Segments} {C remainder : ℕ} {out : List ℕ} {at r : ℕ}
+    (h : Stretching soft a g out₀ s C remainder out at r) where
   high : length a + 24 ≤ 30600
-  high = omega (arith, in-range (length a) (h .accepted .size) .1)
+  high = omega (arith, in-range (length a) (h .writable .accepted .size) .1)
 
   pub few : C ≤ 5
   few = omega (arith, h .count, blocks-most (length a + 24) high)
 
-  ok : Allocated C Q N (length out₀)
-  ok = allocated C Q N (length out₀) (rw (h .count) (h .accepted .allocation))
+  ok : Allocated C (g .modulation) (g .layers) (g .bits)
+  ok = allocated C (g .modulation) (g .layers) (g .bits) (rw (h .count) (h .writable .accepted .allocation))
 
-  all : sharesBefore C Q N (length out₀) C ≡ length out₀
-  all = shares-all C Q N (length out₀) (omega (arith, h .count, blocks-least (length a + 24) high)) (ok .multiple)
+  all : grantedBefore C g C ≡ g .bits
+  all = shares-all C (g .modulation) (g .layers) (g .bits) (omega (arith, h .count, blocks-least (length a + 24) high)) (ok .multiple)
 
   module _ (more : r < C) where
-    own : {e : ℕ} → e ≡ shareOf C Q N G r → e ≡ share C Q N (length out₀) r
-    own e-is = e-is ∙ ap (λ (g : ℕ). shareOf C Q N g r) (h .given) ∙ share-told C Q N (length out₀) r more (rw (h .count) (h .accepted .allocation))
+    own : {e : ℕ} → e ≡ shareOf C (g .modulation) (g .layers) (g .bits) r → e ≡ granted C g r
+    own e-is = e-is ∙ share-told C (g .modulation) (g .layers) (g .bits) r more (rw (h .count) (h .writable .accepted .allocation))
 
-    pub sending : Sending soft a s r v
+    pub sending : Sending soft a s r (g .version)
     sending = record {
-      size = h .accepted .size;
-      buffer = h .accepted .buffer r (omega (arith, h .count));
+      size = h .writable .accepted .size;
+      buffer = h .writable .accepted .buffer r (omega (arith, h .count));
       segments = h .segments;
       below = omega (arith, h .count);
-      version = h .accepted .version;
-      bits = h .accepted .bits;
+      version = h .writable .accepted .version;
+      bits = h .writable .accepted .bits;
     }
 
     -- the stretch of code block r lies within the output
-    pub within : {e : ℕ} → e ≡ shareOf C Q N G r → at + e ≤ length out
-    within e-is = omega (arith, h .starts, own e-is, stretch-within C Q N (length out₀) r more (ok .multiple), h .written .long)
+    pub within : {e : ℕ} → e ≡ shareOf C (g .modulation) (g .layers) (g .bits) r → at + e ≤ length out
+    within e-is = omega (arith, h .starts, own e-is, stretch-within C (g .modulation) (g .layers) (g .bits) r more (ok .multiple), h .writable .whole, h .written .long)
 
-    pub next : {e : ℕ} {part : List ℕ} → e ≡ shareOf C Q N G r
-        → part ≡ sentBits soft (a ++ bitsOf 24 remainder) v r (length (midOf at (at + e - at) out))
+    pub next : {e : ℕ} {part : List ℕ} → e ≡ shareOf C (g .modulation) (g .layers) (g .bits) r
+        → part ≡ sentBits soft (a ++ bitsOf 24 remainder) (g .version) r (length (midOf at (at + e - at) out))
         → length part ≡ at + e - at
-        → Stretching soft a Q N v out₀ s C remainder G (putMid at (at + e - at) out part) (at + e) (r + 1)
+        → Stretching soft a g out₀ s C remainder (putMid at (at + e - at) out part) (at + e) (r + 1)
     next {e} {part} e-is part-is long = record {
-      accepted = h .accepted;
+      writable = h .writable;
       segments = h .segments;
       count = h .count;
       check = h .check;
-      given = h .given;
       below = omega arith;
       starts = ap₂ (λ (x y : ℕ). x + y) (h .starts) (own e-is) ∙ next-start;
       written = writing.pushPart said (omega arith) (within e-is) long (writing.same one-more (h .written));
     }
       where
-        next-start : sharesBefore C Q N (length out₀) r + share C Q N (length out₀) r ≡ sharesBefore C Q N (length out₀) (r + 1)
-        next-start = before-next C Q N (length out₀) r
+        next-start : grantedBefore C g r + granted C g r ≡ grantedBefore C g (r + 1)
+        next-start = before-next C (g .modulation) (g .layers) (g .bits) r
 
-        lent : length (midOf at (at + e - at) out) ≡ share (blocks (length (withCheck a))) Q N (length out₀) r
+        lent : length (midOf at (at + e - at) out) ≡ granted (blocks (length (withCheck a))) g r
         lent =
             length-mid at (at + e) out (within e-is) ∙ omega arith ∙ own e-is
-            ∙ ap (λ (c : ℕ). share c Q N (length out₀) r) (h .count ∙ ap blocks (sym (length-withCheck a)))
+            ∙ ap (λ (c : ℕ). granted c g r) (h .count ∙ ap blocks (sym (length-withCheck a)))
 
-        said : part ≡ blockBits soft (withCheck a) Q N v (length out₀) r
-        said = part-is ∙ ap₂ (λ (b : List ℕ) (E : ℕ). sentBits soft b v r E) (checked a (h .check)) lent ∙ bits-sent soft (withCheck a) Q N v (length out₀) r
+        said : part ≡ blockBits soft (withCheck a) g r
+        said = part-is ∙ ap₂ (λ (b : List ℕ) (E : ℕ). sentBits soft b (g .version) r E) (checked a (h .check)) lent ∙ bits-sent soft (withCheck a) g r
 
-        one-more : bitsFrom soft (withCheck a) Q N v (length out₀) r (C - r)
-            ≡ blockBits soft (withCheck a) Q N v (length out₀) r ++ bitsFrom soft (withCheck a) Q N v (length out₀) (r + 1) (C - (r + 1))
-        one-more = from-next soft (withCheck a) Q N v (length out₀) r C more
+        one-more : bitsFrom soft (withCheck a) g r (C - r)
+            ≡ blockBits soft (withCheck a) g r ++ bitsFrom soft (withCheck a) g (r + 1) (C - (r + 1))
+        one-more = from-next soft (withCheck a) g r C more
 
-pub finish : {soft : ℕ} {a : List ℕ} {Q N v : ℕ} {out₀ : List ℕ} {s : Segments} {C remainder G : ℕ} {out : List ℕ} {at r : ℕ}
-    → Stretching soft a Q N v out₀ s C remainder G out at r → C ≤ r → out ≡ codewordIn soft a Q N v (length out₀)
+pub finish : {soft : ℕ} {a : List ℕ} {g : Grant} {out₀ : List ℕ} {s : Segments} {C remainder : ℕ} {out : List ℕ} {at r : ℕ}
+    → Stretching soft a g out₀ s C remainder out at r → C ≤ r → out ≡ codewordIn soft a g
 unfolding bitsFrom
-finish {soft} {a} {Q} {N} {v} {out₀} {C = C} {out = out} {at = at} {r = r} h end =
+finish {soft} {a} {g} {out₀} {C = C} {out = out} {at = at} {r = r} h end =
     let last : r ≡ C = omega (arith, h .below) in
-    let whole : at ≡ length out₀ = h .starts ∙ ap (sharesBefore C Q N (length out₀)) last ∙ all h in
+    let whole : at ≡ g .bits = h .starts ∙ ap (grantedBefore C g) last ∙ all h in
     let none : C - r ≡ 0 = omega arith in
-    writing.finish-all (omega (arith, h .written .long)) (ap (bitsFrom soft (withCheck a) Q N v (length out₀) r) none) (h .written)
+    writing.finish-all (omega (arith, h .writable .whole, h .written .long)) (ap (bitsFrom soft (withCheck a) g r) none) (h .written)

@@ -10,7 +10,8 @@ use Rattle.rate_matching.specs.SubBlocks.{rows}
 use Rattle.rate_matching.specs.Circle.{circle, cutAt, startIn}
 use Rattle.rate_matching.specs.SoftBuffer.{wholeShare}
 use Rattle.rate_matching.specs.Walk.{selected}
-use Rattle.codeword.specs.Shares.{share}
+use Rattle.codeword.specs.declared.Grant.{Grant}
+use Rattle.codeword.specs.Shares.{granted}
 
 -- w of code block r of the sequence b
 unfoldable pub blockCircle : List ℕ → ℕ → List ℕ
@@ -33,19 +34,19 @@ unfoldable pub sentBits : ℕ → List ℕ → ℕ → ℕ → ℕ → List ℕ
 sentBits soft b v r E =
     selected (take (blockCut soft (length b) r) (blockCircle b r)) (startIn (blockCut soft (length b) r) (blockRows (length b) r) v) E
 
--- e_r0 .. e_r(E_r − 1): what code block r sends of the G bits
-unfoldable pub blockBits : ℕ → List ℕ → ℕ → ℕ → ℕ → ℕ → ℕ → List ℕ
-blockBits soft b Q N v G r = sentBits soft b v r (share (blocks (length b)) Q N G r)
+-- e_r0 .. e_r(E_r − 1): what code block r sends of a grant's G bits
+unfoldable pub blockBits : ℕ → List ℕ → Grant → ℕ → List ℕ
+blockBits soft b g r = sentBits soft b (g .version) r (granted (blocks (length b)) g r)
 
 -- the bits of n code blocks from r on, in order (clause 5.1.5)
-unfoldable pub bitsFrom : ℕ → List ℕ → ℕ → ℕ → ℕ → ℕ → ℕ → ℕ → List ℕ
-bitsFrom soft b Q N v G r zero = []
-bitsFrom soft b Q N v G r (suc n) = blockBits soft b Q N v G r ++ bitsFrom soft b Q N v G (suc r) n
+unfoldable pub bitsFrom : ℕ → List ℕ → Grant → ℕ → ℕ → List ℕ
+bitsFrom soft b g r zero = []
+bitsFrom soft b g r (suc n) = blockBits soft b g r ++ bitsFrom soft b g (suc r) n
 
--- the codeword of the transport block a for the allocation Q, N, G and redundancy version v, each code block having a share `soft` of the soft buffer
-unfoldable pub codewordIn : ℕ → List ℕ → ℕ → ℕ → ℕ → ℕ → List ℕ
-codewordIn soft a Q N v G = bitsFrom soft (withCheck a) Q N v G 0 (blocks (length a + 24))
+-- the codeword of the transport block a for a grant, each code block having a share `soft` of the soft buffer
+unfoldable pub codewordIn : ℕ → List ℕ → Grant → List ℕ
+codewordIn soft a g = bitsFrom soft (withCheck a) g 0 (blocks (length a + 24))
 
 -- the codeword of an uplink's transport block: no circle is cut
-unfoldable pub codeword : List ℕ → ℕ → ℕ → ℕ → ℕ → List ℕ
-codeword a Q N v G = codewordIn wholeShare a Q N v G
+unfoldable pub codeword : List ℕ → Grant → List ℕ
+codeword a g = codewordIn wholeShare a g

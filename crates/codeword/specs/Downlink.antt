@@ -7,10 +7,10 @@ use lib.Dec.{eqb, ltb}
 use lib.ListN.{length, drop}
 use Rattle.refusals.specs.Refusals.{Rule, rule, firstOf}
 use Rattle.segmentation.specs.Segmentation.{blocks}
-use Rattle.segmentation.specs.Sizes.{badSize}
 use Rattle.rate_matching.specs.SoftBuffer.{softShare}
+use Rattle.codeword.specs.declared.Grant.{Grant}
 use Rattle.codeword.specs.Codeword.{blockRows, blockCut, codewordIn}
-use Rattle.codeword.specs.Build.{badAllocation, badVersion, badBits}
+use Rattle.codeword.specs.Build.{sizeRule, symbolRule, lengthRule, versionRule, outputRule, bitsRule}
 
 -- a release that is neither 8 nor 11, a K_MIMO other than 1 or 2, or no processes
 unfoldable pub badReceiver : ℕ → ℕ → ℕ → Bool
@@ -32,25 +32,28 @@ unfoldable pub shareFor : ℕ → ℕ → ℕ → ℕ → ℕ → ℕ → ℕ
 shareFor C release kMIMO processes Nsoft layers =
     cond (eqb C 0 || badReceiver release kMIMO processes) 0 (softShare C release kMIMO processes Nsoft layers)
 
+abbrev pub bufferRule : ℕ → ℕ → ℕ → ℕ → ℕ → ℕ → Rule
+bufferRule B release kMIMO processes Nsoft layers = rule (badBuffer B release kMIMO processes Nsoft layers) 21
+
 -- its refusals in 02's order: 1, 21, 3, 4, 5, 2; size is the length of the output
-unfoldable pub buildDownRules : List ℕ → ℕ → ℕ → ℕ → ℕ → ℕ → ℕ → ℕ → ℕ → ℕ → ℕ → List Rule
-buildDownRules a release kMIMO processes Nsoft layers Q N v G size =
-    rule (badSize (length a)) 1
-    ∷ rule (badBuffer (length a + 24) release kMIMO processes Nsoft layers) 21
-    ∷ rule (badAllocation (blocks (length a + 24)) Q N G) 3
-    ∷ rule (badVersion v) 4
-    ∷ rule (ltb size G) 5
-    ∷ rule (badBits a) 2
+unfoldable pub buildDownRules : List ℕ → ℕ → ℕ → ℕ → ℕ → ℕ → Grant → ℕ → List Rule
+buildDownRules a release kMIMO processes Nsoft layers g size =
+    sizeRule (length a)
+    ∷ bufferRule (length a + 24) release kMIMO processes Nsoft layers
+    ∷ symbolRule (g .modulation) (g .layers)
+    ∷ lengthRule (blocks (length a + 24)) (g .modulation) (g .layers) (g .bits)
+    ∷ versionRule (g .version)
+    ∷ outputRule (g .bits) size
+    ∷ bitsRule a
     ∷ []
 
 -- the number that it answers: 0 where it is accepted
-unfoldable pub buildDownNumber : List ℕ → ℕ → ℕ → ℕ → ℕ → ℕ → ℕ → ℕ → ℕ → ℕ → ℕ → ℕ
-buildDownNumber a release kMIMO processes Nsoft layers Q N v G size =
-    firstOf (buildDownRules a release kMIMO processes Nsoft layers Q N v G size)
+unfoldable pub buildDownNumber : List ℕ → ℕ → ℕ → ℕ → ℕ → ℕ → Grant → ℕ → ℕ
+buildDownNumber a release kMIMO processes Nsoft layers g size = firstOf (buildDownRules a release kMIMO processes Nsoft layers g size)
 
 -- the output afterwards: the codeword over its first G bytes, or as it was
-unfoldable pub buildDownOutput : List ℕ → ℕ → ℕ → ℕ → ℕ → ℕ → ℕ → ℕ → ℕ → ℕ → List ℕ → List ℕ
-buildDownOutput a release kMIMO processes Nsoft layers Q N v G out =
-    cond (eqb (buildDownNumber a release kMIMO processes Nsoft layers Q N v G (length out)) 0)
-    (codewordIn (softShare (blocks (length a + 24)) release kMIMO processes Nsoft layers) a Q N v G ++ drop G out)
+unfoldable pub buildDownOutput : List ℕ → ℕ → ℕ → ℕ → ℕ → ℕ → Grant → List ℕ → List ℕ
+buildDownOutput a release kMIMO processes Nsoft layers g out =
+    cond (eqb (buildDownNumber a release kMIMO processes Nsoft layers g (length out)) 0)
+    (codewordIn (softShare (blocks (length a + 24)) release kMIMO processes Nsoft layers) a g ++ drop (g .bits) out)
     out

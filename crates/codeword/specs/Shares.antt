@@ -3,6 +3,11 @@
 use mathlib.Core.Bool.{cond}
 use Prim.Native.Nat.{ℕ, zero, suc, _+_, _-_, _*_, _/_, _%_}
 use lib.Dec.{leb}
+use Rattle.codeword.specs.declared.Grant.{Grant}
+
+-- a grant in 01's letters
+abbrev pub grant : ℕ → ℕ → ℕ → ℕ → Grant
+grant Q N v G = record { modulation = Q; layers = N; version = v; bits = G }
 
 -- G' = G / (N_L·Q_m)
 unfoldable pub symbols : ℕ → ℕ → ℕ → ℕ
@@ -19,3 +24,10 @@ share C Q N G r =
 unfoldable pub sharesBefore : ℕ → ℕ → ℕ → ℕ → ℕ → ℕ
 sharesBefore C Q N G zero = 0
 sharesBefore C Q N G (suc r) = sharesBefore C Q N G r + share C Q N G r
+
+-- both for a grant
+abbrev pub granted : ℕ → Grant → ℕ → ℕ
+granted C g r = share C (g .modulation) (g .layers) (g .bits) r
+
+abbrev pub grantedBefore : ℕ → Grant → ℕ → ℕ
+grantedBefore C g r = sharesBefore C (g .modulation) (g .layers) (g .bits) r

@@ -4,10 +4,10 @@
 ghost use mathlib.Core.Path.{_≡_};
 ghost use mathlib.Core.Bool.{_||_};
 ghost use lib.ListN.{length};
-ghost use Rattle.codeword.specs.Build.{badModulation, badLayers, badAllocation, shareOf, badBits};
+ghost use Rattle.codeword.specs.Build.{badModulation, badLayers, badSymbol, badAllocation, shareOf, badBits};
 
 // Number 3 for Q.
-pub fn bad_modulation(q: usize) -> bool
+fn bad_modulation(q: usize) -> bool
     ensures { λ r. ⌜ r ≡ badModulation q ⌝ }
 {
     if q == 2 {
@@ -20,7 +20,7 @@ pub fn bad_modulation(q: usize) -> bool
 }
 
 // Number 3 for N.
-pub fn bad_layers(n: usize) -> bool
+fn bad_layers(n: usize) -> bool
     ensures { λ r. ⌜ r ≡ badLayers n ⌝ }
 {
     if n == 0 {
@@ -29,14 +29,21 @@ pub fn bad_layers(n: usize) -> bool
     n > 4
 }
 
-// Number 3 for C code blocks. Q and N are looked at before anything is divided by N·Q.
-pub fn bad_allocation(blocks: usize, q: usize, n: usize, g: usize) -> bool
-    ensures { λ r. ⌜ r ≡ badAllocation blocks q n g ⌝ }
+// Number 3 for Q and N.
+pub fn bad_symbol(q: usize, n: usize) -> bool
+    ensures { λ r. ⌜ r ≡ badSymbol q n ⌝ }
 {
     if bad_modulation(q) {
         return true;
     }
-    if bad_layers(n) {
+    bad_layers(n)
+}
+
+// Number 3 for C code blocks. Q and N are looked at before anything is divided by N·Q.
+pub fn bad_allocation(blocks: usize, q: usize, n: usize, g: usize) -> bool
+    ensures { λ r. ⌜ r ≡ badAllocation blocks q n g ⌝ }
+{
+    if bad_symbol(q, n) {
         return true;
     }
     if g > 172800 {

@@ -1,4 +1,5 @@
 // The call Build of 01, for a block in one slice or in two, and for a downlink.
+use crate::Grant;
 use crate::buffer::WHOLE_SHARE;
 use crate::buffer::cut_at;
 use crate::buffer::share_for;
@@ -13,35 +14,28 @@ ghost use Rattle.segmentation.specs.Sizes.{segmentsOf, segmentsFor};
 ghost use Rattle.codeword.specs.Codeword.{sentBits, codewordIn};
 ghost use Rattle.codeword.specs.Downlink.{buildDownNumber, buildDownOutput};
 ghost use Rattle.codeword.specs.Build.{buildNumber, buildOutput};
-ghost use Rattle.codeword.specs.inner.Sending.{Sending, Spacious, Roomy, Accepted, numberWith};
+ghost use Rattle.codeword.specs.inner.Sending.{Sending, Spacious, Roomy, Writable, numberWith};
 
 // Writes the codeword of `block` over the first `g` bytes of `out`. Answers 0, or the number of the refusal, which writes nothing. It is the
 // build of two slices whose second is empty.
-pub fn build(block: &[u8], q: usize, n: usize, version: usize, g: usize, out: &mut [u8]) -> u8
-    ensures number { λ r. ⌜ r ≡ buildNumber (now (block .entry)) q n version g (length (now (out .entry))) ⌝ }
-    ensures output { λ r. ⌜ now (out .exit) ≡ buildOutput (now (block .entry)) q n version g (now (out .entry)) ⌝ }
+pub fn build(block: &[u8], grant: Grant, out: &mut [u8]) -> u8
+    ensures number { λ r. ⌜ r ≡ buildNumber (now (block .entry)) grant (length (now (out .entry))) ⌝ }
+    ensures output { λ r. ⌜ now (out .exit) ≡ buildOutput (now (block .entry)) grant (now (out .entry)) ⌝ }
 {
-    build_two(block, &block[..0], q, n, version, g, out)
+    build_two(block, &block[..0], grant, out)
 }
 
 // The same for a block that lies in two slices: its bits are those of `header` and then those of `payload`, either of which may be empty.
-pub fn build_two(
-    header: &[u8],
-    payload: &[u8],
-    q: usize,
-    n: usize,
-    version: usize,
-    g: usize,
-    out: &mut [u8],
-) -> u8
-    ensures number { λ r. ⌜ r ≡ buildNumber (now (header .entry) ++ now (payload .entry)) q n version g (length (now (out .entry))) ⌝ }
-    ensures output { λ r. ⌜ now (out .exit) ≡ buildOutput (now (header .entry) ++ now (payload .entry)) q n version g (now (out .entry)) ⌝ }
+pub fn build_two(header: &[u8], payload: &[u8], grant: Grant, out: &mut [u8]) -> u8
+    ensures number { λ r. ⌜ r ≡ buildNumber (now (header .entry) ++ now (payload .entry)) grant (length (now (out .entry))) ⌝ }
+    ensures output { λ r. ⌜ now (out .exit) ≡ buildOutput (now (header .entry) ++ now (payload .entry)) grant (now (out .entry)) ⌝ }
 {
-    let number = build_number(header, payload, q, n, version, g, out.len());
+    let number = build_number(header, payload, grant, out.len());
     if number != 0 {
         return number;
     }
-    write_codeword(header, payload, WHOLE_SHARE, q, n, version, &mut out[..g]);
+    let g = grant.bits;
+    write_codeword(header, payload, WHOLE_SHARE, grant, &mut out[..g]);
     0
 }
 
@@ -54,38 +48,27 @@ pub fn build_down(
     processes: usize,
     soft: usize,
     layers: usize,
-    q: usize,
-    n: usize,
-    version: usize,
-    g: usize,
+    grant: Grant,
     out: &mut [u8],
 ) -> u8
-    ensures number { λ r. ⌜ r ≡ buildDownNumber (now (block .entry)) release mimo processes soft layers q n version g (length (now (out .entry))) ⌝ }
-    ensures output { λ r. ⌜ now (out .exit) ≡ buildDownOutput (now (block .entry)) release mimo processes soft layers q n version g (now (out .entry)) ⌝ }
+    ensures number { λ r. ⌜ r ≡ buildDownNumber (now (block .entry)) release mimo processes soft layers grant (length (now (out .entry))) ⌝ }
+    ensures output { λ r. ⌜ now (out .exit) ≡ buildDownOutput (now (block .entry)) release mimo processes soft layers grant (now (out .entry)) ⌝ }
 {
     let s = segmentation::segments_for(block.len());
     let share = share_for(s.blocks, release, mimo, processes, soft, layers);
-    let number = down_number(block, s, share, q, n, version, g, out.len());
+    let number = down_number(block, s, share, grant, out.len());
     if number != 0 {
         return number;
     }
-    write_codeword(block, &block[..0], share, q, n, version, &mut out[..g]);
+    let g = grant.bits;
+    write_codeword(block, &block[..0], share, grant, &mut out[..g]);
     0
 }
 
 // Its refusals in 02's order: after the size and the share, those of Build. The longest code block has the most rows.
-fn down_number(
-    block: &[u8],
-    s: Segments,
-    share: usize,
-    q: usize,
-    n: usize,
-    version: usize,
-    g: usize,
-    room: usize,
-) -> u8
+fn down_number(block: &[u8], s: Segments, share: usize, grant: Grant, room: usize) -> u8
     requires { ⌜ s ≡ segmentsFor (length (now block)) ⌝ }
-    ensures { λ r. ⌜ r ≡ numberWith (now (block .entry)) share q n version g room ⌝ }
+    ensures { λ r. ⌜ r ≡ numberWith (now (block .entry)) share grant room ⌝ }
 {
     if s.blocks == 0 {
         return 1;
@@ -93,32 +76,24 @@ fn down_number(
     if share < 32 * ((s.long + 35) / 32) {
         return 21;
     }
-    build_number(block, &block[..0], q, n, version, g, room)
+    build_number(block, &block[..0], grant, room)
 }
 
 // Build's refusals in 01's order.
-fn build_number(
-    header: &[u8],
-    payload: &[u8],
-    q: usize,
-    n: usize,
-    version: usize,
-    g: usize,
-    room: usize,
-) -> u8
-    ensures { λ r. ⌜ r ≡ buildNumber (now (header .entry) ++ now (payload .entry)) q n version g room ⌝ }
+fn build_number(header: &[u8], payload: &[u8], grant: Grant, room: usize) -> u8
+    ensures { λ r. ⌜ r ≡ buildNumber (now (header .entry) ++ now (payload .entry)) grant room ⌝ }
 {
     let s = segmentation::segments_for_both(header.len(), payload.len());
     if s.blocks == 0 {
         return 1;
     }
-    if crate::bad_allocation(s.blocks, q, n, g) {
+    if crate::bad_allocation(s.blocks, grant.modulation, grant.layers, grant.bits) {
         return 3;
     }
-    if version > 3 {
+    if grant.version > 3 {
         return 4;
     }
-    if room < g {
+    if room < grant.bits {
         return 5;
     }
     if crate::bad_bits(header) {
@@ -131,25 +106,17 @@ fn build_number(
 }
 
 // The codeword over the whole of `out`. All of a room is cleared when it is made, so the rooms are made once, of a length that goes by K+.
-fn write_codeword(
-    header: &[u8],
-    payload: &[u8],
-    soft: usize,
-    q: usize,
-    n: usize,
-    version: usize,
-    out: &mut [u8],
-)
-    requires { ⌜ Accepted soft (now header ++ now payload) q n version (length (now out)) ⌝ }
-    ensures { λ r. ⌜ now (out .exit) ≡ codewordIn soft (now (header .entry) ++ now (payload .entry)) q n version (length (now (out .entry))) ⌝ }
+fn write_codeword(header: &[u8], payload: &[u8], soft: usize, grant: Grant, out: &mut [u8])
+    requires { ⌜ Writable soft (now header ++ now payload) grant (length (now out)) ⌝ }
+    ensures { λ r. ⌜ now (out .exit) ≡ codewordIn soft (now (header .entry) ++ now (payload .entry)) grant ⌝ }
 {
     let s = segmentation::segments_for_both(header.len(), payload.len());
     if s.long <= 128 {
-        write_short(header, payload, soft, q, n, version, s, out);
+        write_short(header, payload, soft, grant, s, out);
     } else if s.long <= 1024 {
-        write_middle(header, payload, soft, q, n, version, s, out);
+        write_middle(header, payload, soft, grant, s, out);
     } else {
-        write_long(header, payload, soft, q, n, version, s, out);
+        write_long(header, payload, soft, grant, s, out);
     }
 }
 
@@ -158,16 +125,14 @@ fn write_short(
     header: &[u8],
     payload: &[u8],
     soft: usize,
-    q: usize,
-    n: usize,
-    version: usize,
+    grant: Grant,
     s: Segments,
     out: &mut [u8],
 )
-    requires { ⌜ Accepted soft (now header ++ now payload) q n version (length (now out)) ⌝ }
+    requires { ⌜ Writable soft (now header ++ now payload) grant (length (now out)) ⌝ }
     requires { ⌜ s ≡ segmentsOf (length (now header ++ now payload) + 24) ⌝ }
     requires { ⌜ s .long ≤ 128 ⌝ }
-    ensures { λ r. ⌜ now (out .exit) ≡ codewordIn soft (now (header .entry) ++ now (payload .entry)) q n version (length (now (out .entry))) ⌝ }
+    ensures { λ r. ⌜ now (out .exit) ≡ codewordIn soft (now (header .entry) ++ now (payload .entry)) grant ⌝ }
 {
     let mut d0 = [0u8; 132];
     let mut d1 = [0u8; 132];
@@ -176,9 +141,7 @@ fn write_short(
         header,
         payload,
         soft,
-        q,
-        n,
-        version,
+        grant,
         s,
         &mut d0,
         &mut d1,
@@ -192,16 +155,14 @@ fn write_middle(
     header: &[u8],
     payload: &[u8],
     soft: usize,
-    q: usize,
-    n: usize,
-    version: usize,
+    grant: Grant,
     s: Segments,
     out: &mut [u8],
 )
-    requires { ⌜ Accepted soft (now header ++ now payload) q n version (length (now out)) ⌝ }
+    requires { ⌜ Writable soft (now header ++ now payload) grant (length (now out)) ⌝ }
     requires { ⌜ s ≡ segmentsOf (length (now header ++ now payload) + 24) ⌝ }
     requires { ⌜ s .long ≤ 1024 ⌝ }
-    ensures { λ r. ⌜ now (out .exit) ≡ codewordIn soft (now (header .entry) ++ now (payload .entry)) q n version (length (now (out .entry))) ⌝ }
+    ensures { λ r. ⌜ now (out .exit) ≡ codewordIn soft (now (header .entry) ++ now (payload .entry)) grant ⌝ }
 {
     let mut d0 = [0u8; 1028];
     let mut d1 = [0u8; 1028];
@@ -210,9 +171,7 @@ fn write_middle(
         header,
         payload,
         soft,
-        q,
-        n,
-        version,
+        grant,
         s,
         &mut d0,
         &mut d1,
@@ -222,19 +181,10 @@ fn write_middle(
 }
 
 // The same with rooms for every K+.
-fn write_long(
-    header: &[u8],
-    payload: &[u8],
-    soft: usize,
-    q: usize,
-    n: usize,
-    version: usize,
-    s: Segments,
-    out: &mut [u8],
-)
-    requires { ⌜ Accepted soft (now header ++ now payload) q n version (length (now out)) ⌝ }
+fn write_long(header: &[u8], payload: &[u8], soft: usize, grant: Grant, s: Segments, out: &mut [u8])
+    requires { ⌜ Writable soft (now header ++ now payload) grant (length (now out)) ⌝ }
     requires { ⌜ s ≡ segmentsOf (length (now header ++ now payload) + 24) ⌝ }
-    ensures { λ r. ⌜ now (out .exit) ≡ codewordIn soft (now (header .entry) ++ now (payload .entry)) q n version (length (now (out .entry))) ⌝ }
+    ensures { λ r. ⌜ now (out .exit) ≡ codewordIn soft (now (header .entry) ++ now (payload .entry)) grant ⌝ }
 {
     let mut d0 = [0u8; 6148];
     let mut d1 = [0u8; 6148];
@@ -243,9 +193,7 @@ fn write_long(
         header,
         payload,
         soft,
-        q,
-        n,
-        version,
+        grant,
         s,
         &mut d0,
         &mut d1,
@@ -259,26 +207,23 @@ fn write_in(
     header: &[u8],
     payload: &[u8],
     soft: usize,
-    q: usize,
-    n: usize,
-    version: usize,
+    grant: Grant,
     s: Segments,
     d0: &mut [u8],
     d1: &mut [u8],
     d2: &mut [u8],
     out: &mut [u8],
 )
-    requires { ⌜ Accepted soft (now header ++ now payload) q n version (length (now out)) ⌝ }
+    requires { ⌜ Writable soft (now header ++ now payload) grant (length (now out)) ⌝ }
     requires { ⌜ s ≡ segmentsOf (length (now header ++ now payload) + 24) ⌝ }
     requires { ⌜ Spacious (s .long) (length (now d0)) (length (now d1)) (length (now d2)) ⌝ }
-    ensures { λ r. ⌜ now (out .exit) ≡ codewordIn soft (now (header .entry) ++ now (payload .entry)) q n version (length (now (out .entry))) ⌝ }
+    ensures { λ r. ⌜ now (out .exit) ≡ codewordIn soft (now (header .entry) ++ now (payload .entry)) grant ⌝ }
 {
     let remainder = check_bits::crc24a_two(header, payload);
-    let g = out.len();
     let mut at = 0;
     let mut r = 0;
     while r < s.blocks {
-        let end = at + crate::share_of(s.blocks, q, n, g, r);
+        let end = at + crate::share_of(s.blocks, grant.modulation, grant.layers, grant.bits, r);
         send_within(
             header,
             payload,
@@ -286,7 +231,7 @@ fn write_in(
             remainder,
             s,
             r,
-            version,
+            grant.version,
             d0,
             d1,
             d2,

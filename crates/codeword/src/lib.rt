@@ -5,10 +5,17 @@ mod call;
 
 pub use allocation::bad_allocation;
 pub use allocation::bad_bits;
-pub use allocation::bad_layers;
-pub use allocation::bad_modulation;
+pub use allocation::bad_symbol;
 pub use allocation::share_of;
 pub use buffer::share_for;
 pub use call::build;
 pub use call::build_down;
 pub use call::build_two;
+
+// What a terminal is told to send, or is to be sent: Q_m, N_L, the redundancy version and G.
+pub struct Grant {
+    pub modulation: usize,
+    pub layers: usize,
+    pub version: usize,
+    pub bits: usize,
+}

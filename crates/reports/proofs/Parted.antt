@@ -3,17 +3,17 @@
 use mathlib.Core.Path.{_≡_, refl, sym, _∙_, ap, ap₂}
 use mathlib.Core.Bool.{Bool, true, false, cond, _||_}
 use mathlib.Core.List.{List, [], _∷_, _++_}
-use Prim.Native.Nat.{ℕ, zero, suc, _+_, _-_, _*_, _/_, _%_, _≤_, _<_}
+use Prim.Native.Nat.{ℕ, suc, _+_, _-_, _*_, _/_, _%_, _≤_, _<_}
 use native.Mathlib.Nat.{sub-zero}
 use native.Mathlib.Omega.{arith}
-use lib.Dec.{T, eqb, ltb}
+use lib.Dec.{eqb}
 use lib.ListN.{length, take, drop, length-drop, take-append-drop}
 use lib.Seq.{length-take-le, take-length}
-use borrow.Author.Tests.{eqb-true, ltb-false, lt-ltb, le-ltb, eq-eqb, ne-eqb}
-use Rattle.refusals.specs.Refusals.{Rule, rule, firstOf}
-use Rattle.refusals.proofs.Refusals.{numbered, cleared, firstOf-append}
+use borrow.Author.Tests.{ltb-false, lt-ltb, le-ltb, eq-eqb, ne-eqb}
+use Rattle.refusals.specs.Refusals.{Rule, firstOf}
+use Rattle.refusals.proofs.Refusals.{passed, listed}
 use Rattle.segmentation.specs.Segmentation.{blocks}
-use Rattle.codeword.specs.Build.{badAllocation, badBits}
+use Rattle.codeword.specs.Build.{badLength, badBits, lengthRule, outputRule, bitsRule}
 use Rattle.codeword.proofs.Accepted.{or-false}
 use Rattle.codeword.proofs.Seen.{appended}
 use Rattle.report_code.specs.Words.{messageBits}
@@ -21,13 +21,13 @@ use Rattle.report_code.specs.Nearest.{nearestMessage, unfit, nearestOf}
 use Rattle.report_code.proofs.Answered.{nearest-fit}
 use Rattle.reports.specs.declared.parting.Read.{Read}
 use Rattle.reports.specs.Refusals.{shapeRules, partRules}
-use Rattle.reports.specs.Calls.{controlPart, pastControl, partNumber, nearestReport, partOutput, dataPart}
+use Rattle.reports.specs.Calls.{controlPart, pastControl, tieRule, partNumber, nearestReport, partOutput, dataPart}
 use Rattle.reports.specs.inner.Read.{readRun}
 use Rattle.reports.proofs.Shape.{passed-on, stopped, earlier, some-data, Shaped, shaped}
 
 abbrev others : ℕ → ℕ → ℕ → ℕ → ℕ → List ℕ → ℕ → List Rule
 others A Q N O control received room =
-    rule (badAllocation (blocks (A + 24)) Q N (length received - N * control)) 3 ∷ rule (ltb room O) 5 ∷ rule (badBits received) 2 ∷ []
+    lengthRule (blocks (A + 24)) Q N (length received - N * control) ∷ outputRule O room ∷ bitsRule received ∷ []
 
 -- ---- number by number
 
@@ -36,11 +36,11 @@ module _ (A Q N O control : ℕ) (received : List ℕ) (room : ℕ) {n : ℕ} (e
   unfolding partRules shapeRules
   after = passed-on (shapeRules A Q N O control) (others A Q N O control received room) tt e z
 
-  pub bad-data-is : badAllocation (blocks (A + 24)) Q N (length received - N * control) ≡ true → 3 ≡ firstOf (partRules A Q N O control received room)
+  pub bad-data-is : badLength (blocks (A + 24)) Q N (length received - N * control) ≡ true → 3 ≡ firstOf (partRules A Q N O control received room)
   unfolding firstOf
   bad-data-is h = sym (after ∙ simp h)
 
-  module _ (data-fits : badAllocation (blocks (A + 24)) Q N (length received - N * control) ≡ false) where
+  module _ (data-fits : badLength (blocks (A + 24)) Q N (length received - N * control) ≡ false) where
     pub short-output-is : room < O → 5 ≡ firstOf (partRules A Q N O control received room)
     unfolding firstOf
     short-output-is h = sym (after ∙ simp (data-fits, lt-ltb room O h))
@@ -66,15 +66,13 @@ pub accepted : (A Q N O control : ℕ) (received : List ℕ) (room : ℕ) {n : �
     → Accepted A Q N O control received room
 unfolding partRules shapeRules
 accepted A Q N O control received room {n} e z =
-    let first = earlier (shapeRules A Q N O control) (others A Q N O control received room) tt (sym e ∙ z) in
-    let shape = shaped A Q N O control refl first in
-    let rest : firstOf (others A Q N O control received room) ≡ 0
-    = sym (passed-on (shapeRules A Q N O control) (others A Q N O control received room) tt refl first) ∙ sym e ∙ z in
+    let shape = shaped A Q N O control refl (earlier (shapeRules A Q N O control) (others A Q N O control received room) tt (sym e ∙ z)) in
+    let clear = passed (partRules A Q N O control received room) e z tt in
     record {
       shape = shape;
-      ahead = omega (arith, some-data A Q N (length received - N * control) (shape .size) (cleared (others A Q N O control received room) refl rest tt 0));
-      enough = ltb-false room O (cleared (others A Q N O control received room) refl rest tt 1);
-      bits = cleared (others A Q N O control received room) refl rest tt 2;
+      ahead = omega (arith, some-data A Q N (length received - N * control) (shape .size) (shape .symbol) (clear (lengthRule (blocks (A + 24)) Q N (length received - N * control)) (search listed)));
+      enough = ltb-false room O (clear (outputRule O room) (search listed));
+      bits = clear (bitsRule received) (search listed);
     }
 
 -- ---- the message
@@ -107,16 +105,16 @@ module _ (A Q N O control : ℕ) (received : List ℕ) (room : ℕ) {n : ℕ} (e
   pub refused-run : (n ≡ 0 → ⊥) → record { number = n; message = 0 } ≡ readRun A Q N O control received room
   unfolding partNumber partRules shapeRules
   refused-run z =
-      read-as (stopped (partRules A Q N O control received room) (rule (nearestMessage O (controlPart N control received) .tied) 19 ∷ []) tt e z)
+      read-as (stopped (partRules A Q N O control received room) (tieRule O (controlPart N control received) ∷ []) tt e z)
       (ap (λ (b : Bool). cond b (nearestMessage O (controlPart N control received) .message) 0) (sym (ne-eqb n 0 z)))
 
   module _ (z : n ≡ 0) where
     pub found-is : nearestOf O (controlPart N control received) ≡ nearestMessage O (controlPart N control received)
     found-is = nearest-fit O (controlPart N control received) (front-fit A Q N O control received room (accepted A Q N O control received room e z))
 
-    last-rule : partNumber A Q N O control received room ≡ firstOf (rule (nearestMessage O (controlPart N control received) .tied) 19 ∷ [])
+    last-rule : partNumber A Q N O control received room ≡ firstOf (tieRule O (controlPart N control received) ∷ [])
     unfolding partNumber partRules shapeRules
-    last-rule = passed-on (partRules A Q N O control received room) (rule (nearestMessage O (controlPart N control received) .tied) 19 ∷ []) tt e z
+    last-rule = passed-on (partRules A Q N O control received room) (tieRule O (controlPart N control received) ∷ []) tt e z
 
     pub tied-run : nearestMessage O (controlPart N control received) .tied ≡ true → record { number = 19; message = 0 } ≡ readRun A Q N O control received room
     unfolding firstOf
@@ -138,7 +136,7 @@ pub run-accepted : (A Q N O control : ℕ) (received : List ℕ) (room : ℕ) �
 unfolding partNumber partRules shapeRules
 run-accepted A Q N O control received room z =
     accepted A Q N O control received room refl
-    (earlier (partRules A Q N O control received room) (rule (nearestMessage O (controlPart N control received) .tied) 19 ∷ []) tt z)
+    (earlier (partRules A Q N O control received room) (tieRule O (controlPart N control received) ∷ []) tt z)
 
 pub message-told : (A Q N O control : ℕ) (received : List ℕ) (room : ℕ) {r : Read} → r ≡ readRun A Q N O control received room
     → partNumber A Q N O control received room ≡ 0 → r .message ≡ nearestMessage O (controlPart N control received) .message

@@ -6,6 +6,7 @@ use Prim.Native.Nat.{ℕ, _+_, _*_}
 use lib.Dec.{eqb}
 use lib.ListN.{length, take, drop}
 use Rattle.refusals.specs.Refusals.{Rule, rule, firstOf}
+use Rattle.codeword.specs.declared.Grant.{Grant}
 use Rattle.codeword.specs.Codeword.{codeword}
 use Rattle.report_code.specs.Code.{controlBits}
 use Rattle.report_code.specs.Words.{messageBits}
@@ -15,17 +16,17 @@ use Rattle.reports.specs.Refusals.{buildRules, partRules}
 -- ---- Build with a report
 
 -- the number that it answers: 0 where it is accepted
-unfoldable pub reportBuildNumber : List ℕ → ℕ → List ℕ → ℕ → ℕ → ℕ → ℕ → ℕ → ℕ
-reportBuildNumber o control a Q N v G size = firstOf (buildRules o control a Q N v G size)
+unfoldable pub reportBuildNumber : List ℕ → ℕ → List ℕ → Grant → ℕ → ℕ
+reportBuildNumber o control a g size = firstOf (buildRules o control a g size)
 
 -- first place the control information, then place the data
-unfoldable pub multiplexed : List ℕ → ℕ → List ℕ → ℕ → ℕ → ℕ → ℕ → List ℕ
-multiplexed o control a Q N v G = controlBits o (N * control) ++ codeword a Q N v G
+unfoldable pub multiplexed : List ℕ → ℕ → List ℕ → Grant → List ℕ
+multiplexed o control a g = controlBits o (g .layers * control) ++ codeword a g
 
 -- the output afterwards: both parts over its first N·control + G bytes, or as it was
-unfoldable pub reportBuildOutput : List ℕ → ℕ → List ℕ → ℕ → ℕ → ℕ → ℕ → List ℕ → List ℕ
-reportBuildOutput o control a Q N v G out =
-    cond (eqb (reportBuildNumber o control a Q N v G (length out)) 0) (multiplexed o control a Q N v G ++ drop (N * control + G) out) out
+unfoldable pub reportBuildOutput : List ℕ → ℕ → List ℕ → Grant → List ℕ → List ℕ
+reportBuildOutput o control a g out =
+    cond (eqb (reportBuildNumber o control a g (length out)) 0) (multiplexed o control a g ++ drop (g .layers * control + g .bits) out) out
 
 -- ---- the way back
 
@@ -36,10 +37,14 @@ controlPart N control received = take (N * control) received
 unfoldable pub pastControl : ℕ → ℕ → List ℕ → List ℕ
 pastControl N control received = drop (N * control) received
 
--- the number that it answers: 19, where two or more messages are nearest, comes last
+-- two or more messages are nearest
+abbrev pub tieRule : ℕ → List ℕ → Rule
+tieRule O control = rule (nearestMessage O control .tied) 19
+
+-- the number that it answers: 19 comes last
 unfoldable pub partNumber : ℕ → ℕ → ℕ → ℕ → ℕ → List ℕ → ℕ → ℕ
 partNumber A Q N O control received size =
-    firstOf (partRules A Q N O control received size ++ (rule (nearestMessage O (controlPart N control received) .tied) 19 ∷ []))
+    firstOf (partRules A Q N O control received size ++ (tieRule O (controlPart N control received) ∷ []))
 
 -- the message that is nearest: its O bits
 unfoldable pub nearestReport : ℕ → ℕ → ℕ → List ℕ → List ℕ

@@ -1,6 +1,7 @@
 // Build with a report.
 use super::refused::bad_data;
 use super::refused::shape_number;
+use codeword::Grant;
 ghost use mathlib.Core.Path.{_≡_};
 ghost use Prim.Native.Nat.{_*_, _≤_};
 ghost use lib.ListN.{length};
@@ -10,53 +11,41 @@ ghost use Rattle.reports.specs.Calls.{reportBuildNumber, reportBuildOutp
 
 // Writes the control bits of `report`, `control` a layer, and behind them the codeword of `block`, over the front of `out`. Answers 0, or the
 // number of the refusal, which writes nothing.
-pub fn build(
-    report: &[u8],
-    control: usize,
-    block: &[u8],
-    q: usize,
-    n: usize,
-    version: usize,
-    g: usize,
-    out: &mut [u8],
-) -> u8
-    ensures number { λ r. ⌜ r ≡ reportBuildNumber (now (report .entry)) control (now (block .entry)) q n version g (length (now (out .entry))) ⌝ }
-    ensures output { λ r. ⌜ now (out .exit) ≡ reportBuildOutput (now (report .entry)) control (now (block .entry)) q n version g (now (out .entry)) ⌝ }
+pub fn build(report: &[u8], control: usize, block: &[u8], grant: Grant, out: &mut [u8]) -> u8
+    ensures number { λ r. ⌜ r ≡ reportBuildNumber (now (report .entry)) control (now (block .entry)) grant (length (now (out .entry))) ⌝ }
+    ensures output { λ r. ⌜ now (out .exit) ≡ reportBuildOutput (now (report .entry)) control (now (block .entry)) grant (now (out .entry)) ⌝ }
 {
-    let number = build_number(report, control, block, q, n, version, g, out.len());
+    let number = build_number(report, control, block, grant, out.len());
     if number != 0 {
         return number;
     }
-    let ahead = n * control;
+    let ahead = grant.layers * control;
     report_code::control_bits(number_of(report), &mut out[..ahead]);
-    codeword::build(block, q, n, version, g, &mut out[ahead..]);
+    codeword::build(block, grant, &mut out[ahead..]);
     0
 }
 
 // The refusals in their order.
-fn build_number(
-    report: &[u8],
-    control: usize,
-    block: &[u8],
-    q: usize,
-    n: usize,
-    version: usize,
-    g: usize,
-    room: usize,
-) -> u8
-    ensures { λ r. ⌜ r ≡ reportBuildNumber (now (report .entry)) control (now (block .entry)) q n version g room ⌝ }
+fn build_number(report: &[u8], control: usize, block: &[u8], grant: Grant, room: usize) -> u8
+    ensures { λ r. ⌜ r ≡ reportBuildNumber (now (report .entry)) control (now (block .entry)) grant room ⌝ }
 {
-    let number = shape_number(block.len(), q, n, report.len(), control);
+    let number = shape_number(
+        block.len(),
+        grant.modulation,
+        grant.layers,
+        report.len(),
+        control,
+    );
     if number != 0 {
         return number;
     }
-    if bad_data(block.len(), q, n, g) {
+    if bad_data(block.len(), grant.modulation, grant.layers, grant.bits) {
         return 3;
     }
-    if version > 3 {
+    if grant.version > 3 {
         return 4;
     }
-    if room < n * control + g {
+    if room < grant.layers * control + grant.bits {
         return 5;
     }
     if codeword::bad_bits(report) {

@@ -5,18 +5,8 @@ ghost use Prim.Native.Nat.{_+_, _<_};
 ghost use Rattle.refusals.specs.Refusals.{firstOf};
 ghost use Rattle.segmentation.specs.Segmentation.{blocks};
 ghost use Rattle.segmentation.specs.Sizes.{badSize};
-ghost use Rattle.codeword.specs.Build.{badAllocation};
-ghost use Rattle.reports.specs.Refusals.{badSymbol, badReport, badControl, shapeRules};
-
-// Number 3, Q or N alone.
-fn bad_symbol(q: usize, n: usize) -> bool
-    ensures { λ r. ⌜ r ≡ badSymbol q n ⌝ }
-{
-    if codeword::bad_modulation(q) {
-        return true;
-    }
-    codeword::bad_layers(n)
-}
+ghost use Rattle.codeword.specs.Build.{badSymbol, badLength};
+ghost use Rattle.reports.specs.Refusals.{badReport, badControl, shapeRules};
 
 // Number 17.
 fn bad_report(o: usize) -> bool
@@ -50,7 +40,7 @@ pub(crate) fn shape_number(a: usize, q: usize, n: usize, o: usize, control: usiz
     if s.blocks == 0 {
         return 1;
     }
-    if bad_symbol(q, n) {
+    if codeword::bad_symbol(q, n) {
         return 3;
     }
     if bad_report(o) {
@@ -62,10 +52,10 @@ pub(crate) fn shape_number(a: usize, q: usize, n: usize, o: usize, control: usiz
     0
 }
 
-// Number 3 for G, of a block whose size is in range.
+// Number 3 for G, of a block whose size is in range, and Q and N as 01 has them.
 pub(crate) fn bad_data(a: usize, q: usize, n: usize, g: usize) -> bool
-    requires { ⌜ badSize a ≡ false ⌝ }
-    ensures { λ r. ⌜ r ≡ badAllocation (blocks (a + 24)) q n g ⌝ }
+    requires { ⌜ (badSize a ≡ false) × (badSymbol q n ≡ false) ⌝ }
+    ensures { λ r. ⌜ r ≡ badLength (blocks (a + 24)) q n g ⌝ }
 {
     let s = segmentation::segments_for(a);
     codeword::bad_allocation(s.blocks, q, n, g)

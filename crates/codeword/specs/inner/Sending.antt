@@ -10,16 +10,22 @@ use Rattle.segmentation.specs.declared.Segments.{Segments}
 use Rattle.segmentation.specs.Segmentation.{blocks, long}
 use Rattle.segmentation.specs.Sizes.{badSize, segmentsOf}
 use Rattle.rate_matching.specs.SubBlocks.{rows}
+use Rattle.codeword.specs.declared.Grant.{Grant}
 use Rattle.codeword.specs.Codeword.{blockRows}
 use Rattle.codeword.specs.Build.{badAllocation, badBits, buildNumber}
 
--- an accepted Build of G bits, each code block having a share `soft` of the soft buffer
-pub record Accepted (soft : ℕ) (a : List ℕ) (Q N v G : ℕ) : Type 0 where
+-- an accepted Build for a grant, each code block having a share `soft` of the soft buffer
+pub record Accepted (soft : ℕ) (a : List ℕ) (g : Grant) : Type 0 where
   pub size : badSize (length a) ≡ false
   pub buffer : (r : ℕ) → r < blocks (length a + 24) → 32 * blockRows (length a + 24) r ≤ soft
-  pub allocation : badAllocation (blocks (length a + 24)) Q N G ≡ false
-  pub version : v ≤ 3
+  pub allocation : badAllocation (blocks (length a + 24)) (g .modulation) (g .layers) (g .bits) ≡ false
+  pub version : g .version ≤ 3
   pub bits : badBits a ≡ false
+
+-- the same with an output of G bytes
+pub record Writable (soft : ℕ) (a : List ℕ) (g : Grant) (size : ℕ) : Type 0 where
+  pub accepted : Accepted soft a g
+  pub whole : size ≡ g .bits
 
 -- code block r of a block a, whose segmentation is s, in redundancy version v
 pub record Sending (soft : ℕ) (a : List ℕ) (s : Segments) (r v : ℕ) : Type 0 where
@@ -43,6 +49,6 @@ pub record Roomy (K d0 d1 d2 : ℕ) : Type 0 where
   pub third : d2 ≡ K + 4
 
 -- the number of a Build for a downlink whose code blocks have the share `soft`, 0 where the receiver is refused: the longest code block has the most rows
-unfoldable pub numberWith : List ℕ → ℕ → ℕ → ℕ → ℕ → ℕ → ℕ → ℕ
-numberWith a soft Q N v G size =
-    cond (badSize (length a)) 1 (cond (ltb soft (32 * rows (long (length a + 24) + 4))) 21 (buildNumber a Q N v G size))
+unfoldable pub numberWith : List ℕ → ℕ → Grant → ℕ → ℕ
+numberWith a soft g size =
+    cond (badSize (length a)) 1 (cond (ltb soft (32 * rows (long (length a + 24) + 4))) 21 (buildNumber a g size))

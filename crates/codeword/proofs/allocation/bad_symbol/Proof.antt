@@ -1,10 +1,10 @@
--- `refused::bad_symbol` meets its contract: Q, then N.
+-- `allocation::bad_symbol` meets its contract: Q, then N.
 -- Assumes nothing.
 use borrow.Author.Needs.{needs}
 use mathlib.Core.Path.{sym, _∙_}
-use Rattle.reports.specs.Refusals.{badSymbol}
-use Rattle.reports.proofs.refused.bad_symbol.Statement.{statement}
-use Rattle.reports.proofs.refused.bad_symbol.Tie as tie
+use Rattle.codeword.specs.Build.{badSymbol}
+use Rattle.codeword.proofs.allocation.bad_symbol.Statement.{statement}
+use Rattle.codeword.proofs.allocation.bad_symbol.Tie as tie
 
 bad-modulation-requires : tie.Need-bad-modulation-requires
 bad-modulation-requires c κs = search needs

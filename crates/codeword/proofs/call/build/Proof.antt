@@ -23,8 +23,8 @@ returns : tie.Need-returns
 returns c =
     let a = c .before .before .before .before .before .before .before .args in
     let two = c .before .before .build-two .ensures in (
-      two .0 ∙ ap (λ (l : List ℕ). buildNumber l (a .q) (a .n) (a .version) (a .g) (length (now (a .out)))) (append-nil (now (a .block))),
-      two .1 ∙ ap (λ (l : List ℕ). buildOutput l (a .q) (a .n) (a .version) (a .g) (now (a .out))) (append-nil (now (a .block))),
+      two .0 ∙ ap (λ (l : List ℕ). buildNumber l (a .grant) (length (now (a .out)))) (append-nil (now (a .block))),
+      two .1 ∙ ap (λ (l : List ℕ). buildOutput l (a .grant) (now (a .out))) (append-nil (now (a .block))),
     )
 
 pub build-spec : {M : Type 1} → statement M

@@ -1,13 +1,14 @@
 -- `build_down` meets its contract: a refusal leaves the output as it was, else its first G bytes are lent to be the codeword.
 -- Assumes nothing.
 use borrow.Author.Needs.{needs}
-use mathlib.Core.Path.{_≡_, sym, _∙_, ap, ap₂}
+use mathlib.Core.Path.{_≡_, sym, _∙_, ap₂}
 use mathlib.Core.List.{List, append-nil}
 use Prim.Native.Nat.{ℕ, _≤_}
-use lib.ListN.{length, take}
+use lib.ListN.{length}
 use lib.Seq.{length-take-le}
 use denote.Ref.{now}
 use Rattle.laws.proofs.Parts.{front-count}
+use Rattle.codeword.specs.declared.Grant.{Grant}
 use Rattle.codeword.specs.Codeword.{codewordIn}
 use Rattle.codeword.specs.Downlink.{buildDownNumber}
 use Rattle.codeword.specs.inner.Sending.{Accepted}
@@ -22,21 +23,21 @@ entry c = c .before .before .before .before .before
 found : (c : tie.After-down-number)
     → c .down-number .result
     ≡ buildDownNumber (now (entry c .args .block)) (entry c .args .release) (entry c .args .mimo) (entry c .args .processes) (entry c .args .soft) (entry c .args .layers)
-    (entry c .args .q) (entry c .args .n) (entry c .args .version) (entry c .args .g) (length (now (entry c .args .out)))
-found c = c .down-number .ensures ∙ number-found _ _ _ _ _ _ _ _ _ _ (c .before .before .segments-for .ensures) (c .before .share-for .ensures) _
+    (entry c .args .grant) (length (now (entry c .args .out)))
+found c = c .down-number .ensures ∙ number-found _ _ _ _ _ _ _ (c .before .before .segments-for .ensures) (c .before .share-for .ensures) _
 
 -- and 0 past the test
 none : (c : tie.Else1)
     → buildDownNumber (now (entry (c .before) .args .block)) (entry (c .before) .args .release) (entry (c .before) .args .mimo) (entry (c .before) .args .processes) (entry (c .before) .args .soft) (entry (c .before) .args .layers)
-    (entry (c .before) .args .q) (entry (c .before) .args .n) (entry (c .before) .args .version) (entry (c .before) .args .g) (length (now (entry (c .before) .args .out)))
+    (entry (c .before) .args .grant) (length (now (entry (c .before) .args .out)))
     ≡ 0
 none c = sym (found (c .before)) ∙ c .if1 .left
 
-fits : (c : tie.Else1) → entry (c .before) .args .g ≤ length (now (entry (c .before) .args .out))
-fits c = accepted-down _ _ _ _ _ _ _ _ _ _ _ (none c) .1
+fits : (c : tie.Else1) → entry (c .before) .args .grant .bits ≤ length (now (entry (c .before) .args .out))
+fits c = accepted-down _ _ _ _ _ _ _ _ (none c) .1
 
-accepted-as : {soft given : ℕ} {a b : List ℕ} {Q N v G H : ℕ} → soft ≡ given → a ≡ b → G ≡ H → Accepted given b Q N v H → Accepted soft a Q N v G
-accepted-as e f g h = rw (e, f, g) h
+accepted-as : {soft given : ℕ} {a b : List ℕ} {g : Grant} → soft ≡ given → a ≡ b → Accepted given b g → Accepted soft a g
+accepted-as e f h = rw (e, f) h
 
 segments-for-requires : tie.Need-segments-for-requires
 segments-for-requires c κs = search needs
@@ -48,7 +49,7 @@ down-number-requires : tie.Need-down-number-requires
 down-number-requires c κs = search needs
 
 returns : tie.Need-returns
-returns c = (found (c .before), refused-down _ _ _ _ _ _ _ _ _ _ _ (λ e. c .if1 .taken (found (c .before) ∙ e)))
+returns c = (found (c .before), refused-down _ _ _ _ _ _ _ _ (λ e. c .if1 .taken (found (c .before) ∙ e)))
 
 slice-aggregate-write-codeword : tie.Need-slice-aggregate-write-codeword
 slice-aggregate-write-codeword c = search needs
@@ -63,8 +64,11 @@ write-codeword-requires : tie.Need-write-codeword-requires
 write-codeword-requires c κs =
     let test = c .before .before in
     let s = entry (test .before) in
-    let share = share-accepted _ _ _ _ _ _ _ _ _ _ (test .before .before .before .segments-for .ensures) (test .before .before .share-for .ensures) _ (none test) in
-    accepted-as share (append-nil (now (s .args .block))) (length-take-le _ _ (fits test)) (accepted-down _ _ _ _ _ _ _ _ _ _ _ (none test) .0)
+    let share = share-accepted _ _ _ _ _ _ _ (test .before .before .before .segments-for .ensures) (test .before .before .share-for .ensures) _ (none test) in
+    record {
+      accepted = accepted-as share (append-nil (now (s .args .block))) (accepted-down _ _ _ _ _ _ _ _ (none test) .0);
+      whole = length-take-le _ _ (fits test);
+    }
 
 same-length : tie.Need-same-length
 same-length c = search needs
@@ -73,12 +77,11 @@ returns-2 : tie.Need-returns-2
 returns-2 c =
     let test = c .before .before .before .before .before in
     let s = entry (test .before) in
-    let share = share-accepted _ _ _ _ _ _ _ _ _ _ (test .before .before .before .segments-for .ensures) (test .before .before .share-for .ensures) _ (none test) in (
+    let share = share-accepted _ _ _ _ _ _ _ (test .before .before .before .segments-for .ensures) (test .before .before .share-for .ensures) _ (none test) in (
       sym (none test),
-      built-down _ _ _ _ _ _ _ _ _ _ _ (none test)
+      built-down _ _ _ _ _ _ _ _ (none test)
           (c .before .before .write-codeword .ensures
-          ∙ ap (λ (l : List ℕ). codewordIn (test .before .before .share-for .result) l (s .args .q) (s .args .n) (s .args .version) (length (take (s .args .g) (now (s .args .out))))) (append-nil (now (s .args .block)))
-          ∙ ap₂ (λ (soft G : ℕ). codewordIn soft (now (s .args .block)) (s .args .q) (s .args .n) (s .args .version) G) share (length-take-le _ _ (fits test))),
+          ∙ ap₂ (λ (soft : ℕ) (l : List ℕ). codewordIn soft l (s .args .grant)) share (append-nil (now (s .args .block)))),
     )
 
 pub build-down-spec : {M : Type 1} → statement M

@@ -1,28 +1,25 @@
 -- `build_two` meets its contract: a refusal leaves the output as it was, else its first G bytes are lent to be the codeword.
 -- Assumes nothing.
 use borrow.Author.Needs.{needs}
-use mathlib.Core.Path.{_≡_, refl, sym, _∙_, ap}
+use mathlib.Core.Path.{_≡_, sym, _∙_}
 use mathlib.Core.List.{_++_}
-use Prim.Native.Nat.{ℕ, _≤_}
-use lib.ListN.{length, take}
+use Prim.Native.Nat.{_≤_}
+use lib.ListN.{length}
 use lib.Seq.{length-take-le}
 use denote.Ref.{now}
 use Rattle.laws.proofs.Parts.{front-count}
-use Rattle.rate_matching.specs.SoftBuffer.{wholeShare}
-use Rattle.codeword.specs.Codeword.{codewordIn}
 use Rattle.codeword.specs.Build.{buildNumber}
-use Rattle.codeword.specs.inner.Sending.{Accepted}
 use Rattle.codeword.proofs.Numbers.{accepted, refused-output, built-output}
 use Rattle.codeword.proofs.call.build_two.Statement.{statement}
 use Rattle.codeword.proofs.call.build_two.Tie as tie
 
 -- the number is 0 past the test
 none : (c : tie.Else1) → let a = c .before .before .before .before .before .args in
-    buildNumber (now (a .header) ++ now (a .payload)) (a .q) (a .n) (a .version) (a .g) (length (now (a .out))) ≡ 0
+    buildNumber (now (a .header) ++ now (a .payload)) (a .grant) (length (now (a .out))) ≡ 0
 none c = sym (c .before .build-number .ensures) ∙ c .if1 .left
 
-fits : (c : tie.Else1) → let a = c .before .before .before .before .before .args in a .g ≤ length (now (a .out))
-fits c = accepted _ _ _ _ _ _ (none c) .1
+fits : (c : tie.Else1) → let a = c .before .before .before .before .before .args in a .grant .bits ≤ length (now (a .out))
+fits c = accepted _ _ _ (none c) .1
 
 build-number-requires : tie.Need-build-number-requires
 build-number-requires c κs = search needs
@@ -30,7 +27,7 @@ build-number-requires c κs = search needs
 returns : tie.Need-returns
 returns c = (
   c .before .build-number .ensures,
-  refused-output _ _ _ _ _ _ (λ e. c .if1 .taken (c .before .build-number .ensures ∙ e)),
+  refused-output _ _ _ (λ e. c .if1 .taken (c .before .build-number .ensures ∙ e)),
 )
 
 slice-relend-prefix-write-codeword : tie.Need-slice-relend-prefix-write-codeword
@@ -40,7 +37,7 @@ slice-aggregate-write-codeword : tie.Need-slice-aggregate-write-codeword
 slice-aggregate-write-codeword c = front-count _ _ (fits (c .before))
 
 write-codeword-requires : tie.Need-write-codeword-requires
-write-codeword-requires c κs = rw (length-take-le _ _ (fits (c .before))) (accepted _ _ _ _ _ _ (none (c .before)) .0)
+write-codeword-requires c κs = record { accepted = accepted _ _ _ (none (c .before)) .0; whole = length-take-le _ _ (fits (c .before)) }
 
 same-length : tie.Need-same-length
 same-length c = search needs
@@ -48,12 +45,7 @@ same-length c = search needs
 returns-2 : tie.Need-returns-2
 returns-2 c =
     let test = c .before .before .before .before in
-    let start = test .before .before .before .before .before in (
-      sym (none test),
-      built-output _ _ _ _ _ _ (none test)
-          (c .before .before .write-codeword .ensures
-          ∙ ap (codewordIn wholeShare (now (start .args .header) ++ now (start .args .payload)) (start .args .q) (start .args .n) (start .args .version)) (length-take-le _ _ (fits test))),
-    )
+    (sym (none test), built-output _ _ _ (none test) (c .before .before .write-codeword .ensures))
 
 pub build-two-spec : {M : Type 1} → statement M
 build-two-spec =

@@ -47,7 +47,7 @@ returns-3 c =
     let k = in-range (c .before .before .before .before) in
     let a = c .before .before .before .before .before .before .before .args in
     simp (k .size, le-ltb _ _ (rw (rows-told _ (k .told)) at (c .before .before .if2 .left)))
-    (c .build-number .ensures ∙ ap (λ (l : List ℕ). buildNumber l (a .q) (a .n) (a .version) (a .g) (a .room)) (append-nil (now (a .block))))
+    (c .build-number .ensures ∙ ap (λ (l : List ℕ). buildNumber l (a .grant) (a .room)) (append-nil (now (a .block))))
 
 pub down-number-spec : {M : Type 1} → statement M
 down-number-spec =

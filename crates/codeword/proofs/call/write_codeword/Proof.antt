@@ -17,7 +17,7 @@ told : (c : tie.After-segments-for-both) → let a = c .before .before .before .
     c .segments-for-both .result ≡ segmentsOf (length (now (a .header) ++ now (a .payload)) + 24)
 told c =
     let start = c .before .before .before .before in
-    sized-in _ _ (start .pre .size) (of-joined (now (start .args .header)) (now (start .args .payload)) (c .segments-for-both .ensures)) .told
+    sized-in _ _ (start .pre .accepted .size) (of-joined (now (start .args .header)) (now (start .args .payload)) (c .segments-for-both .ensures)) .told
 
 segments-for-both-requires : tie.Need-segments-for-both-requires
 segments-for-both-requires c κs = search needs

@@ -14,11 +14,11 @@ use Rattle.codeword.proofs.call.write_in.Statement.{statement}
 use Rattle.codeword.proofs.call.write_in.Tie as tie
 
 abbrev Inv-loop : tie.InvT-loop
-Inv-loop header payload soft q n version s d0₀ d1₀ d2₀ out₀ remainder g at₀ r₀ d0 d1 d2 out at r =
-    Stretching soft (header ++ payload) q n version out₀ s (s .blocks) remainder g out at r × Lent (s .long) d0₀ d1₀ d2₀ d0 d1 d2
+Inv-loop header payload soft grant s d0₀ d1₀ d2₀ out₀ remainder at₀ r₀ d0 d1 d2 out at r =
+    Stretching soft (header ++ payload) grant out₀ s (s .blocks) remainder out at r × Lent (s .long) d0₀ d1₀ d2₀ d0 d1 d2
 
 abbrev μ-loop : tie.MeasureT-loop
-μ-loop header payload soft q n version s d0₀ d1₀ d2₀ out₀ remainder g at₀ r₀ d0 d1 d2 out at r = s .blocks - r
+μ-loop header payload soft grant s d0₀ d1₀ d2₀ out₀ remainder at₀ r₀ d0 d1 d2 out at r = s .blocks - r
 
 crc24a-two-requires : tie.Need-crc24a-two-requires Inv-loop μ-loop
 crc24a-two-requires c κs = search needs
@@ -26,7 +26,7 @@ crc24a-two-requires c κs = search needs
 loop-holds : tie.Need-loop-holds Inv-loop μ-loop
 loop-holds c =
     let given = c .before .before .before .before .before .before .before .pre in
-    (start (given .0) (given .1 .0) (count-told _ (given .1 .0)) (c .crc24a-two .ensures) (search needs), lent (given .1 .1))
+    (start (given .0) (given .1 .0) (count-told _ (given .1 .0)) (c .crc24a-two .ensures), lent (given .1 .1))
 
 share-of-requires : tie.Need-share-of-requires Inv-loop μ-loop
 share-of-requires c κs = search needs

@@ -16,7 +16,7 @@ slice-aggregate-write-in-3 : tie.Need-slice-aggregate-write-in-3
 slice-aggregate-write-in-3 c = search needs
 
 write-in-requires : tie.Need-write-in-requires
-write-in-requires c κs = let given = c .before .before .before .before .before .before .before .pre in (given .0, (given .1, fresh-rooms 6144 (long-told _ (given .0 .size) (given .1))))
+write-in-requires c κs = let given = c .before .before .before .before .before .before .before .pre in (given .0, (given .1, fresh-rooms 6144 (long-told _ (given .0 .accepted .size) (given .1))))
 
 same-length : tie.Need-same-length
 same-length c = search needs

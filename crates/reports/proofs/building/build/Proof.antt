@@ -11,21 +11,16 @@ use Rattle.reports.proofs.Built.{Accepted, accepted, refused-output, da
 use Rattle.reports.proofs.building.build.Statement.{statement}
 use Rattle.reports.proofs.building.build.Tie as tie
 
+-- the way back to the start
+abbrev start : tie.Else1 → tie.Start
+start c = c .before .before .before .before .before
+
 -- the number is 0 past the test
-none : (c : tie.Else1)
-    → reportBuildNumber (now (c .before .before .before .before .before .args .report)) (c .before .before .before .before .before .args .control)
-    (now (c .before .before .before .before .before .args .block)) (c .before .before .before .before .before .args .q)
-    (c .before .before .before .before .before .args .n) (c .before .before .before .before .before .args .version)
-    (c .before .before .before .before .before .args .g) (length (now (c .before .before .before .before .before .args .out)))
-    ≡ 0
+none : (c : tie.Else1) → let a = start c .args in reportBuildNumber (now (a .report)) (a .control) (now (a .block)) (a .grant) (length (now (a .out))) ≡ 0
 none c = sym (c .before .build-number .ensures) ∙ c .if1 .left
 
-rules : (c : tie.Else1)
-    → Accepted (now (c .before .before .before .before .before .args .report)) (c .before .before .before .before .before .args .control)
-    (now (c .before .before .before .before .before .args .block)) (c .before .before .before .before .before .args .q)
-    (c .before .before .before .before .before .args .n) (c .before .before .before .before .before .args .version)
-    (c .before .before .before .before .before .args .g) (length (now (c .before .before .before .before .before .args .out)))
-rules c = accepted _ _ _ _ _ _ _ _ (none c)
+rules : (c : tie.Else1) → let a = start c .args in Accepted (now (a .report)) (a .control) (now (a .block)) (a .grant) (length (now (a .out)))
+rules c = accepted _ _ _ _ _ (none c)
 
 build-number-requires : tie.Need-build-number-requires
 build-number-requires c κs = search needs
@@ -33,29 +28,37 @@ build-number-requires c κs = search needs
 returns : tie.Need-returns
 returns c = (
   c .before .build-number .ensures,
-  refused-output _ _ _ _ _ _ _ _ (λ e. c .if1 .taken (c .before .build-number .ensures ∙ e)),
+  refused-output _ _ _ _ _ (λ e. c .if1 .taken (c .before .build-number .ensures ∙ e)),
 )
 
 mul-ahead : tie.Need-mul-ahead
-mul-ahead c = omega (arith, rules c .shape .few)
+mul-ahead c = omega (arith, rules (c .before) .shape .few)
 
 number-of-requires : tie.Need-number-of-requires
-number-of-requires c κs = (rules c .report-bits, rules c .shape .short)
+number-of-requires c κs = (rules (c .before) .report-bits, rules (c .before) .shape .short)
+
+-- the way back to the test from where the front is lent
+abbrev test : tie.After-number-of → tie.Else1
+test c = c .before .before
 
 slice-relend-prefix-control-bits : tie.Need-slice-relend-prefix-control-bits
-slice-relend-prefix-control-bits c = omega (arith, rules (c .before) .enough)
+slice-relend-prefix-control-bits c = omega (arith, rules (test c) .enough)
 
 slice-aggregate-control-bits : tie.Need-slice-aggregate-control-bits
-slice-aggregate-control-bits c = front-count _ _ (omega (arith, rules (c .before .before) .enough))
+slice-aggregate-control-bits c = front-count _ _ (omega (arith, rules (test (c .before)) .enough))
 
 control-bits-requires : tie.Need-control-bits-requires
 control-bits-requires c κs = search needs
 
 sub-build : tie.Need-sub-build
-sub-build c = data-start _ _ _ _ _ _ _ _ (none (c .before .before .before .before .before)) (c .before .before .before .before .number-of .ensures) (c .before .before .control-bits .ensures)
+sub-build c =
+    let lent = c .before .before in
+    data-start _ _ _ _ _ (none (test (lent .before .before))) (lent .before .before .number-of .ensures) (lent .control-bits .ensures)
 
 part-build-start : tie.Need-part-build-start
-part-build-start c = data-start _ _ _ _ _ _ _ _ (none (c .before .before .before .before .before)) (c .before .before .before .before .number-of .ensures) (c .before .before .control-bits .ensures)
+part-build-start c =
+    let lent = c .before .before in
+    data-start _ _ _ _ _ (none (test (lent .before .before))) (lent .before .before .number-of .ensures) (lent .control-bits .ensures)
 
 part-build-end : tie.Need-part-build-end
 part-build-end c = search needs
@@ -67,10 +70,11 @@ same-length : tie.Need-same-length
 same-length c = search needs
 
 returns-2 : tie.Need-returns-2
-returns-2 c = (
-  sym (none (c .before .before .before .before .before .before .before .before .before)),
-  built-output _ _ _ _ _ _ _ _ (none (c .before .before .before .before .before .before .before .before .before)) (c .before .before .before .before .before .before .before .before .number-of .ensures) (c .before .before .before .before .before .before .control-bits .ensures) (c .before .before .build .ensures .1),
-)
+returns-2 c =
+    let lent = c .before .before .before .before .before .before in
+    let counted = lent .before .before in
+    let zero = none (test counted) in
+    (sym zero, built-output _ _ _ _ _ zero (counted .number-of .ensures) (lent .control-bits .ensures) (c .before .before .build .ensures .1))
 
 pub build-spec : {M : Type 1} → statement M
 build-spec =

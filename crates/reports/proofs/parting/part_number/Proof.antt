@@ -1,16 +1,38 @@
 -- `parting::part_number` meets its contract: each return by the tests on the way, in the order of the rules.
 -- Assumes nothing.
 use borrow.Author.Needs.{needs}
-use mathlib.Core.Path.{sym, _∙_, ap}
-use Prim.Native.Nat.{_+_}
+use mathlib.Core.Path.{_≡_, sym, _∙_, ap}
+use Prim.Native.Nat.{_+_, _-_, _*_}
 use native.Mathlib.Omega.{arith}
+use lib.ListN.{length}
+use denote.Ref.{now}
 use Rattle.segmentation.specs.Segmentation.{blocks}
-use Rattle.codeword.specs.Build.{badAllocation}
+use Rattle.codeword.specs.Build.{badLength}
 use Rattle.reports.specs.Refusals.{shapeRules, partRules}
-use Rattle.reports.proofs.Shape.{stopped, shaped}
+use Rattle.reports.proofs.Shape.{Shaped, stopped, shaped}
 use Rattle.reports.proofs.Parted.{bad-data-is, short-output-is, bad-bits-is, accepted-run}
 use Rattle.reports.proofs.parting.part_number.Statement.{statement}
 use Rattle.reports.proofs.parting.part_number.Tie as tie
+
+-- the ways back from a later test to an earlier one, and to the start
+abbrev start : tie.Else1 → tie.Start
+start c = c .before .before .before
+
+abbrev past-length : tie.Else2 → tie.Else1
+past-length c = c .before .before .before
+
+abbrev past-output : tie.Else3 → tie.Else2
+past-output c = c .before
+
+-- what the tests told
+shape : (c : tie.Else1) → let a = start c .args in Shaped (a .a) (a .q) (a .n) (a .o) (a .control)
+shape c = shaped _ _ _ _ _ (c .before .shape-number .ensures) (c .if1 .left)
+
+length-told : (c : tie.After-bad-data) → let a = start (c .before .before) .args in
+    c .bad-data .result ≡ badLength (blocks (a .a + 24)) (a .q) (a .n) (length (now (a .received)) - a .n * a .control)
+length-told c =
+    let a = start (c .before .before) .args in
+    c .bad-data .ensures ∙ ap (badLength (blocks (a .a + 24)) (a .q) (a .n)) (c .before .left-after .ensures)
 
 shape-number-requires : tie.Need-shape-number-requires
 shape-number-requires c κs = search needs
@@ -20,28 +42,43 @@ unfolding partRules shapeRules
 returns c = stopped _ _ tt (c .before .shape-number .ensures) (c .if1 .taken)
 
 mul-left-after : tie.Need-mul-left-after
-mul-left-after c = omega (arith, shaped _ _ _ _ _ (c .before .shape-number .ensures) (c .if1 .left) .few)
+mul-left-after c = omega (arith, shape c .few)
 
 left-after-requires : tie.Need-left-after-requires
 left-after-requires c κs = search needs
 
 bad-data-requires : tie.Need-bad-data-requires
-bad-data-requires c κs = shaped _ _ _ _ _ (c .before .before .shape-number .ensures) (c .before .if1 .left) .size
+bad-data-requires c κs = (shape (c .before) .size, shape (c .before) .symbol)
 
 returns-2 : tie.Need-returns-2
-returns-2 c = bad-data-is _ _ _ _ _ _ _ (c .before .before .before .before .shape-number .ensures) (c .before .before .before .if1 .left) (sym (c .before .bad-data .ensures ∙ ap (badAllocation (blocks (c .before .before .before .before .before .before .args .a + 24)) (c .before .before .before .before .before .before .args .q) (c .before .before .before .before .before .before .args .n)) (c .before .before .left-after .ensures)) ∙ c .if2 .taken)
+returns-2 c =
+    let first = c .before .before .before in
+    bad-data-is _ _ _ _ _ _ _ (first .before .shape-number .ensures) (first .if1 .left) (sym (length-told (c .before)) ∙ c .if2 .taken)
 
 returns-3 : tie.Need-returns-3
-returns-3 c = short-output-is _ _ _ _ _ _ _ (c .before .before .before .before .before .shape-number .ensures) (c .before .before .before .before .if1 .left) (sym (c .before .before .bad-data .ensures ∙ ap (badAllocation (blocks (c .before .before .before .before .before .before .before .args .a + 24)) (c .before .before .before .before .before .before .before .args .q) (c .before .before .before .before .before .before .before .args .n)) (c .before .before .before .left-after .ensures)) ∙ c .before .if2 .left) (c .if3 .taken)
+returns-3 c =
+    let second = c .before in
+    let first = past-length second in
+    short-output-is _ _ _ _ _ _ _ (first .before .shape-number .ensures) (first .if1 .left) (sym (length-told (second .before)) ∙ second .if2 .left) (c .if3 .taken)
 
 bad-bits-requires : tie.Need-bad-bits-requires
 bad-bits-requires c κs = search needs
 
 returns-4 : tie.Need-returns-4
-returns-4 c = bad-bits-is _ _ _ _ _ _ _ (c .before .before .before .before .before .before .before .shape-number .ensures) (c .before .before .before .before .before .before .if1 .left) (sym (c .before .before .before .before .bad-data .ensures ∙ ap (badAllocation (blocks (c .before .before .before .before .before .before .before .before .before .args .a + 24)) (c .before .before .before .before .before .before .before .before .before .args .q) (c .before .before .before .before .before .before .before .before .before .args .n)) (c .before .before .before .before .before .left-after .ensures)) ∙ c .before .before .before .if2 .left) (c .before .before .if3 .left) (sym (c .before .bad-bits .ensures) ∙ c .if4 .taken)
+returns-4 c =
+    let third = c .before .before in
+    let second = past-output third in
+    let first = past-length second in
+    bad-bits-is _ _ _ _ _ _ _ (first .before .shape-number .ensures) (first .if1 .left) (sym (length-told (second .before)) ∙ second .if2 .left) (third .if3 .left)
+    (sym (c .before .bad-bits .ensures) ∙ c .if4 .taken)
 
 returns-5 : tie.Need-returns-5
-returns-5 c = accepted-run _ _ _ _ _ _ _ (c .before .before .before .before .before .before .before .shape-number .ensures) (c .before .before .before .before .before .before .if1 .left) (sym (c .before .before .before .before .bad-data .ensures ∙ ap (badAllocation (blocks (c .before .before .before .before .before .before .before .before .before .args .a + 24)) (c .before .before .before .before .before .before .before .before .before .args .q) (c .before .before .before .before .before .before .before .before .before .args .n)) (c .before .before .before .before .before .left-after .ensures)) ∙ c .before .before .before .if2 .left) (c .before .before .if3 .left) (sym (c .before .bad-bits .ensures) ∙ c .if4 .left)
+returns-5 c =
+    let third = c .before .before in
+    let second = past-output third in
+    let first = past-length second in
+    accepted-run _ _ _ _ _ _ _ (first .before .shape-number .ensures) (first .if1 .left) (sym (length-told (second .before)) ∙ second .if2 .left) (third .if3 .left)
+    (sym (c .before .bad-bits .ensures) ∙ c .if4 .left)
 
 pub part-number-spec : {M : Type 1} → statement M
 part-number-spec =
