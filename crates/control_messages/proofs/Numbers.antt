@@ -1,23 +1,22 @@
 -- The numbers of the two calls one by one: which tests give which number, and what number 0 tells.
 -- Assumes nothing.
-use mathlib.Core.Path.{_≡_, refl, sym, _∙_, ap}
+use mathlib.Core.Path.{_≡_, refl, sym, ap}
 use mathlib.Core.Bool.{Bool, true, false, cond, _||_}
-use mathlib.Core.List.{List, [], _∷_, _++_}
+use mathlib.Core.List.{List, _++_}
 use Prim.Native.Nat.{ℕ, _+_, _≤_, _<_}
 use native.Mathlib.Omega.{arith}
 use lib.Dec.{eqb, ltb}
 use lib.ListN.{length, drop}
 use borrow.Author.Tests.{lt-ltb, le-ltb, ltb-false, eqb-true, eqb-false, eq-eqb, ne-eqb}
 use Rattle.refusals.specs.Refusals.{firstOf}
-use Rattle.refusals.proofs.Refusals.{cleared}
+use Rattle.refusals.proofs.Refusals.{passed, listed}
 use Rattle.laws.specs.Bits.{AreBits}
-use Rattle.codeword.specs.Build.{badBits}
+use Rattle.codeword.specs.Build.{badBits, outputRule, bitsRule}
 use Rattle.codeword.proofs.Accepted.{given-bits}
-use Rattle.control_messages.specs.declared.Owner.{Owner}
 use Rattle.control_messages.specs.declared.Owner.the-variants.{Terminal, Refused}
 use Rattle.control_messages.specs.Message.{message}
 use Rattle.control_messages.specs.Ownership.{ownerOf}
-use Rattle.control_messages.specs.Calls.{badPayload, badRun, badLength, controlRules, controlNumber, controlOutput, whoseRules, whoseNumber, whoseAnswer, numberOf}
+use Rattle.control_messages.specs.Calls.{badPayload, badRun, badLength, payloadRule, runRule, controlRules, controlNumber, controlOutput, whoseRules, whoseNumber, whoseAnswer, numberOf}
 use Rattle.control_messages.specs.Working.{Sized}
 
 -- ---- building
@@ -65,10 +64,11 @@ either n m e = go (eqb n 0) refl e
 pub accepted : (a : List ℕ) (E room : ℕ) → controlNumber a E room ≡ 0 → Accepted a E room
 unfolding controlNumber controlRules badPayload
 accepted a E room h =
-    let size = either (length a) 64 (cleared (controlRules a E room) refl h tt 0) in record {
+    let clear = passed (controlRules a E room) refl h tt in
+    let size = either (length a) 64 (clear (payloadRule (length a)) (search listed)) in record {
       size = record { least = omega (arith, size .0); most = omega (arith, size .1) };
-      fits = ltb-false room E (cleared (controlRules a E room) refl h tt 2);
-      bits = given-bits a (cleared (controlRules a E room) refl h tt 3);
+      fits = ltb-false room E (clear (outputRule E room) (search listed));
+      bits = given-bits a (clear (bitsRule a) (search listed));
     }
 
 -- the output after a refusal, and after the message came back in its first E bytes
@@ -98,7 +98,7 @@ module _ (run : List ℕ) where
 
   pub whose-sized : whoseNumber run ≡ 0 → Sized (length run)
   unfolding whoseNumber whoseRules badRun
-  whose-sized h = go (ltb (length run) 17) refl (cleared (whoseRules run) refl h tt 0)
+  whose-sized h = go (ltb (length run) 17) refl (passed (whoseRules run) refl h tt (runRule (length run)) (search listed))
     where
       go : (b : Bool) → ltb (length run) 17 ≡ b → (b || ltb 80 (length run)) ≡ false → Sized (length run)
       go true t f = absurd (no-truth f)
@@ -106,7 +106,7 @@ module _ (run : List ℕ) where
 
   pub whose-bits : whoseNumber run ≡ 0 → AreBits run
   unfolding whoseNumber whoseRules
-  whose-bits h = given-bits run (cleared (whoseRules run) refl h tt 1)
+  whose-bits h = given-bits run (passed (whoseRules run) refl h tt (bitsRule run) (search listed))
 
   pub refused-answer : (whoseNumber run ≡ 0 → ⊥) → Refused (whoseNumber run) ≡ whoseAnswer run
   unfolding whoseAnswer

@@ -6,7 +6,7 @@ use Prim.Native.Nat.{ℕ}
 use lib.Dec.{eqb, ltb}
 use lib.ListN.{length, drop}
 use Rattle.refusals.specs.Refusals.{Rule, rule, firstOf}
-use Rattle.codeword.specs.Build.{badBits}
+use Rattle.codeword.specs.Build.{outputRule, bitsRule}
 use Rattle.control_messages.specs.declared.Owner.{Owner}
 use Rattle.control_messages.specs.declared.Owner.the-variants.{Terminal, Refused}
 use Rattle.control_messages.specs.Message.{message}
@@ -23,10 +23,19 @@ badRun n = ltb n 17 || ltb 80 n
 unfoldable pub badLength : ℕ → Bool
 badLength E = eqb E 0 || ltb 4096 E
 
+-- the rules by their names; those of an output that is too short and of given bits are Build's
+abbrev pub payloadRule : ℕ → Rule
+payloadRule n = rule (badPayload n) 20
+
+abbrev pub runRule : ℕ → Rule
+runRule n = rule (badRun n) 20
+
+abbrev pub messageRule : ℕ → Rule
+messageRule E = rule (badLength E) 3
+
 -- the refusals of building; size is the length of the output
 unfoldable pub controlRules : List ℕ → ℕ → ℕ → List Rule
-controlRules a E size =
-    rule (badPayload (length a)) 20 ∷ rule (badLength E) 3 ∷ rule (ltb size E) 5 ∷ rule (badBits a) 2 ∷ []
+controlRules a E size = payloadRule (length a) ∷ messageRule E ∷ outputRule E size ∷ bitsRule a ∷ []
 
 unfoldable pub controlNumber : List ℕ → ℕ → ℕ → ℕ
 controlNumber a E size = firstOf (controlRules a E size)
@@ -37,7 +46,7 @@ controlOutput a t E out = cond (eqb (controlNumber a E (length out)) 0) (message
 
 -- the refusals of the way back
 unfoldable pub whoseRules : List ℕ → List Rule
-whoseRules run = rule (badRun (length run)) 20 ∷ rule (badBits run) 2 ∷ []
+whoseRules run = runRule (length run) ∷ bitsRule run ∷ []
 
 unfoldable pub whoseNumber : List ℕ → ℕ
 whoseNumber run = firstOf (whoseRules run)

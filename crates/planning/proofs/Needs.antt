@@ -12,7 +12,7 @@ use Rattle.segmentation.proofs.Segmentation.{in-range, blocks-least, blocks-mos
 use Rattle.segmentation.proofs.CodeBlocks.{filler-within}
 use Rattle.rate_matching.specs.SubBlocks.{rows}
 use Rattle.codeword.specs.Shares.{symbols}
-use Rattle.codeword.specs.Build.{badModulation, badLayers, badAllocation}
+use Rattle.codeword.specs.Build.{badModulation, badLayers, badSymbol, badLength, badAllocation}
 use Rattle.codeword.proofs.Accepted.{modulation, layers, step}
 use Rattle.planning.specs.Needs.{quarter, whole, needOfThree, needOfOne}
 use Rattle.planning.specs.Least.{roundedUp, symbolsFor, largest, leastSymbols, leastBits}
@@ -97,7 +97,7 @@ module _ (need : ℕ → ℕ) (modest : (r : ℕ) → Modest (need r)) (C step :
 module _ (need : ℕ → ℕ) (modest : (r : ℕ) → Modest (need r)) (C Q N : ℕ) (few : (1 ≤ C) × (C ≤ 5)) (q : badModulation Q ≡ false) (n : badLayers N ≡ false) where
   -- so Build takes it
   least-accepted : badAllocation C Q N (leastBits need C Q N) ≡ false
-  unfolding badAllocation leastBits symbols
+  unfolding badAllocation badSymbol badLength leastBits symbols
   least-accepted =
       let fits = step Q N (modulation Q q) (layers N n) in
       let m : ℕ = leastSymbols need C (N * Q) in

@@ -5,46 +5,36 @@ use mathlib.Core.Bool.{Bool, true, false}
 use Prim.Native.Nat.{ℕ, _+_, _*_, _≤_}
 use borrow.Author.Tests.{eq-eqb, ne-eqb}
 use Rattle.refusals.specs.Refusals.{firstOf}
-use Rattle.refusals.proofs.Refusals.{cleared}
+use Rattle.refusals.proofs.Refusals.{passed, listed}
 use Rattle.segmentation.specs.Segmentation.{blocks}
 use Rattle.segmentation.specs.Sizes.{badSize}
-use Rattle.codeword.specs.Build.{badModulation, badLayers}
-use Rattle.codeword.proofs.Accepted.{or-false, modulation, layers, step}
+use Rattle.codeword.specs.Build.{badSymbol, sizeRule, symbolRule}
+use Rattle.codeword.proofs.Accepted.{symbol-step}
 use Rattle.planning.specs.declared.WorstAnswer.the-variants.{Given, Refused}
 use Rattle.planning.specs.Least.{leastSymbols, leastBits}
-use Rattle.planning.specs.Worst.{leastOfThree, leastOfOne, worstNumber, worstAnswer, needIn, Planned}
+use Rattle.planning.specs.Worst.{leastOfThree, leastOfOne, worstRules, worstNumber, worstAnswer, needIn, Planned}
 use Rattle.planning.proofs.Needs.{need-modest, few-blocks, least-small}
 
 module _ (A Q N : ℕ) where
   pub bad-size-is : badSize A ≡ true → 1 ≡ worstNumber A Q N
-  unfolding worstNumber firstOf
+  unfolding worstNumber worstRules firstOf
   bad-size-is e = simp e
 
-  pub bad-modulation-is : badSize A ≡ false → badModulation Q ≡ true → 3 ≡ worstNumber A Q N
-  unfolding worstNumber firstOf
-  bad-modulation-is size e = simp (size, e)
+  pub bad-symbol-is : badSize A ≡ false → badSymbol Q N ≡ true → 3 ≡ worstNumber A Q N
+  unfolding worstNumber worstRules firstOf
+  bad-symbol-is size e = simp (size, e)
 
-  pub bad-layers-is : badSize A ≡ false → badModulation Q ≡ false → badLayers N ≡ true → 3 ≡ worstNumber A Q N
-  unfolding worstNumber firstOf
-  bad-layers-is size q e = simp (size, q, e)
-
-  pub accepted-is : badSize A ≡ false → badModulation Q ≡ false → badLayers N ≡ false → 0 ≡ worstNumber A Q N
-  unfolding worstNumber firstOf
-  accepted-is size q n = simp (size, q, n)
+  pub accepted-is : badSize A ≡ false → badSymbol Q N ≡ false → 0 ≡ worstNumber A Q N
+  unfolding worstNumber worstRules firstOf
+  accepted-is size e = simp (size, e)
 
   -- what number 0 tells
-  pub fits : worstNumber A Q N ≡ 0 → (badSize A ≡ false) × (badModulation Q ≡ false) × (badLayers N ≡ false)
-  unfolding worstNumber
-  fits e =
-      let clear = cleared _ refl e tt in
-      let both = or-false (badModulation Q) (badLayers N) (clear 1) in
-      (clear 0, both .0, both .1)
-
   pub planned : worstNumber A Q N ≡ 0 → Planned A (N * Q)
+  unfolding worstNumber worstRules
   planned e =
-      let f = fits e in
-      let s = step Q N (modulation Q (f .1)) (layers N (f .2)) in
-      record { size = f .0; some = s .0; most = s .1 }
+      let clear = passed (worstRules A Q N) refl e tt in
+      let s = symbol-step Q N (clear (symbolRule Q N) (search listed)) in
+      record { size = clear (sizeRule A) (search listed); some = s .0; most = s .1 }
 
   pub refused-answer : {number : ℕ} → number ≡ worstNumber A Q N → (number ≡ 0 → ⊥) → Refused number ≡ worstAnswer A Q N
   unfolding worstAnswer

@@ -2,14 +2,14 @@
 -- Refusals: 1 for A, then 3 for Q or N.
 -- Assumes nothing.
 use mathlib.Core.Path.{_≡_}
-use mathlib.Core.Bool.{Bool, false, cond, _||_}
+use mathlib.Core.Bool.{Bool, false, cond}
 use mathlib.Core.List.{List, [], _∷_}
 use Prim.Native.Nat.{ℕ, _+_, _≤_, _<_}
 use lib.Dec.{eqb}
-use Rattle.refusals.specs.Refusals.{rule, firstOf}
+use Rattle.refusals.specs.Refusals.{Rule, firstOf}
 use Rattle.segmentation.specs.Segmentation.{blocks}
 use Rattle.segmentation.specs.Sizes.{badSize}
-use Rattle.codeword.specs.Build.{badModulation, badLayers}
+use Rattle.codeword.specs.Build.{sizeRule, symbolRule}
 use Rattle.planning.specs.declared.WorstAnswer.{WorstAnswer}
 use Rattle.planning.specs.declared.WorstAnswer.the-variants.{Given, Refused}
 use Rattle.planning.specs.Needs.{quarter, whole, needOfThree, needOfOne}
@@ -23,8 +23,12 @@ leastOfThree A Q N = leastBits (needOfThree A) (blocks (A + 24)) Q N
 unfoldable pub leastOfOne : ℕ → ℕ → ℕ → ℕ
 leastOfOne A Q N = leastBits (needOfOne A) (blocks (A + 24)) Q N
 
+-- its refusals in 01's order
+unfoldable pub worstRules : ℕ → ℕ → ℕ → List Rule
+worstRules A Q N = sizeRule A ∷ symbolRule Q N ∷ []
+
 unfoldable pub worstNumber : ℕ → ℕ → ℕ → ℕ
-worstNumber A Q N = firstOf (rule (badSize A) 1 ∷ rule (badModulation Q || badLayers N) 3 ∷ [])
+worstNumber A Q N = firstOf (worstRules A Q N)
 
 unfoldable pub worstAnswer : ℕ → ℕ → ℕ → WorstAnswer
 worstAnswer A Q N =

@@ -1,6 +1,5 @@
 // How many repeats at worst: the least G of three transmissions, versions 0, 1 and 3, and of one alone, that surely bring a block.
 ghost use mathlib.Core.Path.{_≡_};
-ghost use mathlib.Core.Bool.{_||_};
 ghost use Prim.Native.Nat.{_+_, _≤_, max};
 ghost use Rattle.segmentation.specs.Segmentation.{blocks};
 ghost use Rattle.planning.specs.Least.{leastSymbols};
@@ -39,10 +38,7 @@ fn worst_number(a: usize, q: usize, n: usize) -> u8
     if s.blocks == 0 {
         return 1;
     }
-    if codeword::bad_modulation(q) {
-        return 3;
-    }
-    if codeword::bad_layers(n) {
+    if codeword::bad_symbol(q, n) {
         return 3;
     }
     0

@@ -12,6 +12,7 @@ use lib.ListN.{length, take}
 use lib.Seq.{take-at, drop-at}
 use Rattle.laws.specs.Bits.{AreBits}
 use Rattle.laws.specs.Lists.{tab}
+use Rattle.codeword.specs.declared.Grant.{Grant}
 use Rattle.codeword.specs.Codeword.{codeword}
 use Rattle.report_code.specs.Code.{block, circular, repeated, controlBits}
 use Rattle.report_code.specs.Words.{numberOf, messageBits}
@@ -210,15 +211,15 @@ too-few O n some short few = two-tied O received (record {
 -- ---- a true run: what Build with a report gives
 
 -- its control bits are those of the report, and its data is the codeword
-module _ (o : List ℕ) (control : ℕ) (a : List ℕ) (Q N v G : ℕ) where
-  pub run-control : controlPart N control (multiplexed o control a Q N v G) ≡ controlBits o (N * control)
+module _ (o : List ℕ) (control : ℕ) (a : List ℕ) (g : Grant) where
+  pub run-control : controlPart (g .layers) control (multiplexed o control a g) ≡ controlBits o (g .layers * control)
   unfolding controlPart multiplexed
-  run-control = take-at (controlBits o (N * control)) (codeword a Q N v G) (N * control) (control-long o (N * control))
+  run-control = take-at (controlBits o (g .layers * control)) (codeword a g) (g .layers * control) (control-long o (g .layers * control))
 
-  pub run-data : pastControl N control (multiplexed o control a Q N v G) ≡ codeword a Q N v G
+  pub run-data : pastControl (g .layers) control (multiplexed o control a g) ≡ codeword a g
   unfolding pastControl multiplexed
-  run-data = drop-at (controlBits o (N * control)) (codeword a Q N v G) (N * control) (control-long o (N * control))
+  run-data = drop-at (controlBits o (g .layers * control)) (codeword a g) (g .layers * control) (control-long o (g .layers * control))
 
   -- from the fewest control bits on every report comes back from it
-  pub run-back : {O : ℕ} → Report O o → O ≤ 11 → fewest O ≤ N * control → Back O (controlPart N control (multiplexed o control a Q N v G)) o
-  run-back {O} r short enough = rw run-control (comes-back O (N * control) o r short enough)
+  pub run-back : {O : ℕ} → Report O o → O ≤ 11 → fewest O ≤ g .layers * control → Back O (controlPart (g .layers) control (multiplexed o control a g)) o
+  run-back {O} r short enough = rw run-control (comes-back O (g .layers * control) o r short enough)
