@@ -6,12 +6,12 @@ use mathlib.Core.List.{List}
 use Prim.Native.Nat.{ℕ, _+_, _*_, _≤_, _<_}
 use lib.ListN.{length}
 use borrow.Author.Tests.{ltb-false, not-false}
-use Rattle.refusals.proofs.Refusals.{cleared}
+use Rattle.refusals.proofs.Refusals.{passed, listed}
 use Rattle.segmentation.specs.Segmentation.{blocks, sizeOf}
-use Rattle.codeword.specs.Build.{badAllocation, badVersion, badBits}
+use Rattle.codeword.specs.Build.{badAllocation, badVersion, badBits, versionRule, outputRule, bitsRule}
 use Rattle.slots.specs.declared.State.{State}
 use Rattle.slots.specs.State.{storeLength, headAt, badState}
-use Rattle.slots.specs.Calls.{storeRules, ownerRules, sizeAtHead, receiveNumber, readNumber, streamsNumber}
+use Rattle.slots.specs.Calls.{stateRule, storeRule, slotRule, closedRule, allocationRule, codeBlockRule, storeRules, ownerRules, sizeAtHead, receiveNumber, readNumber, streamsNumber}
 use Rattle.slots.proofs.Accepted.{present-slot}
 
 -- an accepted reception
@@ -28,15 +28,15 @@ pub receives : (state : State) (room slot terminal Q N v : ℕ) (bits : List ℕ
     → receiveNumber state room slot terminal Q N v bits ≡ 0 → Receives state room slot terminal Q N v bits
 unfolding receiveNumber storeRules ownerRules
 receives state room slot terminal Q N v bits e =
-    let clear = cleared _ refl e tt in
+    let clear = passed _ refl e tt in
     record {
-      sound = clear 0;
-      long = ltb-false room (storeLength state) (clear 1);
-      below = present-slot (state .slots) slot (clear 2);
-      opened = not-false (headAt state slot .opened) (clear 3);
-      allocation = clear 5;
-      version = clear 6;
-      given = clear 7;
+      sound = clear (stateRule state) (search listed);
+      long = ltb-false room (storeLength state) (clear (storeRule state room) (search listed));
+      below = present-slot (state .slots) slot (clear (slotRule state slot) (search listed));
+      opened = not-false (headAt state slot .opened) (clear (closedRule state slot) (search listed));
+      allocation = clear (allocationRule (blocks (sizeAtHead state slot + 24)) Q N (length bits)) (search listed);
+      version = clear (versionRule v) (search listed);
+      given = clear (bitsRule bits) (search listed);
     }
 
 -- a reading that comes to the room
@@ -50,13 +50,13 @@ pub record Reads (state : State) (room slot terminal size : ℕ) : Type 0 where
 pub reads : (state : State) (room slot terminal size : ℕ) → readNumber state room slot terminal size ≡ 0 → Reads state room slot terminal size
 unfolding readNumber storeRules ownerRules
 reads state room slot terminal size e =
-    let clear = cleared _ refl e tt in
+    let clear = passed _ refl e tt in
     record {
-      sound = clear 0;
-      long = ltb-false room (storeLength state) (clear 1);
-      below = present-slot (state .slots) slot (clear 2);
-      opened = not-false (headAt state slot .opened) (clear 3);
-      enough = ltb-false size (sizeAtHead state slot) (clear 5);
+      sound = clear (stateRule state) (search listed);
+      long = ltb-false room (storeLength state) (clear (storeRule state room) (search listed));
+      below = present-slot (state .slots) slot (clear (slotRule state slot) (search listed));
+      opened = not-false (headAt state slot .opened) (clear (closedRule state slot) (search listed));
+      enough = ltb-false size (sizeAtHead state slot) (clear (outputRule (sizeAtHead state slot) size) (search listed));
     }
 
 -- accepted streams
@@ -72,12 +72,12 @@ pub streams : (state : State) (room slot terminal r size : ℕ) → streamsNumbe
     → Streams state room slot terminal r size
 unfolding streamsNumber storeRules ownerRules
 streams state room slot terminal r size e =
-    let clear = cleared _ refl e tt in
+    let clear = passed _ refl e tt in
     record {
-      sound = clear 0;
-      long = ltb-false room (storeLength state) (clear 1);
-      below = present-slot (state .slots) slot (clear 2);
-      opened = not-false (headAt state slot .opened) (clear 3);
-      block = present-slot (blocks (sizeAtHead state slot + 24)) r (clear 5);
-      enough = ltb-false size (3 * (sizeOf (sizeAtHead state slot + 24) r + 4)) (clear 6);
+      sound = clear (stateRule state) (search listed);
+      long = ltb-false room (storeLength state) (clear (storeRule state room) (search listed));
+      below = present-slot (state .slots) slot (clear (slotRule state slot) (search listed));
+      opened = not-false (headAt state slot .opened) (clear (closedRule state slot) (search listed));
+      block = present-slot (blocks (sizeAtHead state slot + 24)) r (clear (codeBlockRule (sizeAtHead state slot + 24) r) (search listed));
+      enough = ltb-false size (3 * (sizeOf (sizeAtHead state slot + 24) r + 4)) (clear (outputRule (3 * (sizeOf (sizeAtHead state slot + 24) r + 4)) size) (search listed));
     }

@@ -11,14 +11,15 @@ use native.Mathlib.Omega.{arith}
 use borrow.Author.Tests.{ltb-true, ltb-false, eqb-true, not-false}
 use lib.Dec.{T, eqb, ltb}
 use Rattle.refusals.specs.Refusals.{Rule, rule, firstOf}
-use Rattle.refusals.proofs.Refusals.{numbered, firstOf-append, cleared}
+use Rattle.refusals.proofs.Refusals.{numbered, firstOf-append, passed, listed}
 use Rattle.slots.specs.declared.Head.{Head}
 use Rattle.slots.specs.declared.State.{State}
 use Rattle.segmentation.specs.Segmentation.{blocks}
 use Rattle.segmentation.specs.Sizes.{badSize}
-use Rattle.codeword.specs.Downlink.{tooShort, badBuffer, shareFor}
+use Rattle.codeword.specs.Build.{sizeRule}
+use Rattle.codeword.specs.Downlink.{tooShort, badBuffer, shareFor, bufferRule}
 use Rattle.slots.specs.State.{roomLength, roomStart, storeLength, headAt, tooMany, broken, badShape, badState}
-use Rattle.slots.specs.Calls.{storeRules, ownerRules, openRules, openNumber, openDownNumber, closeNumber, sizeAtHead, shareAtHead}
+use Rattle.slots.specs.Calls.{stateRule, storeRule, slotRule, takenRule, blocksRule, closedRule, terminalRule, storeRules, ownerRules, openRules, openNumber, openDownNumber, closeNumber, sizeAtHead, shareAtHead}
 use Rattle.slots.proofs.Tests.{or-left, or-right, inside}
 use Rattle.slots.proofs.Buffers.{Wide, short-wide, buffer-found}
 use Rattle.slots.proofs.Heads.{unbroken}
@@ -108,10 +109,10 @@ present-slot S slot e = ltb-true slot S (not-false (ltb slot S) e)
 pub stored : (state : State) (room slot : ℕ) (rest : List Rule) {n : ℕ} → n ≡ firstOf (storeRules state room slot ++ rest) → n ≡ 0 → T (numbered rest) → Stored state room slot
 unfolding storeRules
 stored state room slot rest e z t =
-    let clear = cleared (storeRules state room slot ++ rest) e z t in
-    let below = present-slot (state .slots) slot (clear 2) in
-    let long = ltb-false room (storeLength state) (clear 1) in
-    record { state-good = good state (clear 0); present = below; enough = long; within = omega (arith, room-within state below) }
+    let clear = passed (storeRules state room slot ++ rest) e z t in
+    let below = present-slot (state .slots) slot (clear (slotRule state slot) (search listed)) in
+    let long = ltb-false room (storeLength state) (clear (storeRule state room) (search listed)) in
+    record { state-good = good state (clear (stateRule state) (search listed)); present = below; enough = long; within = omega (arith, room-within state below) }
 
 -- ---- 13, 5, 6, 7, 1, 10
 
@@ -125,14 +126,18 @@ pub record Openable (state : State) (room slot A : ℕ) : Type 0 where
 pub openable : (state : State) (room slot A : ℕ) {n : ℕ} → n ≡ openNumber state room slot A → n ≡ 0 → Openable state room slot A
 unfolding openNumber openRules storeRules
 openable state room slot A e z =
-    let rest = rule (headAt state slot .opened) 7 ∷ rule (badSize A) 1 ∷ rule (tooMany (state .blocks) A) 10 ∷ [] in
-    let clear = cleared (storeRules state room slot ++ rest) e z tt in
-    record { slot-stored = stored state room slot rest e z tt; closed = clear 3; size-fits = fitting (clear 4) (clear 5) }
+    let rest = takenRule state slot ∷ sizeRule A ∷ blocksRule state A ∷ [] in
+    let clear = passed (storeRules state room slot ++ rest) e z tt in
+    record {
+      slot-stored = stored state room slot rest e z tt;
+      closed = clear (takenRule state slot) (search listed);
+      size-fits = fitting (clear (sizeRule A) (search listed)) (clear (blocksRule state A) (search listed));
+    }
 
 -- A is in range
 pub open-admitted : (state : State) (room slot A : ℕ) {n : ℕ} → n ≡ openNumber state room slot A → n ≡ 0 → badSize A ≡ false
 unfolding openNumber openRules storeRules
-open-admitted state room slot A e z = cleared (openRules state room slot A) e z tt 4
+open-admitted state room slot A e z = passed (openRules state room slot A) e z tt (sizeRule A) (search listed)
 
 -- ---- 21 after these
 
@@ -169,7 +174,8 @@ module _ (state : State) (room slot A release kMIMO processes Nsoft layers : ℕ
   -- nor 21
   pub down-buffer : openDownNumber state room slot A release kMIMO processes Nsoft layers ≡ 0 → badBuffer (A + 24) release kMIMO processes Nsoft layers ≡ false
   unfolding openDownNumber openRules storeRules
-  down-buffer e = cleared (openRules state room slot A ++ (rule (badBuffer (A + 24) release kMIMO processes Nsoft layers) 21 ∷ [])) refl e tt 6
+  down-buffer e =
+      let last = bufferRule (A + 24) release kMIMO processes Nsoft layers in passed (openRules state room slot A ++ (last ∷ [])) refl e tt last (search listed)
 
 -- ---- 8, 9
 
@@ -201,8 +207,9 @@ pub owned : (state : State) (room slot terminal : ℕ) (rest : List Rule) {n : �
     → T (numbered rest) → Owned state slot terminal
 unfolding storeRules ownerRules
 owned state room slot terminal rest e z t =
-    let clear = cleared (storeRules state room slot ++ (ownerRules state slot terminal ++ rest)) e z t in
-    own state slot terminal (clear 0) (clear 2) (clear 3) (clear 4)
+    let clear = passed (storeRules state room slot ++ (ownerRules state slot terminal ++ rest)) e z t in
+    own state slot terminal (clear (stateRule state) (search listed)) (clear (slotRule state slot) (search listed))
+    (clear (closedRule state slot) (search listed)) (clear (terminalRule state slot terminal) (search listed))
 
 -- number 0 of `owner_number`
 pub served : (state : State) (room slot terminal : ℕ) {n : ℕ} → n ≡ firstOf (storeRules state room slot ++ ownerRules state slot terminal) → n ≡ 0
@@ -215,5 +222,6 @@ served state room slot terminal e z =
 pub closing : (state : State) (slot terminal : ℕ) {n : ℕ} → n ≡ closeNumber state slot terminal → n ≡ 0 → Owned state slot terminal
 unfolding closeNumber ownerRules
 closing state slot terminal e z =
-    let clear = cleared (rule (badState state) 13 ∷ rule (not (ltb slot (state .slots))) 6 ∷ ownerRules state slot terminal) e z tt in
-    own state slot terminal (clear 0) (clear 1) (clear 2) (clear 3)
+    let clear = passed (stateRule state ∷ slotRule state slot ∷ ownerRules state slot terminal) e z tt in
+    own state slot terminal (clear (stateRule state) (search listed)) (clear (slotRule state slot) (search listed))
+    (clear (closedRule state slot) (search listed)) (clear (terminalRule state slot terminal) (search listed))

@@ -22,7 +22,8 @@ use Rattle.rate_matching.proofs.Places.{place-on-circle}
 use Rattle.rate_matching.proofs.ShapeTurn as ShapeTurn
 use Rattle.codeword.specs.Build.{badVersion}
 use Rattle.codeword.specs.Codeword.{blockRows, blockCut}
-use Rattle.codeword.specs.Shares.{share}
+use Rattle.codeword.specs.declared.Grant.{Grant}
+use Rattle.codeword.specs.Shares.{granted}
 use Rattle.codeword.proofs.Sent.{cut-told}
 use Rattle.slots.specs.State.{perBlock}
 use Rattle.slots.specs.Reception.{blockPlaces}
@@ -60,17 +61,17 @@ module _ (A : ℕ) (admitted : badSize A ≡ false) where
     block-cut r = cut-told (rows (sizeOf (A + 24) r + 4)) (rows-pos r) (wide r)
 
     -- the places that a code block sends
-    pub sent-below : (Q N v G r : ℕ) → badVersion v ≡ false → Places (blockPlaces soft (A + 24) Q N v G r)
+    pub sent-below : (g : Grant) (r : ℕ) → badVersion (g .version) ≡ false → Places (blockPlaces soft (A + 24) g r)
     unfolding blockPlaces sentPlaces blockRows badVersion
-    sent-below Q N v G r low i l =
+    sent-below g r low i l =
         rw (getD-tab E places i 0 (rw (length-tab E places) at l))
-        (omega (arith, sent-before (streams-least r) (filler-fewer r) (block-cut r) (ltb-false 3 v low) i, block-cut r .most, circle-most r))
+        (omega (arith, sent-before (streams-least r) (filler-fewer r) (block-cut r) (ltb-false 3 (g .version) low) i, block-cut r .most, circle-most r))
       where
         E : ℕ
-        E = share (blocks (A + 24)) Q N G r
+        E = granted (blocks (A + 24)) g r
 
         places : ℕ → ℕ
-        places = turnAfterTurn (turn (take (blockCut soft (A + 24) r) (shape (sizeOf (A + 24) r + 4) (fillerOf (A + 24) r))) (startIn (blockCut soft (A + 24) r) (rows (sizeOf (A + 24) r + 4)) v))
+        places = turnAfterTurn (turn (take (blockCut soft (A + 24) r) (shape (sizeOf (A + 24) r + 4) (fillerOf (A + 24) r))) (startIn (blockCut soft (A + 24) r) (rows (sizeOf (A + 24) r + 4)) (g .version)))
 
   -- the place of a stream's place
   pub place-below : (r s i : ℕ) → s < 3 → i < sizeOf (A + 24) r + 4 → placeNumber (sizeOf (A + 24) r + 4) s i < perBlock

@@ -12,6 +12,7 @@ use lib.Seq.{drop-at, length-take-le, getD-append-add, getD-take, getD-drop}
 use borrow.Rule.Slice.PartMut.{putMid}
 use Rattle.laws.proofs.Parts.{put-is, length-put as length-putMid, getD-put-before, getD-put-in, getD-put-after}
 use Rattle.segmentation.specs.Segmentation.{blocks}
+use Rattle.codeword.specs.declared.Grant.{Grant}
 use Rattle.slots.specs.State.{perBlock, roomLength, roomStart}
 use Rattle.slots.specs.Putting.{Keeping, arriving, metBy}
 use Rattle.slots.specs.Room.{unheard, agreeing, roomAt, circleAt, withRoom, withCircle, cleared}
@@ -113,8 +114,8 @@ abbrev pub Places : List ℕ → Type 0
 Places js = (i : ℕ) → i < length js → getD js i 0 < perBlock
 
 -- all that a transmission sends are places of code blocks
-abbrev pub AllPlaces : ℕ → ℕ → ℕ → ℕ → ℕ → ℕ → Type 0
-AllPlaces soft B Q N v G = (q : ℕ) → Places (blockPlaces soft B Q N v G q)
+abbrev pub AllPlaces : ℕ → ℕ → Grant → Type 0
+AllPlaces soft B g = (q : ℕ) → Places (blockPlaces soft B g q)
 
 module _ {X : Type 0} (r : ℕ) (circle room : List X) where
   pub length-with : length circle ≡ length (circleAt r room) → length (withCircle r circle room) ≡ length room
@@ -141,28 +142,28 @@ module _ {X : Type 0} (r : ℕ) (circle room : List X) where
     with-from j none = rw front at (getD-append-add (take (r * perBlock) room) circle j none)
 
 -- a transmission of a block of which all code blocks have their places in the room
-module _ {X Y : Type 0} (how : Keeping X Y) (soft B Q N v : ℕ) (values : List Y) where
+module _ {X Y : Type 0} (how : Keeping X Y) (soft B : ℕ) (g : Grant) (values : List Y) where
   -- the room after the values of code block r
   abbrev afterBlock : ℕ → List X → List X
-  afterBlock r room = withCircle r (putOn how soft B Q N v values r (circleAt r room)) room
+  afterBlock r room = withCircle r (putOn how soft B g values r (circleAt r room)) room
 
-  pub length-putOn : (r : ℕ) (circle : List X) → length (putOn how soft B Q N v values r circle) ≡ length circle
+  pub length-putOn : (r : ℕ) (circle : List X) → length (putOn how soft B g values r circle) ≡ length circle
   unfolding putOn
   length-putOn r circle = length-put how _ _ circle
 
   length-after : (r : ℕ) (room : List X) → length (afterBlock r room) ≡ length room
   length-after r room = length-with r _ room (length-putOn r (circleAt r room))
 
-  pub length-putBlocks : (r n : ℕ) (room : List X) → length (putBlocks how soft B Q N v values r n room) ≡ length room
+  pub length-putBlocks : (r n : ℕ) (room : List X) → length (putBlocks how soft B g values r n room) ≡ length room
   unfolding putBlocks
   length-putBlocks r zero room = refl
   length-putBlocks r (suc n) room = length-putBlocks (suc r) n (afterBlock r room) ∙ length-after r room
 
   -- what a reception brings for place j of code block q
   abbrev pub brought : ℕ → ℕ → List Y
-  brought q j = arriving how (blockPlaces soft B Q N v (length values) q) (blockValues B Q N values q) j
+  brought q j = arriving how (blockPlaces soft B g q) (blockValues B g values q) j
 
-  module _ (places : AllPlaces soft B Q N v (length values)) where
+  module _ (places : AllPlaces soft B g) where
     -- an entry that is no place of code block r stays
     after-out : (r : ℕ) (room : List X) → r * perBlock ≤ length room → (at : ℕ) → ((j : ℕ) → j < perBlock → at ≡ r * perBlock + j → ⊥)
         → getD (afterBlock r room) at (how .none) ≡ getD room at (how .none)
@@ -174,14 +175,14 @@ module _ {X Y : Type 0} (how : Keeping X Y) (soft B Q N v : ℕ) (values : List 
           let is : at ≡ r * perBlock + j = omega arith in
           rw is
           (with-from r _ room fits j (how .none)
-          ∙ put-apart how (blockPlaces soft B Q N v (length values) r) (blockValues B Q N values r) (circleAt r room) j (λ i m e. h j (subst (λ (p : ℕ). p < perBlock) e (places r i m)) is)
+          ∙ put-apart how (blockPlaces soft B g r) (blockValues B g values r) (circleAt r room) j (λ i m e. h j (subst (λ (p : ℕ). p < perBlock) e (places r i m)) is)
           ∙ circle-entry r room j (how .none))
     ]
 
     -- and so does one that is no place of these code blocks
     pub putBlocks-out : (r n : ℕ) (room : List X) → (r + n) * perBlock ≤ length room → (at : ℕ)
         → ((q j : ℕ) → r ≤ q → q < r + n → j < perBlock → at ≡ q * perBlock + j → ⊥)
-        → getD (putBlocks how soft B Q N v values r n room) at (how .none) ≡ getD room at (how .none)
+        → getD (putBlocks how soft B g values r n room) at (how .none) ≡ getD room at (how .none)
     unfolding putBlocks
     putBlocks-out r zero room fits at h = refl
     putBlocks-out r (suc n) room fits at h =
@@ -199,7 +200,7 @@ module _ {X Y : Type 0} (how : Keeping X Y) (soft B Q N v : ℕ) (values : List 
           ∙ ap (λ (x : X). metBy how x (brought q j)) (circle-entry q room j (how .none))
 
       pub putBlocks-here : (r n : ℕ) (room : List X) → (r + n) * perBlock ≤ length room → r ≤ q → q < r + n
-          → getD (putBlocks how soft B Q N v values r n room) (q * perBlock + j) (how .none)
+          → getD (putBlocks how soft B g values r n room) (q * perBlock + j) (how .none)
           ≡ metBy how (getD room (q * perBlock + j) (how .none)) (brought q j)
       unfolding putBlocks
       putBlocks-here r zero room fits h g = absurd (omega arith)
@@ -214,26 +215,26 @@ module _ {X Y : Type 0} (how : Keeping X Y) (soft B Q N v : ℕ) (values : List 
       ]
 
 -- a reception for a block of A bits, of which all code blocks have their places in the room
-module _ {X Y : Type 0} (how : Keeping X Y) (soft A Q N v : ℕ) (values : List Y) (room : List X) where
-  pub length-received : length (received how soft A Q N v values room) ≡ length room
+module _ {X Y : Type 0} (how : Keeping X Y) (soft A : ℕ) (g : Grant) (values : List Y) (room : List X) where
+  pub length-received : length (received how soft A g values room) ≡ length room
   unfolding received
-  length-received = length-putBlocks how soft (A + 24) Q N v values 0 (blocks (A + 24)) room
+  length-received = length-putBlocks how soft (A + 24) g values 0 (blocks (A + 24)) room
 
-  module _ (fits : blocks (A + 24) * perBlock ≤ length room) (places : AllPlaces soft (A + 24) Q N v (length values)) where
+  module _ (fits : blocks (A + 24) * perBlock ≤ length room) (places : AllPlaces soft (A + 24) g) where
     -- a place of a code block: what it kept, met by what the reception brought for it
     pub received-here : (r j : ℕ) → r < blocks (A + 24) → j < perBlock
-        → getD (circleAt r (received how soft A Q N v values room)) j (how .none)
-        ≡ metBy how (getD (circleAt r room) j (how .none)) (brought how soft (A + 24) Q N v values r j)
+        → getD (circleAt r (received how soft A g values room)) j (how .none)
+        ≡ metBy how (getD (circleAt r room) j (how .none)) (brought how soft (A + 24) g values r j)
     unfolding received
     received-here r j h l =
         circle-entry r _ j (how .none)
-        ∙ putBlocks-here how soft (A + 24) Q N v values places r j l 0 (blocks (A + 24)) room (rw (zero-add (blocks (A + 24))) fits) (omega arith) (omega arith)
-        ∙ ap (λ (x : X). metBy how x (brought how soft (A + 24) Q N v values r j)) (sym (circle-entry r room j (how .none)))
+        ∙ putBlocks-here how soft (A + 24) g values places r j l 0 (blocks (A + 24)) room (rw (zero-add (blocks (A + 24))) fits) (omega arith) (omega arith)
+        ∙ ap (λ (x : X). metBy how x (brought how soft (A + 24) g values r j)) (sym (circle-entry r room j (how .none)))
 
     -- what lies past the code blocks stays
-    pub received-past : (at : ℕ) → blocks (A + 24) * perBlock ≤ at → getD (received how soft A Q N v values room) at (how .none) ≡ getD room at (how .none)
+    pub received-past : (at : ℕ) → blocks (A + 24) * perBlock ≤ at → getD (received how soft A g values room) at (how .none) ≡ getD room at (how .none)
     unfolding received
-    received-past at h = putBlocks-out how soft (A + 24) Q N v values places 0 (blocks (A + 24)) room (rw (zero-add (blocks (A + 24))) fits) at
+    received-past at h = putBlocks-out how soft (A + 24) g values places 0 (blocks (A + 24)) room (rw (zero-add (blocks (A + 24))) fits) at
         (λ q j u g m e. omega (arith, digits-lt {c = perBlock} g m))
 
 -- ---- what a reception writes in a store: another room for the slot
@@ -262,20 +263,20 @@ module _ (M slot : ℕ) (room store : List ℕ) where
     withRoom-before at l = List·getD-append (take (roomStart M slot) store) room 0 at (rw front-long l) ∙ getD-take (roomStart M slot) store at 0 l
 
 -- a reception for a block of A bits in a store that has the slot's room
-module _ (soft M slot A Q N v : ℕ) (bits store : List ℕ) (fits : roomStart M slot + roomLength M ≤ length store) (few : blocks (A + 24) ≤ M)
-    (places : AllPlaces soft (A + 24) Q N v (length bits))
+module _ (soft M slot A : ℕ) (g : Grant) (bits store : List ℕ) (fits : roomStart M slot + roomLength M ≤ length store) (few : blocks (A + 24) ≤ M)
+    (places : AllPlaces soft (A + 24) g)
   where
     abbrev after : List ℕ
-    after = withRoom M slot (received agreeing soft A Q N v bits (roomAt M slot store)) store
+    after = withRoom M slot (received agreeing soft A g bits (roomAt M slot store)) store
 
     pub blocks-fit : blocks (A + 24) * perBlock ≤ length (roomAt M slot store)
     unfolding roomAt roomLength
     blocks-fit = rw (length-drop (roomStart M slot) store) (omega (arith, mul-le-mul-right perBlock few))
 
     pub length-stored : length after ≡ length store
-    length-stored = length-withRoom M slot _ store (length-received agreeing soft A Q N v bits (roomAt M slot store))
+    length-stored = length-withRoom M slot _ store (length-received agreeing soft A g bits (roomAt M slot store))
 
-    pub room-stored : roomAt M slot after ≡ received agreeing soft A Q N v bits (roomAt M slot store)
+    pub room-stored : roomAt M slot after ≡ received agreeing soft A g bits (roomAt M slot store)
     room-stored = room-with M slot _ store (omega arith)
 
     -- no byte of another room is written, and none past the rooms
@@ -285,13 +286,13 @@ module _ (soft M slot A Q N v : ℕ) (bits store : List ℕ) (fits : roomStart M
       | yes l ↦ withRoom-before M slot _ store (omega arith) at l
       | no l ↦ elim (decLt at (roomStart M slot + roomLength M)) [
         | yes g ↦ absurd (h (omega arith, g))
-        | no g ↦
+        | no past ↦
             let k : ℕ = at - roomStart M slot in
             let is : at ≡ roomStart M slot + k = omega arith in
             ap (λ (n : ℕ). getD after n 0) is
             ∙ sym (room-byte M slot after k)
             ∙ ap (λ (l : List ℕ). getD l k 0) room-stored
-            ∙ received-past agreeing soft A Q N v bits (roomAt M slot store) blocks-fit places k (omega (arith, mul-le-mul-right perBlock few))
+            ∙ received-past agreeing soft A g bits (roomAt M slot store) blocks-fit places k (omega (arith, mul-le-mul-right perBlock few))
             ∙ room-byte M slot store k
             ∙ ap (λ (n : ℕ). getD store n 0) (sym is)
       ]

@@ -7,10 +7,10 @@ use lib.Dec.{eqb, ltb}
 use lib.ListN.{length, drop, set}
 use Rattle.refusals.specs.Refusals.{Rule, rule, firstOf}
 use Rattle.segmentation.specs.Segmentation.{blocks, sizeOf}
-use Rattle.segmentation.specs.Sizes.{badSize}
 use Rattle.rate_matching.specs.SoftBuffer.{softShare, wholeShare}
-use Rattle.codeword.specs.Build.{badAllocation, badVersion, badBits}
-use Rattle.codeword.specs.Downlink.{badBuffer}
+use Rattle.codeword.specs.Shares.{grant}
+use Rattle.codeword.specs.Build.{badAllocation, sizeRule, versionRule, outputRule, bitsRule}
+use Rattle.codeword.specs.Downlink.{bufferRule}
 use Rattle.slots.specs.declared.Head.{Head}
 use Rattle.slots.specs.declared.State.{State}
 use Rattle.slots.specs.declared.Answer.the-variants.{Done, StillLacking}
@@ -25,15 +25,53 @@ use Rattle.slots.specs.Answers.{isDone, unlessRefused}
 unfoldable pub withHead : State → ℕ → Head → State
 withHead state slot h = record { slots = state .slots; blocks = state .blocks; heads = set (state .heads) slot h }
 
+-- ---- the rules by their names, for whatever list they stand in
+
+-- the state is broken
+abbrev pub stateRule : State → Rule
+stateRule state = rule (badState state) 13
+
+-- a store of `lent` bytes is too short for the rooms
+abbrev pub storeRule : State → ℕ → Rule
+storeRule state lent = rule (ltb lent (storeLength state)) 5
+
+-- there is no such slot
+abbrev pub slotRule : State → ℕ → Rule
+slotRule state slot = rule (not (ltb slot (state .slots))) 6
+
+-- the slot is open already
+abbrev pub takenRule : State → ℕ → Rule
+takenRule state slot = rule (headAt state slot .opened) 7
+
+-- the block has more code blocks than the room
+abbrev pub blocksRule : State → ℕ → Rule
+blocksRule state A = rule (tooMany (state .blocks) A) 10
+
+-- the slot is closed
+abbrev pub closedRule : State → ℕ → Rule
+closedRule state slot = rule (not (headAt state slot .opened)) 8
+
+-- it is open for another terminal
+abbrev pub terminalRule : State → ℕ → ℕ → Rule
+terminalRule state slot terminal = rule (not (eqb (headAt state slot .terminal) terminal)) 9
+
+-- Q, N or the number of bits, for C code blocks
+abbrev pub allocationRule : ℕ → ℕ → ℕ → ℕ → Rule
+allocationRule C Q N G = rule (badAllocation C Q N G) 3
+
+-- a sequence of B bits has no code block r
+abbrev pub codeBlockRule : ℕ → ℕ → Rule
+codeBlockRule B r = rule (not (ltb r (blocks B))) 14
+
+-- ---- the calls
+
 -- 13, 5 (store), 6: what every call on a store asks first; lent is the length of the store
 unfoldable pub storeRules : State → ℕ → ℕ → List Rule
-storeRules state lent slot =
-    rule (badState state) 13 ∷ rule (ltb lent (storeLength state)) 5 ∷ rule (not (ltb slot (state .slots))) 6 ∷ []
+storeRules state lent slot = stateRule state ∷ storeRule state lent ∷ slotRule state slot ∷ []
 
 -- 8, 9: the slot is open for this terminal
 unfoldable pub ownerRules : State → ℕ → ℕ → List Rule
-ownerRules state slot terminal =
-    rule (not (headAt state slot .opened)) 8 ∷ rule (not (eqb (headAt state slot .terminal) terminal)) 9 ∷ []
+ownerRules state slot terminal = closedRule state slot ∷ terminalRule state slot terminal ∷ []
 
 -- New: 13 with a state of S = 0 and M = 0
 unfoldable pub newOutcome : ℕ → ℕ → Outcome
@@ -44,8 +82,7 @@ newOutcome S M =
 -- 13, 5, 6, 7, 1, 10: what is asked of every opening
 unfoldable pub openRules : State → ℕ → ℕ → ℕ → List Rule
 openRules state lent slot A =
-    storeRules state lent slot
-    ++ (rule (headAt state slot .opened) 7 ∷ rule (badSize A) 1 ∷ rule (tooMany (state .blocks) A) 10 ∷ [])
+    storeRules state lent slot ++ (takenRule state slot ∷ sizeRule A ∷ blocksRule state A ∷ [])
 
 -- the slot opened: its head holds the terminal, A and the share
 abbrev pub openedFor : State → ℕ → ℕ → ℕ → ℕ → Outcome
@@ -67,7 +104,7 @@ openStore state slot A store =
 -- Open for a downlink: 21 comes last; the head holds ⌊N_IR / C⌋ as it is, also where no circle is so long
 unfoldable pub openDownNumber : State → ℕ → ℕ → ℕ → ℕ → ℕ → ℕ → ℕ → ℕ → ℕ
 openDownNumber state lent slot A release kMIMO processes Nsoft layers =
-    firstOf (openRules state lent slot A ++ (rule (badBuffer (A + 24) release kMIMO processes Nsoft layers) 21 ∷ []))
+    firstOf (openRules state lent slot A ++ (bufferRule (A + 24) release kMIMO processes Nsoft layers ∷ []))
 
 unfoldable pub openDownOutcome : State → ℕ → ℕ → ℕ → ℕ → ℕ → ℕ → ℕ → ℕ → ℕ → Outcome
 openDownOutcome state lent slot terminal A release kMIMO processes Nsoft layers =
@@ -94,15 +131,12 @@ receiveNumber state lent slot terminal Q N v bits =
     firstOf
     (storeRules state lent slot
     ++ (ownerRules state slot terminal
-    ++ (rule (badAllocation (blocks (sizeAtHead state slot + 24)) Q N (length bits)) 3
-    ∷ rule (badVersion v) 4
-    ∷ rule (badBits bits) 2
-    ∷ [])))
+    ++ (allocationRule (blocks (sizeAtHead state slot + 24)) Q N (length bits) ∷ versionRule v ∷ bitsRule bits ∷ [])))
 
 unfoldable pub receiveStore : State → ℕ → ℕ → ℕ → ℕ → ℕ → List ℕ → List ℕ → List ℕ
 receiveStore state slot terminal Q N v bits store =
     cond (eqb (receiveNumber state (length store) slot terminal Q N v bits) 0)
-    (withRoom (state .blocks) slot (received agreeing (shareAtHead state slot) (sizeAtHead state slot) Q N v bits (roomAt (state .blocks) slot store)) store)
+    (withRoom (state .blocks) slot (received agreeing (shareAtHead state slot) (sizeAtHead state slot) (grant Q N v (length bits)) bits (roomAt (state .blocks) slot store)) store)
     store
 
 -- accepted: how many data places lack a bit after the reception
@@ -118,7 +152,7 @@ receiveOutcome state slot terminal Q N v bits store =
 unfoldable pub readNumber : State → ℕ → ℕ → ℕ → ℕ → ℕ
 readNumber state lent slot terminal size =
     firstOf
-    (storeRules state lent slot ++ (ownerRules state slot terminal ++ (rule (ltb size (sizeAtHead state slot)) 5 ∷ [])))
+    (storeRules state lent slot ++ (ownerRules state slot terminal ++ (outputRule (sizeAtHead state slot) size ∷ [])))
 
 unfoldable pub readOutcome : State → List ℕ → ℕ → ℕ → ℕ → Outcome
 readOutcome state store slot terminal size =
@@ -141,9 +175,7 @@ streamsNumber state lent slot terminal r size =
     firstOf
     (storeRules state lent slot
     ++ (ownerRules state slot terminal
-    ++ (rule (not (ltb r (blocks (sizeAtHead state slot + 24)))) 14
-    ∷ rule (ltb size (3 * (sizeOf (sizeAtHead state slot + 24) r + 4))) 5
-    ∷ [])))
+    ++ (codeBlockRule (sizeAtHead state slot + 24) r ∷ outputRule (3 * (sizeOf (sizeAtHead state slot + 24) r + 4)) size ∷ [])))
 
 unfoldable pub streamsOutcome : State → ℕ → ℕ → ℕ → ℕ → ℕ → Outcome
 streamsOutcome state lent slot terminal r size =
@@ -159,8 +191,7 @@ streamsOutput state store slot terminal r out =
 -- Close: 13, 6, 8, 9
 unfoldable pub closeNumber : State → ℕ → ℕ → ℕ
 closeNumber state slot terminal =
-    firstOf
-    (rule (badState state) 13 ∷ rule (not (ltb slot (state .slots))) 6 ∷ ownerRules state slot terminal)
+    firstOf (stateRule state ∷ slotRule state slot ∷ ownerRules state slot terminal)
 
 unfoldable pub closeOutcome : State → ℕ → ℕ → Outcome
 closeOutcome state slot terminal =
