@@ -10,7 +10,6 @@ use lib.Dec.{eqb, ltb}
 use lib.ListN.{length, drop}
 use borrow.Author.Tests.{ne-eqb, ltb-true, ltb-false, not-false}
 use borrow.Rule.Slice.PartMut.{midOf}
-use Rattle.laws.proofs.Parts.{length-mid}
 use Rattle.refusals.specs.Refusals.{Rule, rule, firstOf, orElse}
 use Rattle.refusals.proofs.Refusals.{Chain, done, next, chained-on, cleared}
 use Rattle.segmentation.specs.declared.Segments.{Segments}
@@ -22,15 +21,16 @@ use Rattle.slots.specs.declared.State.{State}
 use Rattle.slots.specs.declared.Answer.{Answer}
 use Rattle.slots.specs.declared.Answer.the-variants.{Done, Refused}
 use Rattle.slots.specs.State.{perBlock, roomLength, roomStart, headAt}
-use Rattle.slots.specs.Room.{byteOf}
+use Rattle.slots.specs.Room.{roomAt, circleAt}
+use Rattle.slots.specs.Circle.{streamsOn}
 use Rattle.slots.specs.Answers.{isDone, unlessRefused}
 use Rattle.slots.specs.Calls.{storeRules, ownerRules, sizeAtHead, readNumber, readOutcome, released, readOutput, streamsNumber, streamsOutcome, streamsOutput}
-use Rattle.slots.specs.Reading.{heardAnswer, heardBlock}
+use Rattle.slots.specs.Reading.{heardAnswer, heardBlock, threeStreams}
 use Rattle.slots.proofs.Accepted.{Fitting, Stored, stored, owned, served}
-use Rattle.reading.specs.Circle.{streamsOn, Stretch}
+use Rattle.reading.specs.Circle.{Stretch}
 use Rattle.reading.specs.Room.{roomFits, roomOutput}
 use Rattle.reading.proofs.Blocks.{streams, filler-below, stretch, blocks-told, size-told, filler-told}
-use Rattle.reading.proofs.Lent.{answer-lent, block-lent, room-fits, streams-lent}
+use Rattle.reading.proofs.Lent.{circle-in-store, answer-lent, block-lent, room-fits}
 
 fitting-good : {M A : ℕ} → Fitting M A → badSize A ≡ false
 fitting-good {M} {A} w = good-size A (w .size-some) (w .size-most)
@@ -95,11 +95,11 @@ module _ {state : State} {store : List ℕ} {slot terminal : ℕ} {out : List �
   good : badSize (sizeAtHead state slot) ≡ false
   good = fitting-good (size-fits)
 
-  answers : heardAnswer 1 0 (sizeAtHead state slot) room ≡ heardAnswer (state .blocks) slot (sizeAtHead state slot) store
+  answers : heardAnswer (sizeAtHead state slot) room ≡ heardAnswer (sizeAtHead state slot) (roomAt (state .blocks) slot store)
   unfolding roomStart roomLength
   answers = answer-lent (state .blocks) slot (sizeAtHead state slot) store good (size-fits .few) refl refl
 
-  block : heardBlock 1 0 (sizeAtHead state slot) room ≡ heardBlock (state .blocks) slot (sizeAtHead state slot) store
+  block : heardBlock (sizeAtHead state slot) room ≡ heardBlock (sizeAtHead state slot) (roomAt (state .blocks) slot store)
   unfolding roomStart roomLength
   block = block-lent (state .blocks) slot (sizeAtHead state slot) store good (size-fits .few) refl refl
 
@@ -107,11 +107,11 @@ module _ {state : State} {store : List ℕ} {slot terminal : ℕ} {out : List �
   unfolding sizeAtHead
   size-is = ap (λ (x : Head). x .size) (w .found)
 
-  outcome : readOutcome state store slot terminal (length out) ≡ record { answer = heardAnswer (state .blocks) slot (sizeAtHead state slot) store; state = state }
+  outcome : readOutcome state store slot terminal (length out) ≡ record { answer = heardAnswer (sizeAtHead state slot) (roomAt (state .blocks) slot store); state = state }
   unfolding readOutcome unlessRefused
   outcome = rw (← (w .number), w .zero)
 
-  pub answer-told : {answer : Answer} → answer ≡ heardAnswer 1 0 (head .size) room → record { answer = answer; state = state } ≡ readOutcome state store slot terminal (length out)
+  pub answer-told : {answer : Answer} → answer ≡ heardAnswer (head .size) room → record { answer = answer; state = state } ≡ readOutcome state store slot terminal (length out)
   answer-told a = ap (λ (x : Answer). record { answer = x; state = state }) (a ∙ rw (size-is, answers)) ∙ sym outcome
 
   pub output-told : {out′ : List ℕ} → out′ ≡ roomOutput (head .size) room out → out′ ≡ readOutput state store slot terminal out
@@ -202,13 +202,6 @@ module _ {state : State} {store : List ℕ} {slot terminal r : ℕ} {out : List 
   unfolding roomStart roomLength
   circle-within = omega (arith, store-is .within, mul-le-mul-right perBlock below, mul-le-mul-right perBlock (fits .few))
 
-  abbrev start : ℕ
-  start = (slot * state .blocks + r) * perBlock
-
-  starts : start ≡ byteOf (state .blocks) slot r 0
-  unfolding byteOf roomStart roomLength
-  starts = omega arith
-
   module _ {k : ℕ} (size : k ≡ cond (ltb r (s .shorts)) (s .short) (s .long)) where
     k-is : k ≡ sizeOf (A + 24) r
     k-is = size ∙ size-told A r told-is (fitting-good fits)
@@ -220,15 +213,15 @@ module _ {state : State} {store : List ℕ} {slot terminal r : ℕ} {out : List 
       f-is : f ≡ fillerOf (A + 24) r
       f-is = filled ∙ filler-told A r told-is (fitting-good fits)
 
-      pub three-needs : (f ≤ k + 4) × (3 * (k + 4) ≤ length out) × Stretch (length (midOf start (start + perBlock - start) store)) (k + 4) 2 0 (k + 4)
+      pub three-needs : (f ≤ k + 4) × (3 * (k + 4) ≤ length out) × Stretch perBlock (k + 4) 2 0 (k + 4)
       three-needs = rw (k-is, f-is) (
         omega (arith, filler-below A (fitting-good fits) r),
         ample,
-        stretch A (fitting-good fits) r 2 0 (sizeOf (A + 24) r + 4) (omega arith) (omega arith) (omega (arith, length-mid start (start + perBlock) store circle-within)),
+        stretch A (fitting-good fits) r 2 0 (sizeOf (A + 24) r + 4) (omega arith) (omega arith) (omega arith),
       )
 
-      pub streams-told : {out′ : List ℕ} → out′ ≡ streamsOn (midOf start (start + perBlock - start) store) (k + 4) f ++ drop (3 * (k + 4)) out
+      pub streams-told : {out′ : List ℕ} → out′ ≡ streamsOn (circleAt (slot * state .blocks + r) store) (k + 4) f ++ drop (3 * (k + 4)) out
           → (record { answer = Done; state = state } ≡ streamsOutcome state (length store) slot terminal r (length out)) × (out′ ≡ streamsOutput state store slot terminal r out)
-      unfolding streamsOutcome unlessRefused streamsOutput
+      unfolding streamsOutcome unlessRefused streamsOutput threeStreams
       streams-told o =
-          (rw (← (w .number), w .zero), rw (← (w .number), w .zero) (o ∙ rw (k-is, f-is, streams-lent (state .blocks) slot A r store (fitting-good fits) starts)))
+          (rw (← (w .number), w .zero), rw (← (w .number), w .zero) (o ∙ rw (k-is, f-is, circle-in-store (state .blocks) slot r store)))

@@ -10,7 +10,7 @@ use native.Mathlib.Omega.{arith}
 use lib.Dec.{eqb}
 use borrow.Author.Tests.{eq-eqb, ne-eqb}
 use Rattle.rate_matching.specs.SubBlocks.{rowsBefore}
-use Rattle.slots.specs.Reading.{sumFrom}
+use Rattle.slots.specs.Circle.{sumFrom}
 use Rattle.slots.proofs.Sums.{sumFrom-ext}
 use Rattle.reading.proofs.Sums.{sumFrom-last, sumFrom-add, sumFrom-zero, sumFrom-one}
 

@@ -1,22 +1,20 @@
 -- A code block's circle from a room of either form, 02 E7: lent from the room itself, or unpacked from its bytes.
 -- Assumes nothing.
 use mathlib.Core.Path.{_≡_, refl, sym, _∙_, ap, ap₂}
-use mathlib.Core.Bool.{Bool, true, false, cond, not, _&&_}
+use mathlib.Core.Bool.{Bool, true, false, not}
 use mathlib.Core.List.{List, [], _∷_, _++_}
-use Prim.Native.Nat.{ℕ, _+_, _-_, _*_, _/_, _≤_, _<_, min}
+use Prim.Native.Nat.{ℕ, _+_, _-_, _*_, _/_, _≤_, min}
 use native.Mathlib.Nat.{add-sub-cancel-left}
 use native.Mathlib.Omega.{arith}
 use lib.Dec.{ltb}
-use lib.ListN.{length, getD, take, drop, List·getD-append}
-use lib.Seq.{getD-take, getD-drop}
+use lib.ListN.{length, getD, drop, List·getD-append}
 use borrow.Rule.Slice.PartMut.{midOf}
-use Rattle.laws.specs.Lists.{tab, tabFrom}
 use Rattle.laws.proofs.Parts.{length-mid, getD-mid}
-use Rattle.laws.proofs.Tab.{tabFrom-ext, tab-ext}
 use Rattle.refusals.specs.Refusals.{rule}
 use Rattle.segmentation.specs.Segmentation.{blocks, sizeOf}
 use Rattle.slots.specs.declared.State.{State}
 use Rattle.slots.specs.State.{perBlock}
+use Rattle.slots.specs.Room.{circleAt}
 use Rattle.slots.specs.Calls.{ownerRules, sizeAtHead, readNumber, streamsNumber}
 use Rattle.packing.specs.Packing.{unpacked, unpackedOver}
 use Rattle.packing.specs.Store.{placesAByte, bytesABlock, placesIn, placesAsked}
@@ -24,10 +22,11 @@ use Rattle.packing.proofs.Forms.{length-unpacked}
 use Rattle.packing.proofs.Stores.{places-are, places-mid, asked-enough}
 use Rattle.rate_matching.specs.SubBlocks.{rows}
 use Rattle.rate_matching.specs.Circle.{circleLength}
-use Rattle.rate_matching.specs.Places.{placeNumber}
-use Rattle.reading.specs.Circle.{keptOn, shown, streamOn, streamsOn, Streams, reachOf, Stretch}
-use Rattle.reading.specs.inner.Form.{circleAt, Unpacks, Circles}
-use Rattle.reading.proofs.Rows.{place-there, reach-most, reach-last}
+use Rattle.slots.proofs.RoomLaws.{circle-entry}
+use Rattle.reading.specs.Circle.{Streams, reachOf, Stretch}
+use Rattle.reading.specs.inner.Form.{Circles}
+use Rattle.reading.proofs.Rows.{reach-most, reach-last}
+use Rattle.reading.proofs.Lent.{Alike, circle-alike}
 
 -- the numbers of either form
 four-slim : bytesABlock true ≡ 4632
@@ -65,31 +64,6 @@ pub index-fits : (four : Bool) (i : ℕ) (store : List ℕ) → i * perBlock + p
 index-fits true i store h = omega (arith, four-times store)
 index-fits false i store h = omega (arith, plain-times store)
 
-times : (four : Bool) (r : ℕ) → placesAByte four * (r * bytesABlock four) ≡ r * perBlock
-unfolding bytesABlock placesAByte
-times true r = omega arith
-times false r = omega arith
-
-longer : (four : Bool) (r : ℕ) → placesAByte four * (r * bytesABlock four + bytesABlock four) ≡ r * perBlock + perBlock
-unfolding bytesABlock placesAByte
-longer true r = omega arith
-longer false r = omega arith
-
-pub next-block : (r : ℕ) → (r + 1) * perBlock ≡ r * perBlock + perBlock
-next-block r = omega arith
-
-pub circle-mid : (r : ℕ) (places : List ℕ) → circleAt r places ≡ midOf (r * perBlock) (r * perBlock + perBlock - r * perBlock) places
-unfolding circleAt
-circle-mid r places = ap (λ (n : ℕ). take n (drop (r * perBlock) places)) (sym (add-sub-cancel-left (r * perBlock) perBlock))
-
--- the places of a code block's bytes
-pub circle-places : (four : Bool) (r : ℕ) (room : List ℕ) → r * bytesABlock four + bytesABlock four ≤ length room
-    → placesIn four (midOf (r * bytesABlock four) (r * bytesABlock four + bytesABlock four - r * bytesABlock four) room) ≡ circleAt r (placesIn four room)
-circle-places four r room h =
-    places-mid four (r * bytesABlock four) (r * bytesABlock four + bytesABlock four) room (omega arith) h
-    ∙ ap₂ (λ (a b : ℕ). midOf a (b - a) (placesIn four room)) (times four r) (longer four r)
-    ∙ sym (circle-mid r (placesIn four room))
-
 -- the places of a stretch lie on any circle of enough places
 pub stretch-on : {long long′ D s i n : ℕ} → Stretch long D s i n → perBlock ≤ long′ → Stretch long′ D s i n
 stretch-on {s = s} w h = record { sized = w .sized; stream = w .stream; within = w .within; room = omega (arith, h, reach-most s (w .sized .most)) }
@@ -110,17 +84,14 @@ module _ {four : Bool} {needed r : ℕ} {room circle : List ℕ} (w : Circles fo
   pub part-long : length (midOf (r * long) (r * long + long - r * long) room) ≡ bytesABlock four
   part-long = length-mid (r * long) (r * long + long) room part-within ∙ add-sub-cancel-left (r * long) long ∙ e
 
-  pub part-places : placesIn four (midOf (r * long) (r * long + long - r * long) room) ≡ circleAt r (placesIn four room)
-  part-places = rw e (circle-places four r room (rw e at part-within))
-
 plain-is : {four : Bool} → four ≡ false → (l : List ℕ) → placesIn four l ≡ l
 unfolding placesIn
 plain-is f l = rw f
 
--- where the form is plain the part is the circle
-pub plain-circle : {four : Bool} {needed r : ℕ} {room circle : List ℕ} (w : Circles four needed r room circle) {long : ℕ} → long ≡ bytesABlock four → four ≡ false
-    → midOf (r * long) (r * long + long - r * long) room ≡ circleAt r (placesIn four room)
-plain-circle w e f = sym (plain-is f _) ∙ part-places w e
+-- where the form is plain the part is the circle's front
+pub plain-alike : {four : Bool} {long : ℕ} (r : ℕ) (room : List ℕ) → long ≡ bytesABlock four → four ≡ false
+    → Alike perBlock (midOf (r * long) (r * long + long - r * long) room) (circleAt r (placesIn four room))
+plain-alike r room e f = rw (plain-is f room, e ∙ plain-long f) (circle-alike r room refl)
 
 -- where it is packed, n of its bytes are unpacked over the front of the buffer, which then has the first 4·n places of the circle
 module _ {four : Bool} {needed r n : ℕ} {room circle : List ℕ} (w : Circles four needed r room circle) (f : four ≡ true) {long : ℕ} (e : long ≡ bytesABlock four)
@@ -150,35 +121,21 @@ module _ {four : Bool} {needed r n : ℕ} {room circle : List ℕ} (w : Circles 
       counts : placesAByte true * (r * long + n) - placesAByte true * (r * long) ≡ 4 * n
       counts = rw four-a-byte (omega arith)
 
-  front-at : {circle′ : List ℕ} → circle′ ≡ unpackedOver (min (length front) (length circle / 4)) front circle → (p : ℕ) → p < 4 * n
-      → getD circle′ p 0 ≡ getD (circleAt r (placesIn four room)) p 0
-  unfolding unpackedOver circleAt
-  front-at o p h =
-      ap (λ (l : List ℕ). getD l p 0) (o ∙ ap (λ (m : ℕ). unpacked m front ++ drop (4 * m) circle) all)
-      ∙ List·getD-append (unpacked n front) (drop (4 * n) circle) 0 p (omega (arith, length-unpacked n front))
-      ∙ ap (λ (l : List ℕ). getD l p 0) front-places
-      ∙ getD-mid (r * perBlock) (4 * n) (placesIn true room) p 0 h
-      ∙ sym (getD-take perBlock (drop (r * perBlock) (placesIn true room)) p 0 (omega arith) ∙ getD-drop (r * perBlock) (placesIn true room) p 0)
-      ∙ ap (λ (t : Bool). getD (take perBlock (drop (r * perBlock) (placesIn t room))) p 0) (sym f)
+  pub front-alike : {circle′ : List ℕ} → circle′ ≡ unpackedOver (min (length front) (length circle / 4)) front circle
+      → Alike (4 * n) circle′ (circleAt r (placesIn four room))
+  unfolding unpackedOver
+  front-alike o = record {
+    same = λ p h.
+        ap (λ (l : List ℕ). getD l p 0) (o ∙ ap (λ (m : ℕ). unpacked m front ++ drop (4 * m) circle) all)
+        ∙ List·getD-append (unpacked n front) (drop (4 * n) circle) 0 p (omega (arith, length-unpacked n front))
+        ∙ ap (λ (l : List ℕ). getD l p 0) front-places
+        ∙ getD-mid (r * perBlock) (4 * n) (placesIn true room) p 0 h
+        ∙ sym (circle-entry r (placesIn true room) p 0)
+        ∙ ap (λ (t : Bool). getD (circleAt r (placesIn t room)) p 0) (sym f);
+  }
     where
       all : min (length front) (length circle / 4) ≡ n
       all = omega (arith, front-long)
-
-  -- what a stream keeps that lies there
-  module _ {D : ℕ} (sized : Streams D) {circle′ : List ℕ} (o : circle′ ≡ unpackedOver (min (length front) (length circle / 4)) front circle) where
-    kept-front : (s i : ℕ) → reachOf D s ≤ 4 * n → s < 3 → i < D → keptOn circle′ D s i ≡ keptOn (circleAt r (placesIn four room)) D s i
-    unfolding keptOn
-    kept-front s i h u l = front-at o (placeNumber D s i) (omega (arith, place-there sized s i u l))
-
-    pub data-front : (i k : ℕ) → i + k ≤ D → reachOf D 0 ≤ 4 * n → tabFrom i k (keptOn circle′ D 0) ≡ tabFrom i k (keptOn (circleAt r (placesIn four room)) D 0)
-    data-front i k l h = tabFrom-ext i k _ _ (λ j a b. kept-front 0 j h (omega arith) (omega arith))
-
-    pub streams-front : (F : ℕ) → reachOf D 2 ≤ 4 * n → streamsOn circle′ D F ≡ streamsOn (circleAt r (placesIn four room)) D F
-    unfolding streamsOn streamOn reachOf
-    streams-front F h = ap₂ _++_ (one 0 (omega arith)) (ap₂ _++_ (one 1 (omega arith)) (one 2 (omega arith)))
-      where
-        one : (s : ℕ) → s < 3 → tab D (streamOn circle′ D F s) ≡ tab D (streamOn (circleAt r (placesIn four room)) D F s)
-        one s u = tab-ext D _ _ (λ i l. ap (λ (x : ℕ). cond (ltb s 2 && ltb i F) 0 (shown x)) (kept-front s i (omega (arith, reach-last D s, h)) u l))
 
 -- the bytes of stream 0, 8 a row, and those of the circle, 24 a row
 pub data-few : (k : ℕ) → Streams (k + 4) → 8 * ((k + 35) / 32) ≤ 1544
@@ -191,9 +148,9 @@ data-reach k = omega arith
 pub circle-few : {d : ℕ} → Streams d → 24 * ((d + 31) / 32) ≤ 4632
 circle-few w = omega (arith, w .most)
 
-pub circle-reach : (d : ℕ) → reachOf d 2 ≤ 4 * (24 * ((d + 31) / 32))
-unfolding reachOf circleLength rows
-circle-reach d = omega arith
+pub circle-reach : (d s : ℕ) → reachOf d s ≤ 4 * (24 * ((d + 31) / 32))
+unfolding circleLength rows
+circle-reach d s = omega (arith, reach-last d s)
 
 -- ---- a slot's room is lent
 

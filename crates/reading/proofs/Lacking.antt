@@ -11,7 +11,6 @@ use lib.ListN.{length, getD}
 use borrow.Author.Tests.{eqb-true, leb-true, eq-eqb, le-leb, lt-leb}
 use borrow.Rule.Slice.PartMut.{midOf}
 use Rattle.laws.specs.Bits.{bitsOf}
-use Rattle.laws.specs.Lists.{tabFrom}
 use Rattle.laws.proofs.Parts.{length-mid, getD-mid}
 use Rattle.laws.proofs.Tab.{length-tabFrom, getD-tabFrom}
 use Rattle.segmentation.specs.declared.Segments.{Segments}
@@ -22,19 +21,19 @@ use Rattle.rate_matching.specs.SubBlocks.{rows, dummies, rowsBefore}
 use Rattle.rate_matching.specs.Circle.{circleLength}
 use Rattle.rate_matching.specs.Places.{plainPlace, placeNumber}
 use Rattle.rate_matching.proofs.Columns.{column-rule, table-at}
-use Rattle.slots.specs.State.{perBlock, roomStart}
-use Rattle.slots.specs.Room.{heard, byteOf}
-use Rattle.slots.specs.Reading.{keptAt, lacks, sumFrom, lackingIn, lacking}
-use Rattle.slots.proofs.PlaceBounds.{place-below}
+use Rattle.slots.specs.State.{perBlock}
+use Rattle.slots.specs.Room.{circleAt}
+use Rattle.slots.specs.Circle.{keptOn, missing, missingOn, sumFrom, lackingOn, heardOn}
+use Rattle.slots.specs.Reading.{lackingIn, lacking}
 use Rattle.slots.proofs.Sums.{sumFrom-ext, sumFrom-shift, sumFrom-most}
-use Rattle.reading.specs.Circle.{keptOn, missing, missingAt, missingOn, countable, Streams, reachOf, Stretch}
+use Rattle.reading.specs.Circle.{missingAt, countable, Streams, reachOf, Stretch}
 use Rattle.reading.specs.Room.{roomFits}
-use Rattle.reading.proofs.Rows.{reach-last}
+use Rattle.reading.proofs.Rows.{reach-most, reach-last}
 use Rattle.reading.proofs.Sums.{Summing, start, next, finish, sumFrom-split}
 use Rattle.reading.proofs.ColumnSums.{inColumn, by-columns}
 use Rattle.reading.proofs.Bytes.{missing-le}
 use Rattle.reading.proofs.Blocks.{streams, filler-below, stretch, by-range, blocks-few, Block, block-of}
-use Rattle.reading.proofs.Lent.{circle-lent}
+use Rattle.reading.proofs.Lent.{circle-alike, lacking-alike}
 
 -- ---- bytes by parts
 
@@ -73,23 +72,27 @@ module _ {bytes : List ℕ} where
 
 -- ---- the data places of a circle
 
--- the count of a list of what a circle keeps
-count-kept : (circle : List ℕ) (D f n : ℕ) → sumFrom (missingAt (tabFrom f n (keptOn circle D 0))) 0 n ≡ sumFrom (missingOn circle D) f n
-unfolding missingAt missingOn
-count-kept circle D f n =
-    sumFrom-ext (missingAt (tabFrom f n (keptOn circle D 0))) (λ (k : ℕ). missingOn circle D (f + k)) 0 n
-    (λ k a b. ap missing (getD-tabFrom f n (keptOn circle D 0) k 0 (omega arith)))
-    ∙ sym (sumFrom-shift f 0 n (missingOn circle D))
-    ∙ ap (λ (i : ℕ). sumFrom (missingOn circle D) i n) (add-zero f)
+-- the count of a list of what was heard
+count-heard : (circle : List ℕ) (K F : ℕ) → sumFrom (missingAt (heardOn circle K F (K - F))) 0 (K - F) ≡ lackingOn circle K F
+unfolding missingAt missingOn lackingOn heardOn
+count-heard circle K F =
+    sumFrom-ext (missingAt (heardOn circle K F (K - F))) (λ (k : ℕ). missingOn circle (K + 4) (F + k)) 0 (K - F)
+    (λ k a b. ap missing (getD-tabFrom F (K - F) (keptOn circle (K + 4) 0) k 0 (omega arith)))
+    ∙ sym (sumFrom-shift F 0 (K - F) (missingOn circle (K + 4)))
+    ∙ ap (λ (i : ℕ). sumFrom (missingOn circle (K + 4)) i (K - F)) (add-zero F)
 
--- a list that is what a circle keeps for its data places
-pub counted : (circle : List ℕ) (D f n : ℕ) {count : ℕ} {lent : List ℕ} → lent ≡ tabFrom f n (keptOn circle D 0) → count ≡ sumFrom (missingAt lent) 0 (length lent)
-    → count ≡ sumFrom (missingOn circle D) f n
-counted circle D f n e t = t ∙ rw (e, length-tabFrom f n (keptOn circle D 0)) (count-kept circle D f n)
+pub length-heard : (circle : List ℕ) (K F n : ℕ) → length (heardOn circle K F n) ≡ n
+unfolding heardOn
+length-heard circle K F n = length-tabFrom F n (keptOn circle (K + 4) 0)
+
+-- a list that is what was heard of a code block
+pub counted : (circle : List ℕ) (K F : ℕ) {count : ℕ} {lent : List ℕ} → lent ≡ heardOn circle K F (K - F) → count ≡ sumFrom (missingAt lent) 0 (length lent)
+    → count ≡ lackingOn circle K F
+counted circle K F e t = t ∙ rw (e, length-heard circle K F (K - F)) (count-heard circle K F)
 
 -- ---- column by column
 
--- 1 where y place y of stream 0 has heard no bit
+-- 1 where y place y of stream 0 lacks a bit
 missingY : List ℕ → ℕ → ℕ → ℕ
 missingY circle R y = missing (getD circle (plainPlace R y) 0)
 
@@ -102,8 +105,8 @@ all-columns : (g : ℕ → ℕ) → sumFrom (λ (c : ℕ). g (column c)) 0 32 �
 unfolding sumFrom numberOf bitsOf turnedRound column
 all-columns g = omega arith
 
-pub parts-sum : (circle : List ℕ) (k f : ℕ) → f ≤ k → sumFrom (inPart circle k f) 0 32 ≡ sumFrom (missingOn circle (k + 4)) f (k - f)
-unfolding inPart missingY missingOn keptOn placeNumber
+pub parts-sum : (circle : List ℕ) (k f : ℕ) → f ≤ k → sumFrom (inPart circle k f) 0 32 ≡ lackingOn circle k f
+unfolding inPart missingY lackingOn missingOn keptOn placeNumber
 parts-sum circle k f h =
     all-columns (inColumn (missingY circle (rows (k + 4))) (dummies (k + 4) + f) (dummies (k + 4) + k))
     ∙ ap (λ (e : ℕ). sumFrom (inColumn (missingY circle (rows (k + 4))) (dummies (k + 4) + f) e) 0 32) end
@@ -182,7 +185,7 @@ module _ {circle : List ℕ} {k f : ℕ} {p : List ℕ} where
         pub columns-next : Columns circle k f p (n + x) (j + rows (k + 4)) (c + 1)
         columns-next = record { table = l .table; place = omega (arith, l .place); sum = next h column-is column-few (l .sum) }
 
-  pub columns-finish : {n j c : ℕ} → f ≤ k → 32 ≤ c → Columns circle k f p n j c → n ≡ sumFrom (missingOn circle (k + 4)) f (k - f)
+  pub columns-finish : {n j c : ℕ} → f ≤ k → 32 ≤ c → Columns circle k f p n j c → n ≡ lackingOn circle k f
   columns-finish low h w = finish h (w .sum) ∙ parts-sum circle k f low
 
 -- ---- a circle by itself
@@ -211,24 +214,19 @@ countable-is {long} {K} {F} low w h =
 -- ---- code block by code block
 
 -- the count of code block r, whose circle is lent
-pub block-lacking : (A r : ℕ) {from : ℕ} (room : List ℕ) → badSize A ≡ false → from ≡ r * perBlock
-    → sumFrom (missingOn (midOf from (from + perBlock - from) room) (sizeOf (A + 24) r + 4)) (fillerOf (A + 24) r) (sizeOf (A + 24) r - fillerOf (A + 24) r)
-    ≡ lackingIn 1 0 (A + 24) room r
-unfolding missingOn missing lackingIn lacks byteOf roomStart
-block-lacking A r {from} room good e =
-    let starts : from ≡ byteOf 1 0 r 0 = omega arith in
-    sumFrom-ext _ _ (fillerOf (A + 24) r) (sizeOf (A + 24) r - fillerOf (A + 24) r)
-    (λ i a b. ap (λ (x : ℕ). cond (heard x) 0 1)
-    (circle-lent 1 0 (A + 24) r room 0 i starts (place-below A good r 0 i (omega arith) (omega (arith, filler-below A good r)))))
+block-lacking : (A r : ℕ) {from : ℕ} (room : List ℕ) → badSize A ≡ false → from ≡ r * perBlock
+    → lackingOn (midOf from (from + perBlock - from) room) (sizeOf (A + 24) r) (fillerOf (A + 24) r) ≡ lackingIn (A + 24) room r
+unfolding lackingIn
+block-lacking A r room good e = lacking-alike (sizeOf (A + 24) r) (streams A good r) (circle-alike r room e) (reach-most 0 (streams A good r .most)) (fillerOf (A + 24) r)
 
 -- no count is above 6,144
-pub block-few : (A r : ℕ) (room : List ℕ) → badSize A ≡ false → lackingIn 1 0 (A + 24) room r ≤ 6144
-unfolding lackingIn lacks missing
+pub block-few : (A r : ℕ) (room : List ℕ) → badSize A ≡ false → lackingIn (A + 24) room r ≤ 6144
+unfolding lackingIn lackingOn missingOn
 block-few A r room good =
     omega (
       arith,
-      sumFrom-most (lacks 1 0 (A + 24) room r) (fillerOf (A + 24) r) (sizeOf (A + 24) r - fillerOf (A + 24) r)
-          (λ i. missing-le (keptAt 1 0 (A + 24) room r 0 i)),
+      sumFrom-most (missingOn (circleAt r room) (sizeOf (A + 24) r + 4)) (fillerOf (A + 24) r) (sizeOf (A + 24) r - fillerOf (A + 24) r)
+          (λ i. missing-le (keptOn (circleAt r room) (sizeOf (A + 24) r + 4) 0 i)),
       streams A good r .most,
     )
 
@@ -242,10 +240,10 @@ short-room A n x {s} e h =
 
 -- one that is not
 whole-room : (A : ℕ) {s : Segments} {sum : ℕ} (room : List ℕ) → s ≡ segmentsFor A → s .blocks * perBlock ≤ length room
-    → sum ≡ sumFrom (lackingIn 1 0 (A + 24) room) 0 (s .blocks) → sum ≡ cond (roomFits A (length room)) (lacking 1 0 A room) 0
+    → sum ≡ sumFrom (lackingIn (A + 24) room) 0 (s .blocks) → sum ≡ cond (roomFits A (length room)) (lacking A room) 0
 unfolding roomFits lacking sumFrom
 whole-room A {s} {sum} room e h t =
-    by-range A (sum ≡ cond (roomFits A (length room)) (lacking 1 0 A room) 0) e
+    by-range A (sum ≡ cond (roomFits A (length room)) (lacking A room) 0) e
     (λ b z. t ∙ rw (z, b))
     (λ b z. t ∙ rw (z, b, le-leb (blocks (A + 24) * perBlock) (length room) (rw z at h)))
 
@@ -254,7 +252,7 @@ pub record Counting (A : ℕ) (s : Segments) (room : List ℕ) (n from r : ℕ) 
   pub told : s ≡ segmentsFor A
   pub long : s .blocks * perBlock ≤ length room
   pub place : from ≡ r * perBlock
-  pub sum : Summing (lackingIn 1 0 (A + 24) room) (s .blocks) 6144 r n
+  pub sum : Summing (lackingIn (A + 24) room) (s .blocks) 6144 r n
 
 pub counting-start : {A : ℕ} {s : Segments} {room : List ℕ} → s ≡ segmentsFor A → s .blocks * perBlock ≤ length room → Counting A s room 0 0 0
 counting-start e h = record { told = e; long = h; place = refl; sum = start }
@@ -274,8 +272,8 @@ module _ {A : ℕ} {s : Segments} {room : List ℕ} {n from r : ℕ} where
         let room-is : perBlock ≤ length (midOf from (from + perBlock - from) room) = omega (arith, length-mid from (from + perBlock) room (circle-within h w)) in
         rw (k ∙ here .size, f ∙ here .filled) (low, stretch A (here .admitted) r 0 _ _ (omega arith) (omega arith) room-is)
 
-    module _ {x : ℕ} (e : x ≡ sumFrom (missingOn (midOf from (from + perBlock - from) room) (K + 4)) F (K - F)) where
-      block-is : x ≡ lackingIn 1 0 (A + 24) room r
+    module _ {x : ℕ} (e : x ≡ lackingOn (midOf from (from + perBlock - from) room) K F) where
+      block-is : x ≡ lackingIn (A + 24) room r
       block-is = e ∙ rw (k ∙ here .size, f ∙ here .filled) (block-lacking A r room (here .admitted) (w .place))
 
       pub sum-fits : n + x < 2 ^ 64
@@ -289,5 +287,5 @@ module _ {A : ℕ} {s : Segments} {room : List ℕ} {n from r : ℕ} where
         sum = next h block-is (rw block-is (block-few A r room (here .admitted))) (w .sum);
       }
 
-  pub counting-finish : s .blocks ≤ r → Counting A s room n from r → n ≡ cond (roomFits A (length room)) (lacking 1 0 A room) 0
+  pub counting-finish : s .blocks ≤ r → Counting A s room n from r → n ≡ cond (roomFits A (length room)) (lacking A room) 0
   counting-finish h w = whole-room A room (w .told) (w .long) (finish h (w .sum))

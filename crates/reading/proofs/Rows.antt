@@ -16,7 +16,8 @@ use Rattle.rate_matching.specs.Circle.{circleLength}
 use Rattle.rate_matching.specs.Places.{plainPlace, shiftedPlace, placeNumber, placeOf, circlePlace, firstPlaces, longest, firstsWithin}
 use Rattle.rate_matching.proofs.Places.{dummies-add, place-lt, once-round, place-on-circle}
 use Rattle.slots.specs.State.{perBlock}
-use Rattle.reading.specs.Circle.{keptOn, rowStep, placeBy, keptBy, Along, Streams, reachOf, Stretch}
+use Rattle.slots.specs.Circle.{keptOn}
+use Rattle.reading.specs.Circle.{rowStep, placeBy, keptBy, Along, Streams, reachOf, Stretch}
 
 -- q rows further by the plain rule
 plain-further : (R y q : ℕ) → plainPlace R (y + 32 * q) ≡ plainPlace R y + q

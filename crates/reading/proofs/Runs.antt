@@ -17,7 +17,8 @@ use Rattle.laws.specs.Lists.{tab, tabFrom}
 use Rattle.laws.proofs.Parts.{length-mid}
 use Rattle.laws.proofs.Tab.{length-tabFrom, getD-tabFrom, length-tab, getD-tab, tab-ext, tab-of, tab-rest, rest-more, rest-none}
 use Rattle.laws.proofs.Writing.{Writing, start, same, push, pushPart, finish, finish-all}
-use Rattle.reading.specs.Circle.{keptOn, shown, shownAt, streamOn, streamsOn}
+use Rattle.slots.specs.Circle.{keptOn, shown, streamOn, streamsOn}
+use Rattle.reading.specs.Circle.{shownAt}
 
 -- ---- the loop that shows each byte
 

@@ -5,7 +5,7 @@ use Prim.Native.Nat.{ℕ, zero, suc, _+_, _-_, _*_, _≤_, _<_}
 use native.Mathlib.Nat.{add-zero, zero-add, suc-add, sub-zero}
 use native.Mathlib.Numerals.{add-one}
 use native.Mathlib.Omega.{arith}
-use Rattle.slots.specs.Reading.{sumFrom}
+use Rattle.slots.specs.Circle.{sumFrom}
 
 -- of n terms, each at most `most`, those before i are added up
 pub record Summing (f : ℕ → ℕ) (n most i sum : ℕ) : Type 0 where

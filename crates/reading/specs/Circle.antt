@@ -1,50 +1,25 @@
--- What a code block's circle keeps for the places of its streams, 01 'Slots', and where these places lie row by row (clause 5.1.4.1.1).
+-- Where the places of a code block's streams lie on its circle, row by row (clause 5.1.4.1.1), what stands there, and what the parts of Read and Streams may take
+-- for granted of a circle.
 -- Assumes nothing.
 use mathlib.Core.Path.{_≡_}
 use mathlib.Core.Bool.{Bool, cond, _&&_}
-use mathlib.Core.List.{List, _++_}
+use mathlib.Core.List.{List}
 use Prim.Native.Nat.{ℕ, _+_, _*_, _/_, _%_, _≤_, _<_}
-use lib.Dec.{eqb, ltb, leb}
+use lib.Dec.{eqb, leb}
 use lib.ListN.{getD}
-use Rattle.laws.specs.Lists.{tab}
 use Rattle.rate_matching.specs.declared.CirclePlace.{CirclePlace}
 use Rattle.rate_matching.specs.SubBlocks.{rows}
 use Rattle.rate_matching.specs.Circle.{circleLength}
-use Rattle.rate_matching.specs.Places.{placeNumber, circlePlace, longest}
-use Rattle.slots.specs.Room.{heard}
+use Rattle.rate_matching.specs.Places.{circlePlace, longest}
+use Rattle.slots.specs.Circle.{missing, shown}
 
--- the byte for place i of stream s, of streams of D places
-unfoldable pub keptOn : List ℕ → ℕ → ℕ → ℕ → ℕ
-keptOn circle D s i = getD circle (placeNumber D s i) 0
-
--- 1 where a byte has heard no bit
-unfoldable pub missing : ℕ → ℕ
-missing x = cond (heard x) 0 1
-
--- what Streams shows of a byte: the bit where one was heard, else 2
-unfoldable pub shown : ℕ → ℕ
-shown x = cond (heard x) x 2
-
--- 1 where entry k of a list has heard no bit
+-- 1 where entry k of a list lacks a bit
 unfoldable pub missingAt : List ℕ → ℕ → ℕ
 missingAt bytes k = missing (getD bytes k 0)
-
--- 1 where place i of stream 0 has heard no bit
-unfoldable pub missingOn : List ℕ → ℕ → ℕ → ℕ
-missingOn circle D i = missing (keptOn circle D 0 i)
 
 -- entry k of a list as Streams shows it
 unfoldable pub shownAt : List ℕ → ℕ → ℕ
 shownAt bytes k = shown (getD bytes k 0)
-
--- what Streams gives for place i of stream s: 0 for absent filler, of which there are F places in streams 0 and 1
-unfoldable pub streamOn : List ℕ → ℕ → ℕ → ℕ → ℕ → ℕ
-streamOn circle D F s i = cond (ltb s 2 && ltb i F) 0 (shown (keptOn circle D s i))
-
--- the three runs of D bytes, one a stream
-unfoldable pub streamsOn : List ℕ → ℕ → ℕ → List ℕ
-streamsOn circle D F =
-    tab D (streamOn circle D F 0) ++ (tab D (streamOn circle D F 1) ++ tab D (streamOn circle D F 2))
 
 -- a row is one place of the circle in the part of stream 0, and two where streams 1 and 2 stand by turns
 unfoldable pub rowStep : ℕ → ℕ

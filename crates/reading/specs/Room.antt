@@ -1,4 +1,4 @@
--- A room that is lent by itself, 01 'Slots': it is the room of slot 0 of its own bytes, whatever M is.
+-- What Read asks of a room and leaves in the output for it, 01 'Read'.
 -- Assumes nothing.
 use mathlib.Core.Bool.{Bool, cond, not, _&&_}
 use mathlib.Core.List.{List, _++_}
@@ -17,4 +17,4 @@ roomFits A long = not (badSize A) && leb (blocks (A + 24) * perBlock) long
 
 -- what Read leaves in the output for the room: the block over its front, where nothing is refused
 unfoldable pub roomOutput : ℕ → List ℕ → List ℕ → List ℕ
-roomOutput A room out = cond (isDone (heardAnswer 1 0 A room)) (heardBlock 1 0 A room ++ drop A out) out
+roomOutput A room out = cond (isDone (heardAnswer A room)) (heardBlock A room ++ drop A out) out

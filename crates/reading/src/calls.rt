@@ -13,9 +13,11 @@ ghost use mathlib.Core.Bool.{true};
 ghost use mathlib.Core.List.{_++_};
 ghost use Prim.Native.Nat.{_*_, _≤_};
 ghost use Rattle.slots.specs.State.{perBlock};
+ghost use Rattle.slots.specs.Room.{circleAt};
+ghost use Rattle.slots.specs.Circle.{streamsOn};
 ghost use Rattle.packing.specs.Store.{placesIn};
-ghost use Rattle.reading.specs.Circle.{streamsOn, Stretch};
-ghost use Rattle.reading.specs.inner.Form.{circleAt, streamMost, Unpacks, Circles};
+ghost use Rattle.reading.specs.Circle.{Stretch};
+ghost use Rattle.reading.specs.inner.Form.{streamMost, Unpacks, Circles};
 ghost use Rattle.slots.specs.Calls.{readNumber, readOutcome, readOutput, streamsNumber, streamsOutcome, streamsOutput};
 
 // Read's refusals before the room is looked at, for a store of `room` bytes and an output of `size`.

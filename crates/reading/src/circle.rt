@@ -1,4 +1,4 @@
-// What the circle of one code block keeps: the bytes of a stream, and how many of them have heard no bit.
+// What the circle of one code block keeps: the bytes of a stream, and how many of them lack a bit.
 use rate_matching::CirclePlace;
 use rate_matching::first_places;
 use rate_matching::rows_before;
@@ -9,17 +9,17 @@ ghost use mathlib.Core.List.{_++_};
 ghost use Prim.Native.Nat.{ℕ, _+_, _-_, _*_, _≤_, _<_};
 ghost use lib.ListN.{length, drop, replicate};
 ghost use Rattle.laws.specs.Lists.{tab, tabFrom};
-ghost use Rattle.slots.specs.Reading.{sumFrom};
-ghost use Rattle.reading.specs.Circle.{countable, keptOn, missing, missingAt, missingOn, keptBelow, keptBy, shown, shownAt, streamOn, streamsOn, AlongRow, Along, Stretch};
+ghost use Rattle.slots.specs.Circle.{sumFrom, keptOn, missing, lackingOn, shown, streamOn, streamsOn};
+ghost use Rattle.reading.specs.Circle.{countable, missingAt, keptBelow, keptBy, shownAt, AlongRow, Along, Stretch};
 
-// 1 where a byte of a room has heard no bit.
+// 1 where a byte of a room lacks a bit.
 fn missing(byte: u8) -> u8
     ensures { λ r. ⌜ r ≡ missing byte ⌝ }
 {
     (byte > 1) as u8
 }
 
-// How many of at most 255 bytes have heard no bit. A sum, so that no byte costs a branch, and of bytes, so that many are added at a time.
+// How many of at most 255 bytes lack a bit. A sum, so that no byte costs a branch, and of bytes, so that many are added at a time.
 fn count_few(bytes: &[u8]) -> u8
     requires { ⌜ length (now bytes) ≤ 255 ⌝ }
     ensures { λ r. ⌜ r ≡ sumFrom (missingAt (now (bytes .entry))) 0 (length (now (bytes .entry))) ⌝ }
@@ -33,7 +33,7 @@ fn count_few(bytes: &[u8]) -> u8
     n
 }
 
-// How many of the bytes have heard no bit.
+// How many of the bytes lack a bit.
 pub(crate) fn count_missing(bytes: &[u8]) -> usize
     ensures { λ r. ⌜ r ≡ sumFrom (missingAt (now (bytes .entry))) 0 (length (now (bytes .entry))) ⌝ }
 {
@@ -104,7 +104,7 @@ pub(crate) fn read_stream(circle: &[u8], d: usize, s: usize, from: usize, out: &
 // How many data places of a code block of size k lack a bit, the first f being filler: column by column, since a column's lie side by side.
 pub(crate) fn lacking_on(circle: &[u8], k: usize, f: usize) -> usize
     requires { ⌜ (f ≤ k) × Stretch (length (now circle)) (k + 4) 0 f (k - f) ⌝ }
-    ensures { λ r. ⌜ r ≡ sumFrom (missingOn (now (circle .entry)) (k + 4)) f (k - f) ⌝ }
+    ensures { λ r. ⌜ r ≡ lackingOn (now (circle .entry)) k f ⌝ }
 {
     let p = columns();
     let d = k + 4;
@@ -126,7 +126,7 @@ pub(crate) fn lacking_on(circle: &[u8], k: usize, f: usize) -> usize
 
 // The same for any numbers: 0 where there is no such code block, or the circle is too short for it.
 pub fn lacking_of(circle: &[u8], k: usize, f: usize) -> usize
-    ensures { λ r. ⌜ r ≡ cond (countable (length (now (circle .entry))) k f) (sumFrom (missingOn (now (circle .entry)) (k + 4)) f (k - f)) 0 ⌝ }
+    ensures { λ r. ⌜ r ≡ cond (countable (length (now (circle .entry))) k f) (lackingOn (now (circle .entry)) k f) 0 ⌝ }
 {
     if k > 6144 {
         return 0;

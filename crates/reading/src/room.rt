@@ -13,17 +13,18 @@ ghost use Prim.Native.Nat.{_+_, _≤_, _<_};
 ghost use lib.Dec.{eqb};
 ghost use lib.ListN.{length, take};
 ghost use Rattle.check_bits.specs.CheckBits.{crc, gCRC24B};
-ghost use Rattle.slots.specs.Reading.{lacking, firstWrong, heardSequence, heardAnswer};
-ghost use Rattle.laws.specs.Lists.{tabFrom};
 ghost use Rattle.slots.specs.State.{perBlock};
+ghost use Rattle.slots.specs.Room.{circleAt};
+ghost use Rattle.slots.specs.Circle.{heardOn};
+ghost use Rattle.slots.specs.Reading.{lacking, firstWrong, heardSequence, heardAnswer};
 ghost use Rattle.packing.specs.Store.{placesIn};
-ghost use Rattle.reading.specs.Circle.{keptOn, Stretch};
-ghost use Rattle.reading.specs.inner.Form.{circleAt, streamMost, Unpacks, Circles};
+ghost use Rattle.reading.specs.Circle.{Stretch};
+ghost use Rattle.reading.specs.inner.Form.{streamMost, Unpacks, Circles};
 ghost use Rattle.reading.specs.Room.{roomFits, roomOutput};
 
 // How many data places of a block of `a` bits lack a bit; 0 where `a` is out of range or the room is too short for it.
 pub fn lacking_in(a: usize, room: &[u8]) -> usize
-    ensures { λ r. ⌜ r ≡ cond (roomFits a (length (now (room .entry)))) (lacking 1 0 a (now (room .entry))) 0 ⌝ }
+    ensures { λ r. ⌜ r ≡ cond (roomFits a (length (now (room .entry)))) (lacking a (now (room .entry))) 0 ⌝ }
 {
     let s = segmentation::segments_for(a);
     if room.len() < s.blocks * PER_BLOCK {
@@ -92,7 +93,7 @@ fn read_data(
     out: &mut [u8],
 )
     requires { ⌜ Circles four streamMost r (now room) (now circle) × Stretch perBlock (k + 4) 0 f (length (now out)) ⌝ }
-    ensures { λ _. ⌜ now (out .exit) ≡ tabFrom f (length (now (out .entry))) (keptOn (circleAt r (placesIn four (now (room .entry)))) (k + 4) 0) ⌝ }
+    ensures { λ _. ⌜ now (out .exit) ≡ heardOn (circleAt r (placesIn four (now (room .entry)))) k f (length (now (out .entry))) ⌝ }
 {
     let long = bytes_a_block(four);
     let from = r * long;
@@ -110,9 +111,9 @@ fn read_data(
 // Each code block's check bits are read, counted and compared too; the next code block is put over them.
 fn collect(four: bool, a: usize, room: &[u8], circle: &mut [u8], b: &mut [u8]) -> Collected
     requires { ⌜ (roomFits a (length (placesIn four (now room))) ≡ true) × (a + 48 ≤ length (now b)) × Unpacks four streamMost (length (now circle)) ⌝ }
-    ensures count { λ r. ⌜ r .lacking ≡ lacking 1 0 a (placesIn four (now (room .entry))) ⌝ }
-    ensures right { λ r. ⌜ (r .lacking ≡ 0 → r .right ≡ firstWrong 1 0 a (placesIn four (now (room .entry)))) ⌝ }
-    ensures sequence { λ r. ⌜ take (a + 24) (now (b .exit)) ≡ heardSequence 1 0 a (placesIn four (now (room .entry))) ⌝ }
+    ensures count { λ r. ⌜ r .lacking ≡ lacking a (placesIn four (now (room .entry))) ⌝ }
+    ensures right { λ r. ⌜ (r .lacking ≡ 0 → r .right ≡ firstWrong a (placesIn four (now (room .entry)))) ⌝ }
+    ensures sequence { λ r. ⌜ take (a + 24) (now (b .exit)) ≡ heardSequence a (placesIn four (now (room .entry))) ⌝ }
 {
     let s = segmentation::segments_for(a);
     let check = check_length(s);
@@ -144,7 +145,7 @@ fn release(
     out: &mut [u8],
 ) -> Answer
     requires { ⌜ (roomFits a (length (placesIn four (now room))) ≡ true) × (a + 48 ≤ length (now b)) × (a ≤ length (now out)) × Unpacks four streamMost (length (now circle)) ⌝ }
-    ensures { λ r. ⌜ r ≡ heardAnswer 1 0 a (placesIn four (now (room .entry))) ⌝ }
+    ensures { λ r. ⌜ r ≡ heardAnswer a (placesIn four (now (room .entry))) ⌝ }
     ensures { λ r. ⌜ now (out .exit) ≡ roomOutput a (placesIn four (now (room .entry))) (now (out .entry)) ⌝ }
 {
     let heard = collect(four, a, room, circle, b);
@@ -171,7 +172,7 @@ pub(crate) fn read_room(
     out: &mut [u8],
 ) -> Answer
     requires { ⌜ (roomFits a (length (placesIn four (now room))) ≡ true) × (a ≤ length (now out)) × Unpacks four streamMost (length (now circle)) ⌝ }
-    ensures { λ r. ⌜ r ≡ heardAnswer 1 0 a (placesIn four (now (room .entry))) ⌝ }
+    ensures { λ r. ⌜ r ≡ heardAnswer a (placesIn four (now (room .entry))) ⌝ }
     ensures { λ r. ⌜ now (out .exit) ≡ roomOutput a (placesIn four (now (room .entry))) (now (out .entry)) ⌝ }
 {
     if a <= 6120 {
@@ -183,7 +184,7 @@ pub(crate) fn read_room(
 
 fn read_short(four: bool, a: usize, room: &[u8], circle: &mut [u8], out: &mut [u8]) -> Answer
     requires { ⌜ (a ≤ 6120) × (roomFits a (length (placesIn four (now room))) ≡ true) × (a ≤ length (now out)) × Unpacks four streamMost (length (now circle)) ⌝ }
-    ensures { λ r. ⌜ r ≡ heardAnswer 1 0 a (placesIn four (now (room .entry))) ⌝ }
+    ensures { λ r. ⌜ r ≡ heardAnswer a (placesIn four (now (room .entry))) ⌝ }
     ensures { λ r. ⌜ now (out .exit) ≡ roomOutput a (placesIn four (now (room .entry))) (now (out .entry)) ⌝ }
 {
     let mut b = [0u8; 6168];
@@ -192,7 +193,7 @@ fn read_short(four: bool, a: usize, room: &[u8], circle: &mut [u8], out: &mut [u
 
 fn read_long(four: bool, a: usize, room: &[u8], circle: &mut [u8], out: &mut [u8]) -> Answer
     requires { ⌜ (roomFits a (length (placesIn four (now room))) ≡ true) × (a ≤ length (now out)) × Unpacks four streamMost (length (now circle)) ⌝ }
-    ensures { λ r. ⌜ r ≡ heardAnswer 1 0 a (placesIn four (now (room .entry))) ⌝ }
+    ensures { λ r. ⌜ r ≡ heardAnswer a (placesIn four (now (room .entry))) ⌝ }
     ensures { λ r. ⌜ now (out .exit) ≡ roomOutput a (placesIn four (now (room .entry))) (now (out .entry)) ⌝ }
 {
     let mut b = [0u8; 30624];

@@ -1,16 +1,12 @@
--- A code block's circle in a room that keeps a place a byte, or four, 02 E7, and what the parts of Read and Streams may take for granted of it.
+-- What the parts of Read and Streams may take for granted of a room that keeps a place a byte, or four, 02 E7.
 -- Assumes nothing.
 use mathlib.Core.Path.{_≡_}
 use mathlib.Core.Bool.{Bool, true}
 use mathlib.Core.List.{List}
 use Prim.Native.Nat.{ℕ, _+_, _*_, _≤_}
-use lib.ListN.{length, take, drop}
+use lib.ListN.{length}
 use Rattle.slots.specs.State.{perBlock}
 use Rattle.packing.specs.Store.{placesIn}
-
--- the circle of code block r of a room, or of code block r of all those of a store
-unfoldable pub circleAt : ℕ → List ℕ → List ℕ
-circleAt r places = take perBlock (drop (r * perBlock) places)
 
 -- the most places of a stream 0: 193 rows
 abbrev pub streamMost : ℕ

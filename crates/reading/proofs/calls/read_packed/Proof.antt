@@ -1,9 +1,6 @@
 -- `calls::read_packed` meets its contract: it is the call on the form with four places a byte.
 -- Assumes nothing.
-use mathlib.Core.Path.{sym}
-use mathlib.Core.Bool.{true≢false}
 use borrow.Author.Needs.{needs}
-use Rattle.packing.specs.Store.{placesIn}
 use Rattle.reading.proofs.calls.read_packed.Statement.{statement}
 use Rattle.reading.proofs.calls.read_packed.Tie as tie
 

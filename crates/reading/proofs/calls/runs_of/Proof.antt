@@ -1,12 +1,13 @@
 -- `calls::runs_of` meets its contract: the circle is lent from the store, or unpacked first (`Form`).
 -- Assumes nothing.
-use mathlib.Core.Path.{_≡_, _∙_, ap}
+use mathlib.Core.Path.{_∙_, ap}
 use mathlib.Core.List.{List, _++_}
 use Prim.Native.Nat.{ℕ, _+_, _*_, _/_, _≤_}
 use native.Mathlib.Omega.{arith}
 use lib.ListN.{length, drop}
-use Rattle.reading.specs.Circle.{streamsOn}
-use Rattle.reading.proofs.Form.{part-within, part-long, plain-long, plain-circle, stretch-on, stretch-in, front-within, streams-front, circle-few, circle-reach}
+use Rattle.reading.proofs.Rows.{reach-most}
+use Rattle.reading.proofs.Lent.{streams-alike}
+use Rattle.reading.proofs.Form.{part-within, part-long, plain-long, plain-alike, stretch-on, stretch-in, front-within, front-alike, circle-few, circle-reach}
 use borrow.Author.Needs.{needs}
 use Rattle.reading.proofs.calls.runs_of.Statement.{statement}
 use Rattle.reading.proofs.calls.runs_of.Tie as tie
@@ -58,7 +59,7 @@ three-streams-requires : tie.Need-three-streams-requires
 three-streams-requires c κs =
     let then = c .before .before .before .before .before .before .before in
     let e = then .before .before .before .before .before in
-    (e .pre .1, e .pre .2, stretch-in (e .pre .3) (omega (arith, circle-reach (e .args .d), ample then, c .before .before .before .before .unpack-places .kept .1 .0)))
+    (e .pre .1, e .pre .2, stretch-in (e .pre .3) (omega (arith, circle-reach (e .args .d) 2, ample then, c .before .before .before .before .unpack-places .kept .1 .0)))
 
 add-to-3 : tie.Need-add-to-3
 add-to-3 c = omega (arith, within (c .before))
@@ -90,8 +91,9 @@ returns c =
     let e = then .before .before .before .before .before in
     c .before .before .three-streams .ensures
     ∙ ap (λ (l : List ℕ). l ++ drop (3 * e .args .d) (e .args .out .now))
-    (streams-front (e .pre .0) (then .if1 .taken) (then .before .bytes-a-block .ensures) (few then) (ample then) (e .pre .3 .sized)
-    (asked .before .before .before .before .unpack-places .ensures) (e .args .f) (circle-reach (e .args .d)))
+    (streams-alike (e .pre .3 .sized)
+    (front-alike (e .pre .0) (then .if1 .taken) (then .before .bytes-a-block .ensures) (few then) (ample then) (asked .before .before .before .before .unpack-places .ensures))
+    (e .args .f) (circle-reach (e .args .d)))
 
 same-length-3 : tie.Need-same-length-3
 same-length-3 c = search needs
@@ -101,8 +103,9 @@ returns-2 c =
     let asked = c .before .before .before in
     let e = asked .before .before .before .before .before .before .before in
     c .before .before .three-streams2 .ensures
-    ∙ ap (λ (l : List ℕ). streamsOn l (e .args .d) (e .args .f) ++ drop (3 * e .args .d) (e .args .out .now))
-    (plain-circle (e .pre .0) (asked .before .before .before .bytes-a-block .ensures) (asked .before .before .if1 .left))
+    ∙ ap (λ (l : List ℕ). l ++ drop (3 * e .args .d) (e .args .out .now))
+    (streams-alike (e .pre .3 .sized) (plain-alike (e .args .i) (e .args .store .now) (asked .before .before .before .bytes-a-block .ensures) (asked .before .before .if1 .left))
+    (e .args .f) (λ s. reach-most s (e .pre .3 .sized .most)))
 
 pub runs-of-spec : {M : Type 1} → statement M
 runs-of-spec =

@@ -8,7 +8,7 @@ use denote.Ref.{now}
 use borrow.Author.Needs.{needs}
 use Rattle.slots.specs.Calls.{streamsNumber}
 use Rattle.packing.specs.Store.{placesIn}
-use Rattle.reading.proofs.Form.{index-fits, circle-mid, stretch-on, streams-asked}
+use Rattle.reading.proofs.Form.{index-fits, streams-asked}
 use Rattle.reading.proofs.Answering.{streams-refused, Streaming, circle-within, size-most, three-needs, streams-told}
 use Rattle.reading.proofs.calls.streams_form.Statement.{statement}
 use Rattle.reading.proofs.calls.streams_form.Tie as tie
@@ -61,7 +61,7 @@ runs-of-requires : tie.Need-runs-of-requires
 runs-of-requires c κs =
     let found = asked (c .before .before .before .before .before) in
     let w = three-needs found (c .before .before .before .size-of .ensures) (c .before .before .filler-of .ensures) in
-    (record { enough = circle-within found; unpacks = c .before .before .before .before .before .before .before .before .before .before .before .before .before .pre }, w .0, w .1, stretch-on (w .2) (omega arith))
+    (record { enough = circle-within found; unpacks = c .before .before .before .before .before .before .before .before .before .before .before .before .before .pre }, w .0, w .1, w .2)
 
 same-length : tie.Need-same-length
 same-length c = search needs
@@ -74,7 +74,7 @@ returns-2 c =
     let given = c .before .before .before .before in
     let filled = given .before .before .before in
     let sized = filled .before in
-    streams-told (asked (sized .before .before)) (sized .size-of .ensures) (filled .filler-of .ensures) (rw circle-mid at (given .runs-of .ensures))
+    streams-told (asked (sized .before .before)) (sized .size-of .ensures) (filled .filler-of .ensures) (given .runs-of .ensures)
 
 pub streams-form-spec : {M : Type 1} → statement M
 streams-form-spec =

@@ -1,28 +1,26 @@
 -- `room::collect` meets its contract: the bits of the code blocks before r are written, and their data places counted (`Sequence`).
 -- Assumes nothing.
-use Prim.Native.Nat.{_-_, _*_}
+use Prim.Native.Nat.{_-_}
 use native.Mathlib.Omega.{arith}
-use Rattle.slots.specs.State.{perBlock}
 use Rattle.packing.specs.Store.{placesIn}
 use lib.ListN.{length}
 use mathlib.Core.Path.{_≡_, refl, _∙_}
 use Rattle.reading.specs.inner.Form.{streamMost, Unpacks}
 use Rattle.reading.proofs.Blocks.{blocks-few}
-use Rattle.reading.proofs.Form.{next-block, circle-mid, stretch-on}
 use Rattle.reading.proofs.Sequence.{Hearing, fit, hearing-start, Turn, turn, part-back, sum-fits, hearing-next, hearing-finish}
 use Rattle.reading.proofs.room.collect.Statement.{statement}
 use Rattle.reading.proofs.room.collect.Tie as tie
 
 abbrev Inv-loop : tie.InvT-loop
 Inv-loop four a room circle₀ b₀ s check lacking₀ right₀ at₀ r₀ circle b lacking right at r =
-    Hearing a (placesIn four room) b₀ b lacking right (r * perBlock) at r × Unpacks four streamMost (length circle) × (length circle ≡ length circle₀)
+    Hearing a (placesIn four room) b₀ b lacking right at r × Unpacks four streamMost (length circle) × (length circle ≡ length circle₀)
 
 abbrev μ-loop : tie.MeasureT-loop
 μ-loop four a room circle₀ b₀ s check lacking₀ right₀ at₀ r₀ circle b lacking right at r = s .blocks - r
 
 -- what the turn needs
 parts : (c : tie.After-filler-of Inv-loop μ-loop) → let turns = c .before .before .before .before in
-    Turn (placesIn (turns .before .before .before .before .before .before .args .four) (turns .before .before .before .before .before .before .args .room .now)) (turns .loop .b) (turns .loop .r * perBlock) (turns .loop .at) (c .before .size-of .result)
+    Turn (placesIn (turns .before .before .before .before .before .before .args .four) (turns .before .before .before .before .before .before .args .room .now)) (turns .loop .b) (turns .loop .r) (turns .loop .at) (c .before .size-of .result)
     (turns .before .check-length .result) (c .filler-of .result)
 parts c =
     let turns = c .before .before .before .before in
@@ -67,7 +65,7 @@ read-data-requires c κs =
         enough = parts filled .circle;
         unpacks = turns .loop .inv .1;
       },
-      stretch-on (parts filled .stretch) (omega arith),
+      parts filled .stretch,
     )
 
 sub-count-missing : tie.Need-sub-count-missing Inv-loop μ-loop
@@ -92,7 +90,7 @@ add-lacking c =
     record {
       fits =
           sum-fits (turns .before .before .segments-for .ensures) (turns .before .check-length .ensures) (sized .before .if1 .taken) (sized .size-of .ensures)
-          (filled .filler-of .ensures) (turns .loop .inv .0) (rw circle-mid at (c .before .before .before .before .before .before .before .read-data .ensures)) (c .count-missing .ensures);
+          (filled .filler-of .ensures) (turns .loop .inv .0) (c .before .before .before .before .before .before .before .read-data .ensures) (c .count-missing .ensures);
     }
 
 sub-right-after : tie.Need-sub-right-after Inv-loop μ-loop
@@ -127,10 +125,10 @@ loop-again c =
     let turns = sized .before .before .before in
     let lent = c .before .before .before .before .before .before .before .before .before .before in
     let heard = hearing-next (turns .before .before .segments-for .ensures) (turns .before .check-length .ensures) (sized .before .if1 .taken) (sized .size-of .ensures)
-    (filled .filler-of .ensures) (turns .loop .inv .0) (rw circle-mid at (lent .read-data .ensures)) (c .before .before .before .count-missing .ensures)
+    (filled .filler-of .ensures) (turns .loop .inv .0) (lent .read-data .ensures) (c .before .before .before .count-missing .ensures)
     (c .right-after .ensures) in
     let kept = lent .read-data .kept .1 .1 .1 .1 .1 .0 in
-    (rw next-block heard, λ f. omega (arith, kept, turns .loop .inv .1 f), kept ∙ turns .loop .inv .2)
+    (heard, λ f. omega (arith, kept, turns .loop .inv .1 f), kept ∙ turns .loop .inv .2)
 
 same-length : tie.Need-same-length Inv-loop μ-loop
 same-length c = c .before .before .loop .inv .2

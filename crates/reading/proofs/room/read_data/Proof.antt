@@ -1,13 +1,13 @@
 -- `room::read_data` meets its contract: the circle is lent from the room, or the places of stream 0 are unpacked first (`Form`).
 -- Assumes nothing.
-use mathlib.Core.Path.{_≡_, _∙_, ap}
-use mathlib.Core.List.{List}
-use Prim.Native.Nat.{ℕ, _+_, _*_, _/_, _≤_}
+use mathlib.Core.Path.{_∙_}
+use Prim.Native.Nat.{_+_, _*_, _/_, _≤_}
 use native.Mathlib.Omega.{arith}
 use lib.ListN.{length}
-use Rattle.laws.specs.Lists.{tabFrom}
-use Rattle.reading.specs.Circle.{keptOn}
-use Rattle.reading.proofs.Form.{part-within, part-long, plain-long, plain-circle, stretch-on, stretch-in, front-within, data-front, data-few, data-reach}
+use Rattle.slots.specs.Circle.{heardOn}
+use Rattle.reading.proofs.Rows.{reach-most}
+use Rattle.reading.proofs.Lent.{heard-alike}
+use Rattle.reading.proofs.Form.{part-within, part-long, plain-long, plain-alike, stretch-on, stretch-in, front-within, front-alike, data-few, data-reach}
 use borrow.Author.Needs.{needs}
 use Rattle.reading.proofs.room.read_data.Statement.{statement}
 use Rattle.reading.proofs.room.read_data.Tie as tie
@@ -91,24 +91,27 @@ same-length-2 : tie.Need-same-length-2
 same-length-2 c = search needs
 
 returns : tie.Need-returns
+unfolding heardOn
 returns c =
     let asked = c .before .before .before in
     let then = asked .before .before .before .before .before .before .before in
     let e = then .before .before .before .before .before in
     c .before .before .read-stream .ensures
-    ∙ data-front (e .pre .0) (then .if1 .taken) (then .before .bytes-a-block .ensures) (omega (arith, few then)) (ample then) (e .pre .1 .sized)
-    (asked .before .before .before .before .unpack-places .ensures) (e .args .f) (length (e .args .out .now)) (e .pre .1 .within) (data-reach (e .args .k))
+    ∙ heard-alike (e .args .k) (e .pre .1 .sized)
+    (front-alike (e .pre .0) (then .if1 .taken) (then .before .bytes-a-block .ensures) (omega (arith, few then)) (ample then) (asked .before .before .before .before .unpack-places .ensures))
+    (data-reach (e .args .k)) (e .args .f) (length (e .args .out .now)) (e .pre .1 .within)
 
 same-length-3 : tie.Need-same-length-3
 same-length-3 c = search needs
 
 returns-2 : tie.Need-returns-2
+unfolding heardOn
 returns-2 c =
     let asked = c .before .before .before in
     let e = asked .before .before .before .before .before .before .before in
     c .before .before .read-stream2 .ensures
-    ∙ ap (λ (l : List ℕ). tabFrom (e .args .f) (length (e .args .out .now)) (keptOn l (e .args .k + 4) 0))
-    (plain-circle (e .pre .0) (asked .before .before .before .bytes-a-block .ensures) (asked .before .before .if1 .left))
+    ∙ heard-alike (e .args .k) (e .pre .1 .sized) (plain-alike (e .args .r) (e .args .room .now) (asked .before .before .before .bytes-a-block .ensures) (asked .before .before .if1 .left))
+    (reach-most 0 (e .pre .1 .sized .most)) (e .args .f) (length (e .args .out .now)) (e .pre .1 .within)
 
 pub read-data-spec : {M : Type 1} → statement M
 read-data-spec =
