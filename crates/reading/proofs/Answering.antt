@@ -11,7 +11,7 @@ use lib.ListN.{length, drop}
 use borrow.Author.Tests.{ne-eqb, ltb-true, ltb-false, not-false}
 use borrow.Rule.Slice.PartMut.{midOf}
 use Rattle.refusals.specs.Refusals.{Rule, rule, firstOf, orElse}
-use Rattle.refusals.proofs.Refusals.{Chain, done, next, chained-on, cleared}
+use Rattle.refusals.proofs.Refusals.{Chain, done, next, chained-on, passed, listed}
 use Rattle.segmentation.specs.declared.Segments.{Segments}
 use Rattle.segmentation.specs.Segmentation.{blocks, sizeOf, fillerOf}
 use Rattle.segmentation.specs.Sizes.{badSize, segmentsFor}
@@ -24,7 +24,8 @@ use Rattle.slots.specs.State.{perBlock, roomLength, roomStart, headAt}
 use Rattle.slots.specs.Room.{roomAt, circleAt}
 use Rattle.slots.specs.Circle.{streamsOn}
 use Rattle.slots.specs.Answers.{isDone, unlessRefused}
-use Rattle.slots.specs.Calls.{storeRules, ownerRules, sizeAtHead, readNumber, readOutcome, released, readOutput, streamsNumber, streamsOutcome, streamsOutput}
+use Rattle.codeword.specs.Build.{outputRule}
+use Rattle.slots.specs.Calls.{codeBlockRule, storeRules, ownerRules, sizeAtHead, readNumber, readOutcome, released, readOutput, streamsNumber, streamsOutcome, streamsOutput}
 use Rattle.slots.specs.Reading.{heardAnswer, heardBlock, threeStreams}
 use Rattle.slots.proofs.Accepted.{Fitting, Stored, stored, owned, served}
 use Rattle.reading.specs.Circle.{Stretch}
@@ -73,7 +74,7 @@ module _ {state : State} {store : List ℕ} {slot terminal : ℕ} {out : List �
 
   enough : sizeAtHead state slot ≤ length out
   unfolding readNumber storeRules ownerRules
-  enough = ltb-false (length out) (sizeAtHead state slot) (cleared _ (w .number) (w .zero) tt 5)
+  enough = ltb-false (length out) (sizeAtHead state slot) (passed _ (w .number) (w .zero) tt (outputRule (sizeAtHead state slot) (length out)) (search listed))
 
   abbrev from : ℕ
   from = slot * (state .blocks * perBlock)
@@ -187,11 +188,11 @@ module _ {state : State} {store : List ℕ} {slot terminal r : ℕ} {out : List 
 
   below : r < blocks (A + 24)
   unfolding streamsNumber storeRules ownerRules
-  below = ltb-true r (blocks (A + 24)) (not-false (ltb r (blocks (A + 24))) (cleared _ (w .number) (w .zero) tt 5))
+  below = ltb-true r (blocks (A + 24)) (not-false (ltb r (blocks (A + 24))) (passed _ (w .number) (w .zero) tt (codeBlockRule (A + 24) r) (search listed)))
 
   ample : 3 * (sizeOf (A + 24) r + 4) ≤ length out
   unfolding streamsNumber storeRules ownerRules
-  ample = ltb-false (length out) (3 * (sizeOf (A + 24) r + 4)) (cleared _ (w .number) (w .zero) tt 6)
+  ample = ltb-false (length out) (3 * (sizeOf (A + 24) r + 4)) (passed _ (w .number) (w .zero) tt (outputRule (3 * (sizeOf (A + 24) r + 4)) (length out)) (search listed))
 
   told-is : s ≡ segmentsFor A
   unfolding sizeAtHead
