@@ -1,6 +1,6 @@
 -- What an accepted Receive of 01 may go on: the slot's room lies in the store and has the block's code blocks; and what it is to answer and to store.
 -- Assumes nothing.
-use mathlib.Core.Path.{_≡_, refl, sym, _∙_, ap}
+use mathlib.Core.Path.{_≡_, sym, _∙_, ap}
 use mathlib.Core.Bool.{true, false}
 use mathlib.Core.List.{List}
 use Prim.Native.Nat.{ℕ, _+_, _-_, _*_, _≤_}
@@ -19,6 +19,7 @@ use Rattle.slots.specs.declared.State.{State}
 use Rattle.slots.specs.declared.Outcome.{Outcome}
 use Rattle.slots.specs.declared.Answer.the-variants.{StillLacking}
 use Rattle.slots.specs.State.{perBlock, roomLength, roomStart}
+use Rattle.slots.specs.Room.{agreeing, roomAt, withRoom}
 use Rattle.slots.specs.Reception.{received}
 use Rattle.slots.specs.Reading.{lacking}
 use Rattle.slots.specs.Answers.{unlessRefused}
@@ -27,7 +28,7 @@ use Rattle.slots.proofs.Acceptance.{receives}
 use Rattle.slots.proofs.Accepted.{good, room-within}
 use Rattle.slots.proofs.Buffers.{Wide}
 use Rattle.reading.specs.Room.{roomFits}
-use Rattle.reception.specs.inner.Parts.{roomAfter, Accepted}
+use Rattle.reception.specs.inner.Parts.{Accepted}
 use Rattle.reception.proofs.Slot.{room-accepts, room-received, room-lacking}
 
 -- the room after the bits are put is as long, so the places can be counted
@@ -99,19 +100,22 @@ module _ {state : State} {room slot Q N v : ℕ} {bits : List ℕ} (is : Ready s
 module _ {state : State} {slot Q N v : ℕ} {bits : List ℕ} (store : List ℕ) {size soft : ℕ} (is : Ready state (length store) slot Q N v bits) (sized : size ≡ sizeAtHead state slot) (shared : soft ≡ shareAtHead state slot) where
   pub room-ready : Accepted size soft Q N v bits (length (lent state slot store))
   unfolding roomStart roomLength
-  room-ready = rw (sized, shared) (room-accepts (shareAtHead state slot) (state .blocks) slot (sizeAtHead state slot) Q N v bits store (is .size) (is .wide) (is .fits) (is .version) refl refl (is .within) (is .allocation) (is .given))
+  room-ready = rw (sized, shared) (room-accepts (shareAtHead state slot) (state .blocks) slot (sizeAtHead state slot) Q N v bits store (is .size) (is .wide) (is .fits) (is .version) (is .within) (is .allocation) (is .given))
 
   -- the room came back with the bits in it
   module _ (terminal : ℕ) {number count : ℕ} {last : List ℕ} (told : number ≡ receiveNumber state (length store) slot terminal Q N v bits) (zero : number ≡ 0)
       (kept : length last ≡ length (lent state slot store))
-      (put : (last ≡ roomAfter size soft Q N v bits (lent state slot store)) × (count ≡ lacking 1 0 size last)) where
-    after : putBack state slot store last ≡ received (shareAtHead state slot) (state .blocks) slot (sizeAtHead state slot) Q N v bits store
-    unfolding roomStart roomLength
-    after = room-received (shareAtHead state slot) (state .blocks) slot (sizeAtHead state slot) Q N v bits store (is .size) (is .wide) (is .fits) (is .version) refl refl (is .within) (rw (sized, shared) at (put .0))
+      (put : (last ≡ received agreeing soft size Q N v bits (lent state slot store)) × (count ≡ lacking size last)) where
+    abbrev A : ℕ
+    A = sizeAtHead state slot
 
-    counted : count ≡ lacking (state .blocks) slot (sizeAtHead state slot) (received (shareAtHead state slot) (state .blocks) slot (sizeAtHead state slot) Q N v bits store)
+    after : putBack state slot store last ≡ withRoom (state .blocks) slot (received agreeing (shareAtHead state slot) A Q N v bits (roomAt (state .blocks) slot store)) store
     unfolding roomStart roomLength
-    counted = room-lacking (shareAtHead state slot) (state .blocks) slot (sizeAtHead state slot) Q N v bits store (is .size) (is .wide) (is .fits) (is .version) refl refl (is .within) (rw (sized, shared) at (put .0)) kept (rw sized at (put .1))
+    after = room-received (shareAtHead state slot) (state .blocks) slot A Q N v bits store (is .size) (is .wide) (is .fits) (is .version) (is .within) (rw (sized, shared) at (put .0))
+
+    counted : count ≡ lacking A (roomAt (state .blocks) slot (withRoom (state .blocks) slot (received agreeing (shareAtHead state slot) A Q N v bits (roomAt (state .blocks) slot store)) store))
+    unfolding roomStart roomLength
+    counted = room-lacking (shareAtHead state slot) (state .blocks) slot A Q N v bits store (is .size) (is .wide) (is .fits) (is .version) (is .within) (rw (sized, shared) at (put .0)) kept (rw sized at (put .1))
 
     pub stored : putBack state slot store last ≡ receiveStore state slot terminal Q N v bits store
     unfolding receiveStore

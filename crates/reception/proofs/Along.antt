@@ -1,110 +1,97 @@
--- Laws of bits put at places as they come (`putAlong`, `Put`): one list of places after another, a run of places side by side, and a part that is lent.
+-- Laws of bits put at the first of some places (`putFirst`, `Put`): one list of places after another, a run of places side by side, and a part that is lent.
 -- Assumes nothing.
 use mathlib.Core.Path.{_≡_, refl, sym, _∙_, ap, ap₂, subst}
 use mathlib.Core.List.{List, [], _∷_, _++_, map}
-use Prim.Native.Nat.{ℕ, _+_, _-_, _≤_, _<_, min}
+use Prim.Native.Nat.{ℕ, zero, suc, _+_, _-_, _≤_, _<_, min}
 use native.Mathlib.Nat.{add-zero, add-sub-cancel-left}
 use native.Mathlib.Decide.{decLe}
 use native.Mathlib.Omega.{arith}
 use lib.ListN.{length, getD, take, drop, set, length-append, length-map, length-take, length-drop, drop-of-length-le}
 use lib.Seq.{getD-take, getD-drop, take-all, take-take, take-add, drop-drop, drop-at, take-nil, length-take-le}
-use borrow.Rule.Slice.PartMut.{midOf, putMid, put-same}
+use borrow.Rule.Slice.PartMut.{midOf, putMid}
 use Rattle.laws.specs.Lists.{tab, tabFrom}
 use Rattle.laws.proofs.Parts.{length-mid}
 use Rattle.laws.proofs.Tab.{length-tab, take-tab, getD-tab, tab-split, map-tab, tabFrom-shift}
 use Rattle.rate_matching.specs.Walk.{itself}
-use Rattle.slots.specs.Room.{meet, putBit}
-use Rattle.reception.specs.inner.Parts.{putFrom}
-use Rattle.reception.specs.inner.Along.{putAlong, Put}
-use Rattle.reception.proofs.Putting.{length-putFrom, putFrom-append, putFrom-front, put-in}
+use Rattle.slots.specs.Putting.{putAlong}
+use Rattle.slots.specs.Room.{meet, agreeing}
+use Rattle.slots.proofs.Putting.{length-put}
+use Rattle.reception.specs.inner.Along.{putFirst, Put}
+use Rattle.reception.proofs.Putting.{along-append, along-few, along-in}
+use Rattle.reception.proofs.Ring.{putBit}
 
 -- ---- one bit after another
 
-pub along-none : (js list : List ℕ) → putAlong js [] list ≡ list
-unfolding putAlong putFrom
-along-none js list = refl
+pub first-none : (js list : List ℕ) → putFirst js [] list ≡ list
+unfolding putFirst putAlong agreeing
+first-none js list = refl
 
-along-more : (j b : ℕ) (js bits list : List ℕ) → putAlong (j ∷ js) (b ∷ bits) list ≡ putAlong js bits (putBit list (0 + j) b)
-unfolding putAlong putFrom
-along-more j b js bits list = refl
+first-more : (j b : ℕ) (js bits list : List ℕ) → putFirst (j ∷ js) (b ∷ bits) list ≡ putFirst js bits (putBit list j b)
+unfolding putFirst putAlong agreeing
+first-more j b js bits list = refl
 
-pub length-along : (js bits list : List ℕ) → length (putAlong js bits list) ≡ length list
-unfolding putAlong
-length-along js bits list = length-putFrom 0 (take (length bits) js) bits list
+pub length-first : (js bits list : List ℕ) → length (putFirst js bits list) ≡ length list
+unfolding putFirst
+length-first js bits list = length-put agreeing (take (length bits) js) bits list
 
-no-places : (bits list : List ℕ) → putAlong [] bits list ≡ list
-unfolding putAlong putFrom
-no-places bits list = ap (λ (js : List ℕ). putFrom 0 js bits list) (take-nil (length bits))
+no-places : (bits list : List ℕ) → putFirst [] bits list ≡ list
+unfolding putFirst putAlong agreeing
+no-places bits list = ap (λ (js : List ℕ). putAlong agreeing js bits list) (take-nil (length bits))
 
 -- bits for some places, and then for others
-pub along-append : (js ks bits list : List ℕ) → putAlong (js ++ ks) bits list ≡ putAlong ks (drop (length js) bits) (putAlong js bits list)
-unfolding putAlong putFrom
-along-append [] ks bits list = ap (putAlong ks bits) (sym (no-places bits list))
-along-append (j ∷ js) ks [] list = refl
-along-append (j ∷ js) ks (b ∷ bits) list = along-append js ks bits (putBit list (0 + j) b)
-
--- the places counted from a further on
-along-shift : (a : ℕ) (js bits list : List ℕ) → putFrom (a + 0) (take (length bits) js) bits list ≡ putAlong (map (λ (j : ℕ). a + j) js) bits list
-unfolding putAlong putFrom
-along-shift a [] bits list = rw (take-nil (length bits))
-along-shift a (j ∷ js) [] list = refl
-along-shift a (j ∷ js) (b ∷ bits) list =
-    along-shift a js bits (putBit list (a + 0 + j) b)
-    ∙ ap (λ (n : ℕ). putFrom 0 (take (length bits) (map (λ (j : ℕ). a + j) js)) bits (putBit list n b)) same
-  where
-    same : a + 0 + j ≡ 0 + (a + j)
-    same = omega arith
+pub first-append : (js ks bits list : List ℕ) → putFirst (js ++ ks) bits list ≡ putFirst ks (drop (length js) bits) (putFirst js bits list)
+unfolding putFirst putAlong agreeing
+first-append [] ks bits list = ap (putFirst ks bits) (sym (no-places bits list))
+first-append (j ∷ js) ks [] list = refl
+first-append (j ∷ js) ks (b ∷ bits) list = first-append js ks bits (putBit list j b)
 
 -- ---- a run: places side by side
 
 -- the first i bits have met the front of the run
 pub record Meeting (bits run₀ run : List ℕ) (i : ℕ) : Type 0 where
   pub passed : i ≤ length bits
-  pub told : run ≡ putFrom 0 (tab i itself) bits run₀
+  pub told : run ≡ putAlong agreeing (tab i itself) bits run₀
 
 module _ {bits run₀ : List ℕ} where
   pub meeting-start : Meeting bits run₀ run₀ 0
-  unfolding tab tabFrom putFrom
+  unfolding tab tabFrom putAlong
   meeting-start = record { passed = omega arith; told = refl }
 
   pub meeting-long : {run : List ℕ} {i : ℕ} → Meeting bits run₀ run i → length run ≡ length run₀
-  meeting-long {run} {i} w = ap length (w .told) ∙ length-putFrom 0 (tab i itself) bits run₀
+  meeting-long {run} {i} w = ap length (w .told) ∙ length-put agreeing (tab i itself) bits run₀
 
   pub meeting-next : {run : List ℕ} {i : ℕ} → i < length bits → Meeting bits run₀ run i
       → Meeting bits run₀ (set run i (meet (getD run i 0) (getD bits i 0))) (i + 1)
-  unfolding tab tabFrom putFrom putBit itself
+  unfolding tab tabFrom putAlong agreeing itself
   meeting-next {run} {i} h w = record {
     passed = omega arith;
     told =
         sym
-        (ap (λ (js : List ℕ). putFrom 0 js bits run₀) (tab-split i 1 itself)
-        ∙ putFrom-append 0 (tab i itself) ((i + 0) ∷ []) bits run₀
-        ∙ ap₂ (λ (n : ℕ) (l : List ℕ). putBit l (0 + (i + 0)) (getD (drop n bits) 0 0)) (length-tab i itself) (sym (w .told))
-        ∙ ap₂ (λ (n b : ℕ). putBit run n b) here (getD-drop i bits 0 0 ∙ ap (λ (n : ℕ). getD bits n 0) (add-zero i)));
+        (ap (λ (js : List ℕ). putAlong agreeing js bits run₀) (tab-split i 1 itself)
+        ∙ along-append agreeing (tab i itself) ((i + 0) ∷ []) bits run₀
+        ∙ ap₂ (λ (n : ℕ) (l : List ℕ). putBit l (i + 0) (getD (drop n bits) 0 0)) (length-tab i itself) (sym (w .told))
+        ∙ ap₂ (λ (n b : ℕ). putBit run n b) (add-zero i) (getD-drop i bits 0 0 ∙ ap (λ (n : ℕ). getD bits n 0) (add-zero i)));
   }
-    where
-      here : 0 + (i + 0) ≡ i
-      here = omega arith
 
-  pub meeting-finish : {run : List ℕ} {i : ℕ} → length bits ≤ i → Meeting bits run₀ run i → run ≡ putAlong (tab (length bits) itself) bits run₀
-  unfolding putAlong
+  pub meeting-finish : {run : List ℕ} {i : ℕ} → length bits ≤ i → Meeting bits run₀ run i → run ≡ putFirst (tab (length bits) itself) bits run₀
+  unfolding putFirst
   meeting-finish {run} {i} h w =
       let all : i ≡ length bits = omega (arith, w .passed) in
       w .told
-      ∙ ap (λ (js : List ℕ). putFrom 0 js bits run₀) (ap (λ (n : ℕ). tab n itself) all ∙ sym (take-all (length bits) (tab (length bits) itself) (omega (arith, length-tab (length bits) itself))))
+      ∙ ap (λ (js : List ℕ). putAlong agreeing js bits run₀) (ap (λ (n : ℕ). tab n itself) all ∙ sym (take-all (length bits) (tab (length bits) itself) (omega (arith, length-tab (length bits) itself))))
 
 -- n bits at the front of a run, as many as there are of both
 pub run-met : (bits run : List ℕ) {at n : ℕ} {run′ : List ℕ} → at ≤ length bits → n ≡ min (length bits - at) (length run)
-    → (let src = midOf at (at + n - at) bits in run′ ≡ putAlong (tab (length src) itself) src run) → Put (tab (length run) itself) bits at run run′ (at + n)
-unfolding putAlong
+    → (let src = midOf at (at + n - at) bits in run′ ≡ putFirst (tab (length src) itself) src run) → Put (tab (length run) itself) bits at run run′ (at + n)
+unfolding putFirst
 run-met bits run {at} {n} {run′} h e t = record {
   told =
       t
-      ∙ ap (λ (m : ℕ). putFrom 0 (take m (tab m itself)) src run) long
-      ∙ ap (λ (js : List ℕ). putFrom 0 js src run) (take-all n (tab n itself) (omega (arith, length-tab n itself)))
-      ∙ ap (λ (m : ℕ). putFrom 0 (tab n itself) (take m (drop at bits)) run) (add-sub-cancel-left at n)
-      ∙ putFrom-front 0 (tab n itself) n (drop at bits) run (omega (arith, length-tab n itself))
-      ∙ ap (λ (js : List ℕ). putFrom 0 js (drop at bits) run) (sym places);
+      ∙ ap (λ (m : ℕ). putAlong agreeing (take m (tab m itself)) src run) long
+      ∙ ap (λ (js : List ℕ). putAlong agreeing js src run) (take-all n (tab n itself) (omega (arith, length-tab n itself)))
+      ∙ ap (λ (m : ℕ). putAlong agreeing (tab n itself) (take m (drop at bits)) run) (add-sub-cancel-left at n)
+      ∙ along-few agreeing (tab n itself) n (drop at bits) run (omega (arith, length-tab n itself))
+      ∙ ap (λ (js : List ℕ). putAlong agreeing js (drop at bits) run) (sym places);
   ends = rw (length-tab (length run) itself) (omega arith);
 }
   where
@@ -128,8 +115,8 @@ module _ {js ks bits list₀ list₁ list₂ : List ℕ} {at i j : ℕ} where
   put-append h p q = record {
     told =
         q .told
-        ∙ ap₂ (putAlong ks) left (p .told)
-        ∙ sym (along-append js ks (drop at bits) list₀);
+        ∙ ap₂ (putFirst ks) left (p .told)
+        ∙ sym (first-append js ks (drop at bits) list₀);
     ends = q .ends ∙ rw (p .ends, length-append js ks) (omega arith);
   }
     where
@@ -144,7 +131,7 @@ module _ {js ks bits list₀ list₁ list₂ : List ℕ} {at i j : ℕ} where
 
 -- no bit
 pub put-nothing : (js bits : List ℕ) {list : List ℕ} → length bits ≡ 0 → Put js bits 0 list list 0
-put-nothing js [] {list} e = record { told = sym (along-none js list); ends = omega arith }
+put-nothing js [] {list} e = record { told = sym (first-none js list); ends = omega arith }
 put-nothing js (b ∷ bits) e = absurd (omega arith)
 
 -- what is put, said in another way
@@ -153,7 +140,7 @@ put-as {bits = bits} {list = list} {list′ = list′} {at = at} {i = i} e p = s
 
 module _ {js bits list list′ : List ℕ} {at i : ℕ} (p : Put js bits at list list′ i) where
   pub put-long : length list′ ≡ length list
-  put-long = ap length (p .told) ∙ length-along js (drop at bits) list
+  put-long = ap length (p .told) ∙ length-first js (drop at bits) list
 
   pub put-within : i ≤ length bits
   put-within = omega (arith, p .ends)
@@ -164,14 +151,14 @@ put-none {bits} {list} at h = record { told = sym (no-places (drop at bits) list
 -- no more bits are lent than n places take
 pub put-first : (n : ℕ) {js bits list list′ : List ℕ} {at m r : ℕ} → at ≤ length bits → m ≡ min (length bits - at) n
     → Put js (take (at + m) bits) at list list′ r → Put (take n js) bits at list list′ r
-unfolding putAlong
+unfolding putFirst
 put-first n {js} {bits} {list} {list′} {at} {m} {r} h e p = record {
   told =
       p .told
-      ∙ ap (λ (bs : List ℕ). putFrom 0 (take (length bs) js) bs list) left
-      ∙ ap (λ (k : ℕ). putFrom 0 (take k js) (take m (drop at bits)) list) long
-      ∙ putFrom-front 0 (take m js) m (drop at bits) list (omega (arith, length-take m js))
-      ∙ ap (λ (ks : List ℕ). putFrom 0 ks (drop at bits) list) places;
+      ∙ ap (λ (bs : List ℕ). putAlong agreeing (take (length bs) js) bs list) left
+      ∙ ap (λ (k : ℕ). putAlong agreeing (take k js) (take m (drop at bits)) list) long
+      ∙ along-few agreeing (take m js) m (drop at bits) list (omega (arith, length-take m js))
+      ∙ ap (λ (ks : List ℕ). putAlong agreeing ks (drop at bits) list) places;
   ends = p .ends ∙ ends;
 }
   where
@@ -199,21 +186,25 @@ put-first n {js} {bits} {list} {list′} {at} {m} {r} h e p = record {
 
 -- ---- a part that is lent
 
+map-take : (f : ℕ → ℕ) (n : ℕ) (js : List ℕ) → map f (take n js) ≡ take n (map f js)
+map-take f zero js = refl
+map-take f (suc n) [] = refl
+map-take f (suc n) (j ∷ js) = ap (λ (l : List ℕ). f j ∷ l) (map-take f n js)
+
 module _ {bits part : List ℕ} {at r : ℕ} (list : List ℕ) (s e : ℕ) (low : s ≤ e) (within : e ≤ length list) where
   -- bits for places of the part
   pub put-lent : (js : List ℕ) → ((i : ℕ) → i < length js → getD js i 0 < e - s) → Put js bits at (midOf s (e - s) list) part r
       → Put (map (λ (j : ℕ). s + j) js) bits at list (putMid s (e - s) list part) r
-  unfolding putAlong
+  unfolding putFirst
   put-lent js inside p = record {
     told =
         ap (putMid s (e - s) list) (p .told)
-        ∙ sym (put-in s (e - s) list (omega arith) 0 (take (length (drop at bits)) js) (drop at bits) (midOf s (e - s) list) few)
-        ∙ ap (λ (l : List ℕ). putFrom (s + 0) (take (length (drop at bits)) js) (drop at bits) l) (put-same s (e - s) list)
-        ∙ along-shift s js (drop at bits) list;
+        ∙ along-in agreeing s (e - s) list (take (length (drop at bits)) js) (drop at bits) few (omega arith)
+        ∙ ap (λ (ks : List ℕ). putAlong agreeing ks (drop at bits) list) (map-take (λ (j : ℕ). s + j) (length (drop at bits)) js);
     ends = p .ends ∙ ap (λ (n : ℕ). min (at + n) (length bits)) (sym (length-map js (λ (j : ℕ). s + j)));
   }
     where
-      few : (i : ℕ) → i < length (take (length (drop at bits)) js) → 0 + getD (take (length (drop at bits)) js) i 0 < length (midOf s (e - s) list)
+      few : (i : ℕ) → i < length (take (length (drop at bits)) js) → getD (take (length (drop at bits)) js) i 0 < length (midOf s (e - s) list)
       few i h =
           let l : i < min (length (drop at bits)) (length js) = rw length-take at h in
           rw (getD-take (length (drop at bits)) js i 0 (omega arith), length-mid s e list within) (omega (arith, inside i (omega arith)))

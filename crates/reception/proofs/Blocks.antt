@@ -2,15 +2,15 @@
 -- Assumes nothing.
 use mathlib.Core.Path.{_≡_, refl, sym, _∙_, ap, ap₂}
 use mathlib.Core.Bool.{false}
-use mathlib.Core.List.{List}
+use mathlib.Core.List.{List, _++_}
 use Prim.Native.Nat.{ℕ, suc, _+_, _-_, _*_, _≤_, _<_}
-use native.Mathlib.Nat.{add-zero, sub-zero, add-sub-cancel-left, mul-le-mul-right}
+use native.Mathlib.Nat.{sub-zero, add-sub-cancel-left, mul-le-mul-right}
 use native.Mathlib.Numerals.{add-one}
 use native.Mathlib.Omega.{arith}
 use lib.ListN.{length, getD, take, drop}
-use borrow.Rule.Slice.PartMut.{midOf, putMid, put-same}
+use borrow.Rule.Slice.PartMut.{midOf, putMid}
 use Rattle.laws.proofs.Tab.{length-tab, getD-tab}
-use Rattle.laws.proofs.Parts.{length-mid, length-put}
+use Rattle.laws.proofs.Parts.{length-mid, length-put as length-putMid}
 use Rattle.segmentation.specs.declared.Segments.{Segments}
 use Rattle.segmentation.specs.Segmentation.{blocks, sizeOf, fillerOf}
 use Rattle.segmentation.specs.Sizes.{badSize, segmentsFor}
@@ -25,15 +25,17 @@ use Rattle.codeword.specs.Build.{shareOf}
 use Rattle.codeword.proofs.Accepted.{allocated, share-told}
 use Rattle.codeword.proofs.Shares.{stretch-within}
 use Rattle.codeword.proofs.Segmented.{sized-in}
-use Rattle.slots.specs.State.{perBlock, roomLength, roomStart}
-use Rattle.slots.specs.Room.{byteOf}
-use Rattle.slots.specs.Reception.{blockPlaces, putBits, putBlocks, received}
+use Rattle.slots.specs.State.{perBlock}
+use Rattle.slots.specs.Putting.{putAlong}
+use Rattle.slots.specs.Room.{agreeing, circleAt, withCircle}
+use Rattle.slots.specs.Reception.{blockPlaces, blockValues, putOn, putBlocks, received}
+use Rattle.slots.proofs.Putting.{length-put}
 use Rattle.slots.proofs.Buffers.{Wide}
 use Rattle.slots.proofs.PlaceBounds.{block-cut}
 use Rattle.reading.proofs.Blocks.{streams, filler-below}
-use Rattle.reception.specs.inner.Parts.{putFrom, partAfter, roomAfter, Accepted}
+use Rattle.reception.specs.inner.Parts.{partAfter, Accepted}
 use Rattle.reception.specs.inner.Along.{Sends}
-use Rattle.reception.proofs.Putting.{length-putFrom, putFrom-front, put-in, putBits-is}
+use Rattle.reception.proofs.Putting.{along-few, along-part}
 
 -- ---- the code blocks of a block of A bits, A in range
 
@@ -74,22 +76,22 @@ pub record Blocks (A soft Q N v : ℕ) (bits room₀ room : List ℕ) (at from r
   pub starts : at ≡ sharesBefore (blocks (A + 24)) Q N (length bits) r
   pub begins : from ≡ r * perBlock
   pub long : length room ≡ length room₀
-  pub told : putBlocks soft 1 0 (A + 24) Q N v bits r (blocks (A + 24) - r) room ≡ roomAfter A soft Q N v bits room₀
+  pub told : putBlocks agreeing soft (A + 24) Q N v bits r (blocks (A + 24) - r) room ≡ received agreeing soft A Q N v bits room₀
 
 module _ {A soft Q N v : ℕ} {bits room₀ : List ℕ} where
   pub blocks-start : Blocks A soft Q N v bits room₀ room₀ 0 0 0
-  unfolding sharesBefore roomAfter received
+  unfolding sharesBefore received
   blocks-start = record {
     passed = omega arith;
     starts = refl;
     begins = omega arith;
     long = refl;
-    told = ap (λ (n : ℕ). putBlocks soft 1 0 (A + 24) Q N v bits 0 n room₀) (sub-zero (blocks (A + 24)));
+    told = ap (λ (n : ℕ). putBlocks agreeing soft (A + 24) Q N v bits 0 n room₀) (sub-zero (blocks (A + 24)));
   }
 
-  pub blocks-finish : {room : List ℕ} {at from r : ℕ} → blocks (A + 24) ≤ r → Blocks A soft Q N v bits room₀ room at from r → room ≡ roomAfter A soft Q N v bits room₀
+  pub blocks-finish : {room : List ℕ} {at from r : ℕ} → blocks (A + 24) ≤ r → Blocks A soft Q N v bits room₀ room at from r → room ≡ received agreeing soft A Q N v bits room₀
   unfolding putBlocks
-  blocks-finish {room} {at} {from} {r} h b = sym (ap (λ (n : ℕ). putBlocks soft 1 0 (A + 24) Q N v bits r n room) none) ∙ b .told
+  blocks-finish {room} {at} {from} {r} h b = sym (ap (λ (n : ℕ). putBlocks agreeing soft (A + 24) Q N v bits r n room) none) ∙ b .told
     where
       none : blocks (A + 24) - r ≡ 0
       none = omega arith
@@ -112,16 +114,15 @@ module _ {A soft Q N v : ℕ} {bits room₀ : List ℕ} where
         → circleLength (rows D) ≤ L → L ≤ perBlock
         → part ≡ partAfter D F (cutAt soft (rows D)) v (midOf at (at + E - at) bits) (midOf from (from + L - from) room)
         → Blocks A soft Q N v bits room₀ (putMid from (from + L - from) room part) (at + E) (from + perBlock) (r + 1)
-    unfolding putBlocks partAfter blockPlaces blockCut blockRows byteOf roomStart roomLength sharesBefore sentPlaces
+    unfolding putBlocks putOn withCircle circleAt partAfter blockPlaces blockValues blockCut blockRows sharesBefore sentPlaces
     blocks-next {E} {D} {F} {L} {part} e d f enough most s = record {
       passed = omega arith;
       starts = ap₂ (λ (x y : ℕ). x + y) (b .starts) (share-is e) ∙ ap (sharesBefore C Q N G) (sym (add-one r));
       begins = omega (arith, b .begins);
-      long = length-put from (from + L) room part within as-long ∙ b .long;
+      long = length-putMid from (from + L) room part within as-long ∙ b .long;
       told =
-          ap₂ (λ (q : ℕ) (l : List ℕ). putBlocks soft 1 0 (A + 24) Q N v bits q (C - (r + 1)) l) (add-one r)
-          (put ∙ ap (λ (n : ℕ). putBits 1 0 r js (drop n bits) room) (b .starts))
-          ∙ ap (λ (n : ℕ). putBlocks soft 1 0 (A + 24) Q N v bits r n room) one
+          ap₂ (λ (q : ℕ) (l : List ℕ). putBlocks agreeing soft (A + 24) Q N v bits q (C - (r + 1)) l) (add-one r) put
+          ∙ ap (λ (n : ℕ). putBlocks agreeing soft (A + 24) Q N v bits r n room) one
           ∙ b .told;
     }
       where
@@ -168,24 +169,20 @@ module _ {A soft Q N v : ℕ} {bits room₀ : List ℕ} where
               share-is e,
             )
 
-        part-is : part ≡ putFrom 0 js (drop at bits) mid
+        part-is : part ≡ putAlong agreeing js (drop at bits) mid
         part-is =
             s
-            ∙ ap (λ (l : List ℕ). putFrom 0 l (midOf at (at + E - at) bits) mid) places
-            ∙ putFrom-front 0 js (at + E - at) (drop at bits) mid few
+            ∙ ap (λ (l : List ℕ). putAlong agreeing l (midOf at (at + E - at) bits) mid) places
+            ∙ along-few agreeing js (at + E - at) (drop at bits) mid few
 
         as-long : length part ≡ from + L - from
-        as-long = ap length part-is ∙ length-putFrom 0 js (drop at bits) mid ∙ length-mid from (from + L) room within
+        as-long = ap length part-is ∙ length-put agreeing js (drop at bits) mid ∙ length-mid from (from + L) room within
 
-        below : (i : ℕ) → i < length js → 0 + getD js i 0 < length mid
+        below : (i : ℕ) → i < length js → getD js i 0 < length mid
         below i l = rw mid-long (omega (arith, sent-on (block-sends A (ok .size) (ok .wide) (ok .version) r) (share C Q N G r) i l, ap (λ (x : ℕ). circleLength (rows x)) d))
 
-        there : from ≡ 0 * (1 * perBlock) + (r * perBlock + 0)
-        there = omega (arith, b .begins)
-
-        put : putMid from k room part ≡ putBits 1 0 r js (drop at bits) room
+        put : putMid from k room part ≡ withCircle r (putOn agreeing soft (A + 24) Q N v bits r (circleAt r room)) room
         put =
             ap (putMid from k room) part-is
-            ∙ sym (put-in from k room (omega (arith, within)) 0 js (drop at bits) mid below)
-            ∙ ap₂ (λ (n : ℕ) (l : List ℕ). putFrom n js (drop at bits) l) (add-zero from) (put-same from k room)
-            ∙ sym (putBits-is 1 0 r js (drop at bits) room there)
+            ∙ along-part agreeing from k room js (drop at bits) below
+            ∙ ap₂ (λ (m n : ℕ). take m room ++ putAlong agreeing js (drop n bits) (drop m room)) (b .begins) (b .starts)

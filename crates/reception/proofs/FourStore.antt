@@ -17,13 +17,15 @@ use Rattle.codeword.specs.Build.{badAllocation, badVersion, badBits}
 use Rattle.slots.specs.declared.State.{State}
 use Rattle.slots.specs.declared.Outcome.{Outcome}
 use Rattle.slots.specs.declared.Answer.the-variants.{StillLacking, Refused}
+use Rattle.slots.specs.Room.{agreeing}
+use Rattle.slots.specs.Reception.{received}
 use Rattle.slots.specs.Answers.{unlessRefused}
 use Rattle.slots.specs.Reading.{lacking}
 use Rattle.slots.specs.Calls.{ownerRules, sizeAtHead, shareAtHead, receiveNumber, receiveStore, receiveOutcome}
 use Rattle.packing.specs.Store.{placesAByte, bytesABlock, placesIn, inForm, placesAsked}
 use Rattle.packing.proofs.Stores.{places-are, places-put, form-back, asked-enough}
 use Rattle.reading.proofs.Form.{room-there, room-places}
-use Rattle.reception.specs.inner.Parts.{roomAfter, Accepted}
+use Rattle.reception.specs.inner.Parts.{Accepted}
 use Rattle.reception.proofs.Accepts.{Ready, roomBytes, roomFrom, lent, putBack, room-in, room-ready, stored, answered}
 
 -- what Receive asks of the store's length
@@ -79,7 +81,7 @@ module _ {state : State} {slot Q N v : ℕ} {bits : List ℕ} (store : List ℕ)
     -- the bytes came back with the bits in them
     module _ (terminal : ℕ) {number count : ℕ} (last : List ℕ) (told : number ≡ receiveNumber state (length (placesIn true store)) slot terminal Q N v bits) (zero : number ≡ 0)
         (kept : length last ≡ length (lentBytes state slot store))
-        (put : (placesIn true last ≡ roomAfter size soft Q N v bits (placesIn true (lentBytes state slot store))) × (count ≡ lacking 1 0 size (placesIn true last))) where
+        (put : (placesIn true last ≡ received agreeing soft size Q N v bits (placesIn true (lentBytes state slot store))) × (count ≡ lacking size (placesIn true last))) where
       back : placesIn true (bytesBack state slot store last) ≡ putBack state slot (placesIn true store) (placesIn true last)
       unfolding placesAByte
       back =
@@ -95,8 +97,8 @@ module _ {state : State} {slot Q N v : ℕ} {bits : List ℕ} (store : List ℕ)
       as-long : length (placesIn true last) ≡ length (lent state slot (placesIn true store))
       as-long = four-times last ∙ ap (λ (n : ℕ). 4 * n) kept ∙ sym (four-times (lentBytes state slot store)) ∙ ap length lent-places
 
-      has : (placesIn true last ≡ roomAfter size soft Q N v bits (lent state slot (placesIn true store))) × (count ≡ lacking 1 0 size (placesIn true last))
-      has = (put .0 ∙ ap (roomAfter size soft Q N v bits) lent-places, put .1)
+      has : (placesIn true last ≡ received agreeing soft size Q N v bits (lent state slot (placesIn true store))) × (count ≡ lacking size (placesIn true last))
+      has = (put .0 ∙ ap (received agreeing soft size Q N v bits) lent-places, put .1)
 
       pub bytes-stored : EachBelow 256 (bytesBack state slot store last) → bytesBack state slot store last ≡ inForm true (receiveStore state slot terminal Q N v bits (placesIn true store))
       bytes-stored below =

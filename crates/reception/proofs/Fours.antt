@@ -1,7 +1,7 @@
 -- Receive on rooms with four places a byte, 02 E7: one code block by way of its unpacked circle, and the loop over the code blocks with its count.
 -- Assumes nothing.
 use mathlib.Core.Path.{_≡_, refl, sym, _∙_, ap, ap₂, subst}
-use mathlib.Core.Bool.{Bool, true, false, cond, _||_}
+use mathlib.Core.Bool.{Bool, true, false, cond, not, _||_}
 use mathlib.Core.List.{List, [], _∷_, _++_, append-nil, map}
 use Prim.Native.Nat.{ℕ, zero, suc, _+_, _-_, _*_, _/_, _≤_, _<_, min}
 use native.Mathlib.Nat.{add-sub-cancel-left}
@@ -13,56 +13,57 @@ use borrow.Author.Tests.{le-ltb}
 use borrow.Rule.Slice.PartMut.{midOf, putMid}
 use Rattle.laws.specs.Bits.{EachBelow, AreBits}
 use Rattle.laws.proofs.AreBits.{drop-below}
-use Rattle.laws.proofs.Parts.{length-mid, length-put, getD-put-in}
+use Rattle.laws.proofs.Parts.{length-mid, length-put as length-putMid, getD-put-in}
 use Rattle.segmentation.specs.Segmentation.{blocks, sizeOf, fillerOf}
 use Rattle.rate_matching.specs.SubBlocks.{rows}
 use Rattle.rate_matching.specs.Circle.{circleLength, cutAt}
-use Rattle.rate_matching.specs.Places.{placeNumber, placeOf}
-use Rattle.rate_matching.proofs.Places.{place-on-circle}
 use Rattle.codeword.specs.Build.{shareOf, badVersion}
-use Rattle.slots.specs.State.{perBlock, roomStart}
-use Rattle.slots.specs.Room.{disputed, isUnheard, heard, meet, byteOf, putBit}
-use Rattle.slots.specs.Reading.{keptAt, lacks, sumFrom, lackingIn, lacking}
-use Rattle.slots.specs.Reception.{putBlocks}
+use Rattle.slots.specs.State.{perBlock}
+use Rattle.slots.specs.Putting.{putAlong}
+use Rattle.slots.specs.Room.{disputed, hasValue, meet, agreeing, circleAt}
+use Rattle.slots.specs.Circle.{keptOn, missing, missingOn, sumFrom, lackingOn}
+use Rattle.slots.specs.Reading.{lackingIn, lacking}
+use Rattle.slots.specs.Reception.{putBlocks, received}
+use Rattle.slots.proofs.Putting.{length-put}
 use Rattle.slots.proofs.Sums.{sumFrom-ext}
 use Rattle.slots.proofs.PlaceBounds.{place-below, sent-below}
-use Rattle.slots.proofs.RoomLaws.{putBlocks-out, byte-block}
+use Rattle.slots.proofs.RoomLaws.{circle-entry, putBlocks-out}
 use Rattle.packing.specs.Packing.{inTwoBits, packed, packedOver, unpacked, unpackedOver}
 use Rattle.packing.specs.Store.{placesAByte, placesIn}
 use Rattle.packing.proofs.Places.{two-bits-keep, place-lt}
 use Rattle.packing.proofs.Forms.{length-packed, length-unpacked, there-and-back}
 use Rattle.packing.proofs.Stores.{getD-unpacked, places-are, places-mid, places-put}
-use Rattle.reading.specs.Circle.{keptOn, missing, missingOn, countable}
+use Rattle.reading.specs.Circle.{Streams, reachOf, countable}
 use Rattle.reading.proofs.Sums.{Summing, start, next, finish}
 use Rattle.reading.proofs.Lacking.{countable-is, block-few}
+use Rattle.reading.proofs.Lent.{Alike, lacking-alike}
 use Rattle.reading.proofs.Blocks.{few, filler-below}
-use Rattle.reception.specs.inner.Parts.{putFrom, partAfter, roomAfter, Accepted}
+use Rattle.reception.specs.inner.Parts.{partAfter, Accepted}
 use Rattle.reception.specs.inner.Along.{Sends}
-use Rattle.reception.proofs.Putting.{length-putFrom}
+use Rattle.reception.proofs.Ring.{putBit}
 use Rattle.reception.proofs.Blocks.{Blocks, block-sends, blocks-start, blocks-next, blocks-finish, part-within, bits-within}
 
 -- ---- two bits are enough for a place that was unpacked and takes bits
 
 meet-below : (old new : ℕ) → new < 2 → meet old new < 4
 unfolding meet
-meet-below old new h = go (isUnheard old || eqb old new)
+meet-below old new h = go (not (hasValue old) || eqb old new)
   where
     go : (b : Bool) → cond b new disputed < 4
     go true = omega arith
     go false = lit< tt
 
 put-below : (l : List ℕ) (k b : ℕ) → EachBelow 4 l → b < 2 → EachBelow 4 (putBit l k b)
-unfolding putBit
 put-below [] k b h g i = h i
 put-below (x ∷ l) zero b h g zero = meet-below x b g
 put-below (x ∷ l) zero b h g (suc i) = h (suc i)
 put-below (x ∷ l) (suc k) b h g zero = h 0
 put-below (x ∷ l) (suc k) b h g (suc i) = put-below l k b (λ n. h (suc n)) g i
 
-from-below : (js bits l : List ℕ) → AreBits bits → EachBelow 4 l → EachBelow 4 (putFrom 0 js bits l)
-unfolding putFrom
+from-below : (js bits l : List ℕ) → AreBits bits → EachBelow 4 l → EachBelow 4 (putAlong agreeing js bits l)
+unfolding putAlong agreeing
 from-below [] bits l are h = h
-from-below (j ∷ js) bits l are h = from-below js (drop 1 bits) (putBit l (0 + j) (getD bits 0 0)) (drop-below 2 1 bits are) (put-below l (0 + j) (getD bits 0 0) h (are 0))
+from-below (j ∷ js) bits l are h = from-below js (drop 1 bits) (putBit l j (getD bits 0 0)) (drop-below 2 1 bits are) (put-below l j (getD bits 0 0) h (are 0))
 
 places-below : (bytes : List ℕ) → EachBelow 4 (placesIn true bytes)
 unfolding placesIn
@@ -121,7 +122,7 @@ module _ {K F soft v : ℕ} (bits part circle : List ℕ) {circle₁ circle₂ p
 
   as-long : length circle₂ ≡ 4 * length part
   unfolding partAfter placesIn
-  as-long = ap length p ∙ length-putFrom 0 _ bits circle₁ ∙ ap length first ∙ length-unpacked (length part) part
+  as-long = ap length p ∙ length-put agreeing _ bits circle₁ ∙ ap length first ∙ length-unpacked (length part) part
 
   there : placesIn true part′ ≡ circle₂
   unfolding partAfter
@@ -130,11 +131,11 @@ module _ {K F soft v : ℕ} (bits part circle : List ℕ) {circle₁ circle₂ p
   pub part-stored : placesIn true part′ ≡ partAfter (K + 4) F (cutAt soft (rows (K + 4))) v bits (placesIn true part)
   part-stored = there ∙ p ∙ ap (partAfter (K + 4) F (cutAt soft (rows (K + 4))) v bits) first
 
-  pub part-counted : {n : ℕ} → n ≡ cond (countable (length circle₂) K F) (sumFrom (missingOn circle₂ (K + 4)) F (K - F)) 0 → n ≡ sumFrom (missingOn (placesIn true part′) (K + 4)) F (K - F)
+  pub part-counted : {n : ℕ} → n ≡ cond (countable (length circle₂) K F) (lackingOn circle₂ K F) 0 → n ≡ lackingOn (placesIn true part′) K F
   part-counted c =
       c
       ∙ rw (countable-is {long = length circle₂} {K = K} {F = F} low (record { least = ok .walked .least; most = ok .walked .most; bytes = ok .walked .some }) (omega (arith, as-long, e, ok .walked .fits)))
-      (ap (λ (l : List ℕ). sumFrom (missingOn l (K + 4)) F (K - F)) (sym there))
+      (ap (λ (l : List ℕ). lackingOn l K F) (sym there))
 
 -- ---- the loop over the code blocks
 
@@ -149,7 +150,7 @@ sends-in w h = record {
 pub record Filling (A soft Q N v : ℕ) (bits room₀ room : List ℕ) (n at from r : ℕ) : Type 0 where
   pub long : length room ≡ length room₀
   pub put : Blocks A soft Q N v bits (placesIn true room₀) (placesIn true room) at (4 * from) r
-  pub sum : Summing (lackingIn 1 0 (A + 24) (roomAfter A soft Q N v bits (placesIn true room₀))) (blocks (A + 24)) 6144 r n
+  pub sum : Summing (lackingIn (A + 24) (received agreeing soft A Q N v bits (placesIn true room₀))) (blocks (A + 24)) 6144 r n
 
 four-times : (l : List ℕ) → length (placesIn true l) ≡ 4 * length l
 unfolding placesAByte
@@ -160,26 +161,28 @@ module _ {A soft Q N v : ℕ} {bits room₀ : List ℕ} where
   filling-start = record { long = refl; put = blocks-start; sum = start }
 
   pub filling-finish : {room : List ℕ} {n at from r : ℕ} → blocks (A + 24) ≤ r → Filling A soft Q N v bits room₀ room n at from r
-      → (placesIn true room ≡ roomAfter A soft Q N v bits (placesIn true room₀)) × (n ≡ lacking 1 0 A (placesIn true room))
+      → (placesIn true room ≡ received agreeing soft A Q N v bits (placesIn true room₀)) × (n ≡ lacking A (placesIn true room))
   unfolding lacking
   filling-finish h w =
       let told = blocks-finish h (w .put) in
-      (told, finish h (w .sum) ∙ ap (λ (l : List ℕ). sumFrom (lackingIn 1 0 (A + 24) l) 0 (blocks (A + 24))) (sym told))
+      (told, finish h (w .sum) ∙ ap (λ (l : List ℕ). sumFrom (lackingIn (A + 24) l) 0 (blocks (A + 24))) (sym told))
 
 module _ {A soft Q N v : ℕ} {bits : List ℕ} (room₀ : List ℕ) (given : Accepted A soft Q N v bits (4 * length room₀)) where
   ok : Accepted A soft Q N v bits (length (placesIn true room₀))
   ok = rw (four-times room₀) given
 
   -- what the code blocks after r take leaves code block r as it is
-  later-keep : (r n : ℕ) (places : List ℕ) → lackingIn 1 0 (A + 24) (putBlocks soft 1 0 (A + 24) Q N v bits (r + 1) n places) r ≡ lackingIn 1 0 (A + 24) places r
-  unfolding lackingIn lacks keptAt badVersion
-  later-keep r n places =
+  later-keep : (r n : ℕ) (places : List ℕ) → (r + 1 + n) * perBlock ≤ length places
+      → lackingIn (A + 24) (putBlocks agreeing soft (A + 24) Q N v bits (r + 1) n places) r ≡ lackingIn (A + 24) places r
+  unfolding lackingIn lackingOn missingOn keptOn agreeing badVersion
+  later-keep r n places fits =
       sumFrom-ext _ _ (fillerOf (A + 24) r) (sizeOf (A + 24) r - fillerOf (A + 24) r)
-      (λ i a b. ap (λ (x : ℕ). cond (heard x) 0 1)
+      (λ i a b. ap missing
       (let below = place-below A (ok .size) r 0 i (omega arith) (omega (arith, filler-below A (ok .size) r)) in
-      putBlocks-out soft 1 0 (A + 24) Q N v bits (r + 1) n places _
-      (λ q. sent-below A (ok .size) (ok .wide) Q N v (length bits) q (le-ltb 3 v (ok .version)))
-      (λ q j l g k e. let same : r ≡ q = byte-block 1 0 r _ q j below k e in omega arith)))
+      circle-entry r _ _ 0
+      ∙ putBlocks-out agreeing soft (A + 24) Q N v bits (λ q. sent-below A (ok .size) (ok .wide) Q N v (length bits) q (le-ltb 3 v (ok .version))) (r + 1) n places fits _
+      (λ q j l g m e. omega (arith, below))
+      ∙ sym (circle-entry r places _ 0)))
 
   -- the stretch of the bits that is lent
   pub stretch-within : {room : List ℕ} {n at from r : ℕ} → r < blocks (A + 24) → Filling A soft Q N v bits room₀ room n at from r → {E : ℕ}
@@ -221,7 +224,7 @@ module _ {A soft Q N v : ℕ} {bits : List ℕ} (room₀ : List ℕ) (given : Ac
 
     module _ {E x : ℕ} (part : List ℕ) (e : E ≡ shareOf (blocks (A + 24)) Q N (length bits) r) (kept : length part ≡ length (midOf from (to - from) room))
         (stored : placesIn true part ≡ partAfter (K + 4) F (cutAt soft (rows (K + 4))) v (midOf at (at + E - at) bits) (placesIn true (midOf from (to - from) room)))
-        (count : x ≡ sumFrom (missingOn (placesIn true part) (K + 4)) F (K - F)) where
+        (count : x ≡ lackingOn (placesIn true part) K F) where
       span : 4 * to - 4 * from ≡ 4 * from + L - 4 * from
       unfolding circleLength
       span = omega arith
@@ -250,42 +253,44 @@ module _ {A soft Q N v : ℕ} {bits : List ℕ} (room₀ : List ℕ) (given : Ac
       unfolding circleLength
       part-long = four-times part ∙ omega (arith, kept, lent-long)
 
-      -- a data place of the code block in the room
-      kept-there : (i : ℕ) → i < K → getD (placesIn true part) (placeNumber (K + 4) 0 i) 0 ≡ keptAt 1 0 (A + 24) (placesIn true (putMid from (to - from) room part)) r 0 i
-      unfolding keptAt byteOf roomStart placeOf
-      kept-there i l =
-          sym
-          (ap₂ (λ (m : List ℕ) (n : ℕ). getD m n 0) put-places place
-          ∙ getD-put-in (4 * from) (4 * from + L - 4 * from) (placesIn true room) (placesIn true part) j 0 (omega (arith, four-times room, bytes-within)) (omega (arith, part-long, on-circle)))
-        where
-          j : ℕ
-          j = placeNumber (K + 4) 0 i
+      -- it is the front of the code block's circle
+      alike : Alike L (placesIn true part) (circleAt r (placesIn true (putMid from (to - from) room part)))
+      alike = record {
+        same = λ p l.
+            sym
+            (circle-entry r (placesIn true (putMid from (to - from) room part)) p 0
+            ∙ ap₂ (λ (m : List ℕ) (n : ℕ). getD m (n + p) 0) put-places (sym (w .put .begins))
+            ∙ getD-put-in (4 * from) (4 * from + L - 4 * from) (placesIn true room) (placesIn true part) p 0 (omega (arith, four-times room, bytes-within)) (omega (arith, part-long)));
+      }
 
-          on-circle : j < L
-          on-circle = place-on-circle (K + 4) (0, i) (record { stream = omega arith; place = omega arith })
+      streams : Streams (K + 4)
+      streams = record { least = sends .walked .least; most = sends .walked .most; bytes = sends .walked .some }
 
-          place : byteOf 1 0 r (placeNumber (sizeOf (A + 24) r + 4) 0 i) ≡ 4 * from + j
-          place = omega (arith, w .put .begins, ap (λ (m : ℕ). placeNumber (m + 4) 0 i) k)
+      reach : reachOf (K + 4) 0 ≤ L
+      unfolding reachOf circleLength
+      reach = omega arith
 
-      counted : x ≡ lackingIn 1 0 (A + 24) (roomAfter A soft Q N v bits (placesIn true room₀)) r
-      unfolding missingOn missing keptOn lackingIn lacks
+      there-still : (r + 1 + (blocks (A + 24) - (r + 1))) * perBlock ≤ length (placesIn true (putMid from (to - from) room part))
+      there-still = omega (arith, put-next .long, ok .fits, h)
+
+      counted : x ≡ lackingIn (A + 24) (received agreeing soft A Q N v bits (placesIn true room₀)) r
+      unfolding lackingIn
       counted =
           count
-          ∙ sumFrom-ext _ (lacks 1 0 (A + 24) (placesIn true (putMid from (to - from) room part)) r) F (K - F)
-          (λ i a b. ap (λ (y : ℕ). cond (heard y) 0 1) (kept-there i (omega arith)))
-          ∙ ap₂ (sumFrom (lacks 1 0 (A + 24) (placesIn true (putMid from (to - from) room part)) r)) f (ap₂ _-_ k f)
-          ∙ sym (later-keep r (blocks (A + 24) - (r + 1)) (placesIn true (putMid from (to - from) room part)))
-          ∙ ap (λ (l : List ℕ). lackingIn 1 0 (A + 24) l r) (put-next .told)
+          ∙ lacking-alike K streams alike reach F
+          ∙ ap₂ (lackingOn (circleAt r (placesIn true (putMid from (to - from) room part)))) k f
+          ∙ sym (later-keep r (blocks (A + 24) - (r + 1)) (placesIn true (putMid from (to - from) room part)) there-still)
+          ∙ ap (λ (l : List ℕ). lackingIn (A + 24) l r) (put-next .told)
 
       small : x ≤ 6144
-      small = rw counted (block-few A r (roomAfter A soft Q N v bits (placesIn true room₀)) (ok .size))
+      small = rw counted (block-few A r (received agreeing soft A Q N v bits (placesIn true room₀)) (ok .size))
 
       pub sum-small : n + x ≤ (r + 1) * 6144
       sum-small = omega (arith, small, w .sum .few)
 
       pub filling-next : Filling A soft Q N v bits room₀ (putMid from (to - from) room part) (n + x) (at + E) (from + 4632) (r + 1)
       filling-next = record {
-        long = length-put from to room part bytes-within (kept ∙ length-mid from to room bytes-within) ∙ w .long;
+        long = length-putMid from to room part bytes-within (kept ∙ length-mid from to room bytes-within) ∙ w .long;
         put = put-next;
         sum = next h counted small (w .sum);
       }

@@ -1,91 +1,90 @@
--- Laws of bits put at places of a list (`putFrom`): length, places after one another, the bits that count, and a part that is lent.
+-- Laws of values put at places as they come (`putAlong`): places after one another, the values that count, and places of a front or of a part that is lent.
 -- Assumes nothing.
 use mathlib.Core.Path.{_≡_, refl, sym, _∙_, ap}
-use mathlib.Core.List.{List, [], _∷_, _++_}
-use Prim.Native.Nat.{ℕ, zero, suc, _+_, _-_, _*_, _≤_, _<_}
-use native.Mathlib.Nat.{add-assoc, zero-add}
+use mathlib.Core.List.{List, [], _∷_, _++_, map}
+use Prim.Native.Nat.{ℕ, zero, suc, _+_, _≤_, _<_}
+use native.Mathlib.Nat.{zero-add}
 use native.Mathlib.Omega.{arith}
-use lib.ListN.{length, getD, take, drop, set, length-set}
-use lib.Seq.{length-take-le, set-append-left, drop-drop}
-use borrow.Rule.Slice.PartMut.{putMid}
-use Rattle.laws.proofs.Parts.{getD-put-in}
-use Rattle.slots.specs.State.{perBlock, roomStart}
-use Rattle.slots.specs.Room.{meet, byteOf, putBit}
-use Rattle.slots.specs.Reception.{putBits}
-use Rattle.reception.specs.inner.Parts.{putFrom}
+use lib.ListN.{length, getD, take, drop, set, length-set, take-append-drop, List·getD-append}
+use lib.Seq.{length-take-le, set-append-left, getD-append-add, drop-drop}
+use borrow.Rule.Slice.PartMut.{midOf, putMid}
+use Rattle.slots.specs.Putting.{Keeping, putAlong}
 
-pub length-putFrom : (base : ℕ) (js bits list : List ℕ) → length (putFrom base js bits list) ≡ length list
-unfolding putFrom putBit
-length-putFrom base [] bits list = refl
-length-putFrom base (j ∷ js) bits list =
-    length-putFrom base js (drop 1 bits) (putBit list (base + j) (getD bits 0 0))
-    ∙ length-set list (base + j) (meet (getD list (base + j) 0) (getD bits 0 0))
-
--- bits for some places, and then for others
-pub putFrom-append : (base : ℕ) (js ks bits list : List ℕ)
-    → putFrom base (js ++ ks) bits list ≡ putFrom base ks (drop (length js) bits) (putFrom base js bits list)
-unfolding putFrom
-putFrom-append base [] ks bits list = refl
-putFrom-append base (j ∷ js) ks bits list =
-    putFrom-append base js ks (drop 1 bits) list′
-    ∙ ap (λ (bs : List ℕ). putFrom base ks bs (putFrom base js (drop 1 bits) list′)) (drop-drop (length js) 1 bits ∙ ap (λ (n : ℕ). drop n bits) one)
-  where
-    list′ : List ℕ
-    list′ = putBit list (base + j) (getD bits 0 0)
-
-    one : 1 + length js ≡ suc (length js)
-    one = omega arith
-
--- only as many bits as there are places count
-pub putFrom-front : (base : ℕ) (js : List ℕ) (n : ℕ) (bits list : List ℕ) → length js ≤ n → putFrom base js (take n bits) list ≡ putFrom base js bits list
-unfolding putFrom
-putFrom-front base [] n bits list h = refl
-putFrom-front base (j ∷ js) zero bits list h = absurd (omega arith)
-putFrom-front base (j ∷ js) (suc n) [] list h = refl
-putFrom-front base (j ∷ js) (suc n) (b ∷ bits) list h = putFrom-front base js n bits (putBit list (base + j) b) (omega arith)
-
--- ---- a part that is lent
-
-set-append-right : (xs ys : List ℕ) (i x : ℕ) → set (xs ++ ys) (length xs + i) x ≡ xs ++ set ys i x
+set-append-right : {X : Type 0} (xs ys : List X) (i : ℕ) (x : X) → set (xs ++ ys) (length xs + i) x ≡ xs ++ set ys i x
 set-append-right [] ys i x = ap (λ (k : ℕ). set ys k x) (zero-add i)
-set-append-right (y ∷ xs) ys i x = ap (λ (k : ℕ). set (y ∷ (xs ++ ys)) k x) next ∙ ap (λ (l : List ℕ). y ∷ l) (set-append-right xs ys i x)
+set-append-right {X} (y ∷ xs) ys i x = ap (λ (k : ℕ). set (y ∷ (xs ++ ys)) k x) next ∙ ap (λ (l : List X). y ∷ l) (set-append-right xs ys i x)
   where
     next : suc (length xs) + i ≡ suc (length xs + i)
     next = omega arith
 
-module _ (a k : ℕ) (xs : List ℕ) (within : a ≤ length xs) where
-  set-in : (ys : List ℕ) (i x : ℕ) → i < length ys → set (putMid a k xs ys) (a + i) x ≡ putMid a k xs (set ys i x)
-  set-in ys i x h =
-      ap (λ (n : ℕ). set (putMid a k xs ys) (n + i) x) (sym (length-take-le a xs within))
-      ∙ set-append-right (take a xs) (ys ++ drop k (drop a xs)) i x
-      ∙ ap (λ (l : List ℕ). take a xs ++ l) (set-append-left ys (drop k (drop a xs)) i x h)
+module _ {X Y : Type 0} (how : Keeping X Y) where
+  -- one value
+  abbrev put : List X → ℕ → Y → List X
+  put kept j w = set kept j (how .meets (getD kept j (how .none)) w)
 
-  -- one bit
-  bit-in : (ys : List ℕ) (i bit : ℕ) → i < length ys → putBit (putMid a k xs ys) (a + i) bit ≡ putMid a k xs (putBit ys i bit)
-  unfolding putBit
-  bit-in ys i bit h =
-      ap (λ (old : ℕ). set (putMid a k xs ys) (a + i) (meet old bit)) (getD-put-in a k xs ys i 0 within h)
-      ∙ set-in ys i (meet (getD ys i 0) bit) h
+  -- values for some places, and then for others
+  pub along-append : (js ks : List ℕ) (values : List Y) (kept : List X)
+      → putAlong how (js ++ ks) values kept ≡ putAlong how ks (drop (length js) values) (putAlong how js values kept)
+  unfolding putAlong
+  along-append [] ks values kept = refl
+  along-append (j ∷ js) ks values kept =
+      along-append js ks (drop 1 values) kept′
+      ∙ ap (λ (vs : List Y). putAlong how ks vs (putAlong how js (drop 1 values) kept′)) (drop-drop (length js) 1 values ∙ ap (λ (n : ℕ). drop n values) one)
+    where
+      kept′ : List X
+      kept′ = put kept j (getD values 0 (how .nothing))
 
-  -- bits for places of the part
-  pub put-in : (base : ℕ) (js bits ys : List ℕ) → ((i : ℕ) → i < length js → base + getD js i 0 < length ys)
-      → putFrom (a + base) js bits (putMid a k xs ys) ≡ putMid a k xs (putFrom base js bits ys)
-  unfolding putFrom putBit
-  put-in base [] bits ys p = refl
-  put-in base (j ∷ js) bits ys p =
-      ap (λ (l : List ℕ). putFrom (a + base) js (drop 1 bits) l)
-      (ap (λ (n : ℕ). putBit (putMid a k xs ys) n (getD bits 0 0)) (add-assoc a base j) ∙ bit-in ys (base + j) (getD bits 0 0) (p 0 (omega arith)))
-      ∙ put-in base js (drop 1 bits) (putBit ys (base + j) (getD bits 0 0))
-      (λ i h. rw (length-set ys (base + j) (meet (getD ys (base + j) 0) (getD bits 0 0))) (p (suc i) (omega arith)))
+      one : 1 + length js ≡ suc (length js)
+      one = omega arith
 
--- ---- the places of a code block of a slot
+  -- only as many values as there are places count
+  pub along-few : (js : List ℕ) (n : ℕ) (values : List Y) (kept : List X) → length js ≤ n → putAlong how js (take n values) kept ≡ putAlong how js values kept
+  unfolding putAlong
+  along-few [] n values kept h = refl
+  along-few (j ∷ js) zero values kept h = absurd (omega arith)
+  along-few (j ∷ js) (suc n) [] kept h = refl
+  along-few (j ∷ js) (suc n) (w ∷ values) kept h = along-few js n values (put kept j w) (omega arith)
 
-pub putBits-is : (M slot r : ℕ) {base : ℕ} (js bits store : List ℕ) → base ≡ byteOf M slot r 0 → putBits M slot r js bits store ≡ putFrom base js bits store
-unfolding putBits putFrom byteOf
-putBits-is M slot r [] bits store e = refl
-putBits-is M slot r {base} (j ∷ js) bits store e =
-    ap (λ (n : ℕ). putBits M slot r js (drop 1 bits) (putBit store n (getD bits 0 0))) there
-    ∙ putBits-is M slot r js (drop 1 bits) (putBit store (base + j) (getD bits 0 0)) e
-  where
-    there : roomStart M slot + (r * perBlock + j) ≡ base + j
-    there = omega arith
+  -- places of a front leave what stands behind it
+  pub along-front : (js : List ℕ) (values : List Y) (front rest : List X) → ((i : ℕ) → i < length js → getD js i 0 < length front)
+      → putAlong how js values (front ++ rest) ≡ putAlong how js values front ++ rest
+  unfolding putAlong
+  along-front [] values front rest p = refl
+  along-front (j ∷ js) values front rest p =
+      ap (putAlong how js (drop 1 values))
+      (ap (λ (x : X). set (front ++ rest) j (how .meets x w)) (List·getD-append front rest (how .none) j (p 0 (omega arith)))
+      ∙ set-append-left front rest j (how .meets (getD front j (how .none)) w) (p 0 (omega arith)))
+      ∙ along-front js (drop 1 values) (put front j w) rest (λ i h. rw (length-set front j (how .meets (getD front j (how .none)) w)) (p (suc i) (omega arith)))
+    where
+      w : Y
+      w = getD values 0 (how .nothing)
+
+  -- places counted from the end of a list
+  along-behind : (js : List ℕ) (values : List Y) (before list : List X) → putAlong how (map (λ (j : ℕ). length before + j) js) values (before ++ list) ≡ before ++ putAlong how js values list
+  unfolding putAlong
+  along-behind [] values before list = refl
+  along-behind (j ∷ js) values before list =
+      ap (putAlong how (map (λ (j : ℕ). length before + j) js) (drop 1 values))
+      (ap (λ (x : X). set (before ++ list) (length before + j) (how .meets x w)) (getD-append-add before list j (how .none))
+      ∙ set-append-right before list j (how .meets (getD list j (how .none)) w))
+      ∙ along-behind js (drop 1 values) before (put list j w)
+    where
+      w : Y
+      w = getD values 0 (how .nothing)
+
+  -- ---- a part that is lent
+
+  module _ (a k : ℕ) (xs : List X) (js : List ℕ) (values : List Y) (inside : (i : ℕ) → i < length js → getD js i 0 < length (midOf a k xs)) where
+    -- its places are places of what stands from its first entry on
+    pub along-part : putMid a k xs (putAlong how js values (midOf a k xs)) ≡ take a xs ++ putAlong how js values (drop a xs)
+    along-part =
+        ap (λ (l : List X). take a xs ++ l)
+        (sym (along-front js values (midOf a k xs) (drop k (drop a xs)) inside) ∙ ap (putAlong how js values) (take-append-drop k (drop a xs)))
+
+    -- or, counted from a on, of the whole
+    pub along-in : a ≤ length xs → putMid a k xs (putAlong how js values (midOf a k xs)) ≡ putAlong how (map (λ (j : ℕ). a + j) js) values xs
+    along-in h =
+        along-part
+        ∙ sym (along-behind js values (take a xs) (drop a xs))
+        ∙ ap (λ (n : ℕ). putAlong how (map (λ (j : ℕ). n + j) js) values (take a xs ++ drop a xs)) (length-take-le a xs h)
+        ∙ ap (putAlong how (map (λ (j : ℕ). a + j) js) values) (take-append-drop a xs)

@@ -4,15 +4,14 @@ use mathlib.Core.Path.{_≡_, refl, sym, _∙_, ap}
 use mathlib.Core.Bool.{cond}
 use mathlib.Core.List.{List, [], _∷_, map}
 use Prim.Native.Nat.{ℕ, zero, suc, _+_, _≤_, _<_}
-use native.Mathlib.Nat.{zero-add}
 use native.Mathlib.Decide.{decLt, ℕ-discrete}
 use native.Mathlib.Omega.{arith}
 use lib.Dec.{eqb}
 use lib.ListN.{length, getD, drop, set, length-set}
 use lib.Seq.{set-set, set-comm, set-out, getD-set-same, getD-set-other, getD-drop}
-use Rattle.slots.specs.Room.{disputed, meet, putBit}
+use Rattle.slots.specs.Putting.{putAlong}
+use Rattle.slots.specs.Room.{disputed, meet, agreeing}
 use Rattle.slots.proofs.Meeting.{Known, meet-known, meet-together, meet-order}
-use Rattle.reception.specs.inner.Parts.{putFrom}
 use Rattle.reception.specs.inner.Along.{AllKnown}
 
 known-rest : (l : List ℕ) → AllKnown l → AllKnown (drop 1 l)
@@ -20,9 +19,12 @@ known-rest l h i = rw (getD-drop 1 l i 0) (h (1 + i))
 
 -- ---- two bits
 
+-- a place after a bit
+abbrev pub putBit : List ℕ → ℕ → ℕ → List ℕ
+putBit list at bit = set list at (meet (getD list at 0) bit)
+
 -- at one place
 twice : (l : List ℕ) (p a b : ℕ) → putBit (putBit l p a) p b ≡ set l p (meet (meet (getD l p 0) a) b)
-unfolding putBit
 twice l p a b = elim (decLt p (length l)) [
   | yes h ↦
       set-set l p (meet (getD l p 0) a) _
@@ -36,7 +38,6 @@ twice l p a b = elim (decLt p (length l)) [
 
 -- in either order
 swap : (l : List ℕ) (q x p a : ℕ) → Known x → Known a → putBit (putBit l q x) p a ≡ putBit (putBit l p a) q x
-unfolding putBit
 swap l q x p a h g = elim (ℕ-discrete q p) [
   | yes e ↦
       ap (λ (n : ℕ). putBit (putBit l n x) p a) e
@@ -50,40 +51,38 @@ swap l q x p a h g = elim (ℕ-discrete q p) [
 ]
 
 -- a bit before the others is a bit after them
-after : (ps bits l : List ℕ) (q x : ℕ) → AllKnown bits → Known x → putFrom 0 ps bits (putBit l q x) ≡ putBit (putFrom 0 ps bits l) q x
-unfolding putFrom
+after : (ps bits l : List ℕ) (q x : ℕ) → AllKnown bits → Known x → putAlong agreeing ps bits (putBit l q x) ≡ putBit (putAlong agreeing ps bits l) q x
+unfolding putAlong agreeing
 after [] bits l q x h g = refl
 after (p ∷ ps) bits l q x h g =
-    ap (putFrom 0 ps (drop 1 bits)) (swap l q x (0 + p) (getD bits 0 0) g (h 0))
-    ∙ after ps (drop 1 bits) (putBit l (0 + p) (getD bits 0 0)) q x (known-rest bits h) g
+    ap (putAlong agreeing ps (drop 1 bits)) (swap l q x p (getD bits 0 0) g (h 0))
+    ∙ after ps (drop 1 bits) (putBit l p (getD bits 0 0)) q x (known-rest bits h) g
 
 -- ---- a ring
 
 -- one bit more in the ring
 one-more : (ps ring l : List ℕ) (k b : ℕ) → length ring ≡ length ps → k < length ps → AllKnown ring → Known b
-    → putFrom 0 ps (putBit ring k b) l ≡ putBit (putFrom 0 ps ring l) (getD ps k 0) b
-unfolding putFrom putBit
+    → putAlong agreeing ps (putBit ring k b) l ≡ putBit (putAlong agreeing ps ring l) (getD ps k 0) b
+unfolding putAlong agreeing
 one-more [] ring l k b e m h g = absurd (omega arith)
 one-more (p ∷ ps) [] l k b e m h g = absurd (omega arith)
 one-more (p ∷ ps) (a ∷ ring) l zero b e m h g =
-    ap (putFrom 0 ps ring) (ap (set l (0 + p)) (meet-together (getD l (0 + p) 0) a b (h 0)) ∙ sym (twice l (0 + p) a b))
-    ∙ after ps ring (putBit l (0 + p) a) (0 + p) b (λ i. h (suc i)) g
-    ∙ ap (λ (n : ℕ). putBit (putFrom 0 ps ring (putBit l (0 + p) a)) n b) (zero-add p)
+    ap (putAlong agreeing ps ring) (ap (set l p) (meet-together (getD l p 0) a b (h 0)) ∙ sym (twice l p a b))
+    ∙ after ps ring (putBit l p a) p b (λ i. h (suc i)) g
 one-more (p ∷ ps) (a ∷ ring) l (suc k) b e m h g =
-    one-more ps ring (putBit l (0 + p) a) k b (omega arith) (omega arith) (λ i. h (suc i)) g
+    one-more ps ring (putBit l p a) k b (omega arith) (omega arith) (λ i. h (suc i)) g
 
 pub known-put : (ring : List ℕ) (k b : ℕ) → AllKnown ring → Known b → AllKnown (putBit ring k b)
-unfolding putBit
 known-put [] k b h g i = h i
 known-put (a ∷ ring) zero b h g zero = meet-known a b (h 0) g
 known-put (a ∷ ring) zero b h g (suc i) = h (suc i)
 known-put (a ∷ ring) (suc k) b h g zero = h 0
 known-put (a ∷ ring) (suc k) b h g (suc i) = known-put ring k b (λ n. h (suc n)) g i
 
-pub known-along : (js bits ring : List ℕ) → AllKnown bits → AllKnown ring → AllKnown (putFrom 0 js bits ring)
-unfolding putFrom
+pub known-along : (js bits ring : List ℕ) → AllKnown bits → AllKnown ring → AllKnown (putAlong agreeing js bits ring)
+unfolding putAlong agreeing
 known-along [] bits ring h g = g
-known-along (j ∷ js) bits ring h g = known-along js (drop 1 bits) (putBit ring (0 + j) (getD bits 0 0)) (known-rest bits h) (known-put ring (0 + j) (getD bits 0 0) g (h 0))
+known-along (j ∷ js) bits ring h g = known-along js (drop 1 bits) (putBit ring j (getD bits 0 0)) (known-rest bits h) (known-put ring j (getD bits 0 0) g (h 0))
 
 -- where something was heard, a shorter test does
 pub meet-known-is : (old new : ℕ) → Known old → meet old new ≡ cond (eqb old new) new disputed
@@ -93,12 +92,11 @@ meet-known-is old new h = rw h
 -- bits in the ring, and the ring at some places: the bits at those places
 pub through : (ps : List ℕ) (js bits ring l : List ℕ) → length ring ≡ length ps → ((i : ℕ) → i < length js → getD js i 0 < length ps)
     → AllKnown ring → AllKnown bits
-    → putFrom 0 ps (putFrom 0 js bits ring) l ≡ putFrom 0 (map (λ (k : ℕ). getD ps k 0) js) bits (putFrom 0 ps ring l)
-unfolding putFrom putBit
+    → putAlong agreeing ps (putAlong agreeing js bits ring) l ≡ putAlong agreeing (map (λ (k : ℕ). getD ps k 0) js) bits (putAlong agreeing ps ring l)
+unfolding putAlong agreeing
 through ps [] bits ring l e m h g = refl
 through ps (j ∷ js) bits ring l e m h g =
-    through ps js (drop 1 bits) (putBit ring (0 + j) (getD bits 0 0)) l (length-set ring (0 + j) _ ∙ e) (λ i k. m (suc i) (omega arith))
-    (known-put ring (0 + j) (getD bits 0 0) h (g 0)) (known-rest bits g)
-    ∙ ap (putFrom 0 (map (λ (k : ℕ). getD ps k 0) js) (drop 1 bits))
-    (one-more ps ring l (0 + j) (getD bits 0 0) e (rw (zero-add j) (m 0 (omega arith))) h (g 0)
-    ∙ ap (λ (n : ℕ). putBit (putFrom 0 ps ring l) n (getD bits 0 0)) (ap (λ (k : ℕ). getD ps k 0) (zero-add j) ∙ sym (zero-add (getD ps j 0))))
+    through ps js (drop 1 bits) (putBit ring j (getD bits 0 0)) l (length-set ring j _ ∙ e) (λ i k. m (suc i) (omega arith))
+    (known-put ring j (getD bits 0 0) h (g 0)) (known-rest bits g)
+    ∙ ap (putAlong agreeing (map (λ (k : ℕ). getD ps k 0) js) (drop 1 bits))
+    (one-more ps ring l j (getD bits 0 0) e (m 0 (omega arith)) h (g 0))

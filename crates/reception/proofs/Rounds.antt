@@ -17,39 +17,41 @@ use Rattle.laws.proofs.Parts.{length-mid}
 use Rattle.laws.proofs.Tab.{length-tab, length-tabFrom, getD-tab, getD-tabFrom, tabFrom-ext, map-tabFrom, tab-rest, rest-none}
 use Rattle.rate_matching.specs.Walk.{itself, turnAfterTurn}
 use Rattle.rate_matching.proofs.MatcherTurns.{turn-front, turn-next}
+use Rattle.slots.specs.Putting.{putAlong}
+use Rattle.slots.specs.Room.{agreeing}
+use Rattle.slots.proofs.Putting.{length-put}
 use Rattle.slots.proofs.Meeting.{known-bit}
-use Rattle.reception.specs.inner.Parts.{putFrom}
-use Rattle.reception.specs.inner.Along.{putAlong, Put, ringAfter}
-use Rattle.reception.proofs.Putting.{length-putFrom, putFrom-append, putFrom-front}
+use Rattle.reception.specs.inner.Along.{putFirst, Put, ringAfter}
+use Rattle.reception.proofs.Putting.{along-append, along-few}
 use Rattle.reception.proofs.Ring.{through}
-use Rattle.reception.proofs.Along.{along-none, run-met, put-as, put-long}
+use Rattle.reception.proofs.Along.{first-none, run-met, put-as, put-long}
 
 -- ---- turn after turn
 
 module _ (ps bits : List ℕ) where
   -- what is still to come from bit i on
   abbrev Rest : ℕ → List ℕ → List ℕ
-  Rest i list = putFrom 0 (tabFrom i (length bits - i) (turnAfterTurn ps)) (drop i bits) list
+  Rest i list = putAlong agreeing (tabFrom i (length bits - i) (turnAfterTurn ps)) (drop i bits) list
 
-  pub rest-all : (list : List ℕ) → Rest 0 list ≡ putFrom 0 (tab (length bits) (turnAfterTurn ps)) bits list
-  rest-all list = ap (λ (js : List ℕ). putFrom 0 js bits list) (tab-rest (length bits) (turnAfterTurn ps))
+  pub rest-all : (list : List ℕ) → Rest 0 list ≡ putAlong agreeing (tab (length bits) (turnAfterTurn ps)) bits list
+  rest-all list = ap (λ (js : List ℕ). putAlong agreeing js bits list) (tab-rest (length bits) (turnAfterTurn ps))
 
   pub rest-end : (i : ℕ) (list : List ℕ) → length bits ≤ i → Rest i list ≡ list
-  unfolding putFrom
-  rest-end i list h = ap (λ (js : List ℕ). putFrom 0 js (drop i bits) list) (rest-none i (length bits) (turnAfterTurn ps) h)
+  unfolding putAlong
+  rest-end i list h = ap (λ (js : List ℕ). putAlong agreeing js (drop i bits) list) (rest-none i (length bits) (turnAfterTurn ps) h)
 
   module _ (some : 0 < length ps) where
     -- a whole turn
-    rest-turn : (i : ℕ) (list : List ℕ) → i % length ps ≡ 0 → i + length ps ≤ length bits → Rest i list ≡ Rest (i + length ps) (putFrom 0 ps (drop i bits) list)
+    rest-turn : (i : ℕ) (list : List ℕ) → i % length ps ≡ 0 → i + length ps ≤ length bits → Rest i list ≡ Rest (i + length ps) (putAlong agreeing ps (drop i bits) list)
     rest-turn i list w h =
-        ap (λ (js : List ℕ). putFrom 0 js (drop i bits) list) (turn-next ps i some w (length bits) h)
-        ∙ putFrom-append 0 ps (tabFrom (i + length ps) (length bits - (i + length ps)) (turnAfterTurn ps)) (drop i bits) list
-        ∙ ap (λ (bs : List ℕ). putFrom 0 (tabFrom (i + length ps) (length bits - (i + length ps)) (turnAfterTurn ps)) bs (putFrom 0 ps (drop i bits) list)) (drop-drop (length ps) i bits)
+        ap (λ (js : List ℕ). putAlong agreeing js (drop i bits) list) (turn-next ps i some w (length bits) h)
+        ∙ along-append agreeing ps (tabFrom (i + length ps) (length bits - (i + length ps)) (turnAfterTurn ps)) (drop i bits) list
+        ∙ ap (λ (bs : List ℕ). putAlong agreeing (tabFrom (i + length ps) (length bits - (i + length ps)) (turnAfterTurn ps)) bs (putAlong agreeing ps (drop i bits) list)) (drop-drop (length ps) i bits)
 
     -- ---- one round, as far as there are bits
 
     pub rest-round : (i : ℕ) {list list′ : List ℕ} {e : ℕ} → i ≤ length bits → ((i ≡ length bits → ⊥) → i % length ps ≡ 0) → Put ps bits i list list′ e → Rest i list ≡ Rest e list′
-    unfolding putAlong
+    unfolding putFirst
     rest-round i {list} {list′} {e} h w p = elim (ℕ-discrete i (length bits)) [
       | yes l ↦ rest-end i list (omega arith) ∙ sym (rest-end e list′ (omega (arith, p .ends)) ∙ p .told ∙ none (omega arith))
       | no l ↦ elim (decLe (i + length ps) (length bits)) [
@@ -58,21 +60,21 @@ module _ (ps bits : List ℕ) where
       ]
     ]
       where
-        none : length bits ≤ i → putAlong ps (drop i bits) list ≡ list
-        none m = ap (λ (bs : List ℕ). putAlong ps bs list) (drop-of-length-le bits m) ∙ along-none ps list
+        none : length bits ≤ i → putFirst ps (drop i bits) list ≡ list
+        none m = ap (λ (bs : List ℕ). putFirst ps bs list) (drop-of-length-le bits m) ∙ first-none ps list
 
-        whole : i + length ps ≤ length bits → putAlong ps (drop i bits) list ≡ putFrom 0 ps (drop i bits) list
-        whole m = ap (λ (js : List ℕ). putFrom 0 js (drop i bits) list) (take-all (length (drop i bits)) ps (rw (length-drop i bits) (omega arith)))
+        whole : i + length ps ≤ length bits → putFirst ps (drop i bits) list ≡ putAlong agreeing ps (drop i bits) list
+        whole m = ap (λ (js : List ℕ). putAlong agreeing js (drop i bits) list) (take-all (length (drop i bits)) ps (rw (length-drop i bits) (omega arith)))
 
-        cut : length bits < i + length ps → i % length ps ≡ 0 → Rest i list ≡ putAlong ps (drop i bits) list
+        cut : length bits < i + length ps → i % length ps ≡ 0 → Rest i list ≡ putFirst ps (drop i bits) list
         cut m v =
-            ap (λ (js : List ℕ). putFrom 0 js (drop i bits) list)
+            ap (λ (js : List ℕ). putAlong agreeing js (drop i bits) list)
             (turn-front ps i some v (length bits - i) (omega arith) ∙ ap (λ (n : ℕ). take n ps) (sym (length-drop i bits)))
 
 -- the bits from i on are lent
 lent-rest : (ps bits : List ℕ) (i : ℕ) {list list′ : List ℕ} {m : ℕ} → i ≤ length bits → Put ps (midOf i (length bits - i) bits) 0 list list′ m → Put ps bits i list list′ (i + m)
 lent-rest ps bits i {list} {list′} {m} h p = record {
-  told = p .told ∙ ap (λ (bs : List ℕ). putAlong ps bs list) (take-all (length bits - i) (drop i bits) (rw (length-drop i bits) (omega arith)));
+  told = p .told ∙ ap (λ (bs : List ℕ). putFirst ps bs list) (take-all (length bits - i) (drop i bits) (rw (length-drop i bits) (omega arith)));
   ends = omega (arith, p .ends, length-mid i (length bits) bits (omega arith));
 }
 
@@ -139,28 +141,28 @@ module _ {n : ℕ} {bits : List ℕ} (few : n + n ≤ length bits) where
 
   -- a whole turn more
   pub turning-whole : {ring ring′ : List ℕ} {i : ℕ} → 0 < n → n ≤ length bits - i → Turning n bits ring i
-      → (let src = midOf i (i + n - i) bits in ring′ ≡ putAlong (tab (length src) itself) src ring) → Turning n bits ring′ (i + n)
+      → (let src = midOf i (i + n - i) bits in ring′ ≡ putFirst (tab (length src) itself) src ring) → Turning n bits ring′ (i + n)
   turning-whole {ring} {ring′} {i} some h t e =
       turning-next some t (run-met bits ring (t .passed .1) (omega (arith, t .long)) e)
 
   -- what is left is less than one
   pub turning-last : {ring ring′ : List ℕ} {i : ℕ} → 0 < n → length bits - i < n → Turning n bits ring i
-      → (let src = midOf i (length bits - i) bits in ring′ ≡ putAlong (tab (length src) itself) src ring) → ring′ ≡ ringAfter n bits
+      → (let src = midOf i (length bits - i) bits in ring′ ≡ putFirst (tab (length src) itself) src ring) → ring′ ≡ ringAfter n bits
   turning-last {ring} {ring′} {i} some h t e =
       let m : ℕ = length bits - i in
       let same : m ≡ i + m - i = sym (add-sub-cancel-left i m) in
-      let put = run-met bits ring {n = m} (t .passed .1) (omega (arith, t .long)) (subst (λ (k : ℕ). ring′ ≡ putAlong (tab (length (midOf i k bits)) itself) (midOf i k bits) ring) same e) in
+      let put = run-met bits ring {n = m} (t .passed .1) (omega (arith, t .long)) (subst (λ (k : ℕ). ring′ ≡ putFirst (tab (length (midOf i k bits)) itself) (midOf i k bits) ring) same e) in
       turning-finish (omega (arith, t .passed)) (turning-next some t put)
 
 length-ring : (n : ℕ) (bits : List ℕ) → n + n ≤ length bits → length (ringAfter n bits) ≡ n
 unfolding ringAfter
-length-ring n bits few = length-putFrom 0 _ (drop (n + n) bits) (take n (drop n bits)) ∙ length-take-le n (drop n bits) (rw (length-drop n bits) (omega arith))
+length-ring n bits few = length-put agreeing _ (drop (n + n) bits) (take n (drop n bits)) ∙ length-take-le n (drop n bits) (rw (length-drop n bits) (omega arith))
 
 -- ---- the first turn, and what comes after it
 
 module _ (ps bits : List ℕ) (some : 0 < length ps) {part₀ part₁ : List ℕ} {n : ℕ} (first : Put ps bits 0 part₀ part₁ n) where
   -- the first turn has been put
-  begun : putFrom 0 (tab (length bits) (turnAfterTurn ps)) bits part₀ ≡ Rest ps bits n part₁
+  begun : putAlong agreeing (tab (length bits) (turnAfterTurn ps)) bits part₀ ≡ Rest ps bits n part₁
   begun = sym (rest-all ps bits part₀) ∙ rest-round ps bits some 0 (omega arith) (λ e. zero-mod (length ps)) first
 
   -- where more than a turn is put, a turn is known
@@ -172,7 +174,7 @@ module _ (ps bits : List ℕ) (some : 0 < length ps) {part₀ part₁ : List ℕ
 
   -- not more than one turn is left
   pub two-rounds : length bits - n ≤ n → {part₂ : List ℕ} {m : ℕ} → Put ps (midOf n (length bits - n) bits) 0 part₁ part₂ m
-      → part₂ ≡ putFrom 0 (tab (length bits) (turnAfterTurn ps)) bits part₀
+      → part₂ ≡ putAlong agreeing (tab (length bits) (turnAfterTurn ps)) bits part₀
   two-rounds few {part₂} {m} second =
       sym
       (begun
@@ -186,16 +188,16 @@ module _ (ps bits : List ℕ) (some : 0 < length ps) {part₀ part₁ : List ℕ
       left = lent-rest ps bits n within second
 
   -- more than one: they have met in a ring, which is put as one turn
-  pub ring-round : n < length bits - n → AreBits bits → {part₂ : List ℕ} → part₂ ≡ putAlong ps (ringAfter n bits) part₁
-      → part₂ ≡ putFrom 0 (tab (length bits) (turnAfterTurn ps)) bits part₀
-  unfolding putAlong ringAfter turnAfterTurn itself
+  pub ring-round : n < length bits - n → AreBits bits → {part₂ : List ℕ} → part₂ ≡ putFirst ps (ringAfter n bits) part₁
+      → part₂ ≡ putAlong agreeing (tab (length bits) (turnAfterTurn ps)) bits part₀
+  unfolding putFirst ringAfter turnAfterTurn itself
   ring-round more are {part₂} put =
       put
-      ∙ ap (λ (js : List ℕ). putFrom 0 js (ringAfter n bits) part₁) (take-all (length (ringAfter n bits)) ps (omega (arith, length-ring n bits few, turn-is)))
+      ∙ ap (λ (js : List ℕ). putAlong agreeing js (ringAfter n bits) part₁) (take-all (length (ringAfter n bits)) ps (omega (arith, length-ring n bits few, turn-is)))
       ∙ through ps js (drop (n + n) bits) (take n (drop n bits)) part₁ (omega (arith, second-long, turn-is)) inside
       (λ i. known-bit _ (take-below 2 (lit< tt) n (drop n bits) (drop-below 2 n bits are) i))
       (λ i. known-bit _ (drop-below 2 (n + n) bits are i))
-      ∙ ap₂ (λ (ks : List ℕ) (l : List ℕ). putFrom 0 ks (drop (n + n) bits) l) places (putFrom-front 0 ps n (drop n bits) part₁ (omega (arith, turn-is)))
+      ∙ ap₂ (λ (ks : List ℕ) (l : List ℕ). putAlong agreeing ks (drop (n + n) bits) l) places (along-few agreeing ps n (drop n bits) part₁ (omega (arith, turn-is)))
       ∙ sym (begun ∙ second)
     where
       few : n + n ≤ length bits
@@ -227,8 +229,8 @@ module _ (ps bits : List ℕ) (some : 0 < length ps) {part₀ part₁ : List ℕ
           map-tabFrom (n + n) (length bits - (n + n)) (turnAfterTurn (tab n itself)) (λ (k : ℕ). getD ps k 0)
           ∙ tabFrom-ext (n + n) (length bits - (n + n)) _ (turnAfterTurn ps) (λ k l m. ap (λ (i : ℕ). getD ps i 0) (entry k))
 
-      second : Rest ps bits n part₁ ≡ Rest ps bits (n + n) (putFrom 0 ps (drop n bits) part₁)
+      second : Rest ps bits n part₁ ≡ Rest ps bits (n + n) (putAlong agreeing ps (drop n bits) part₁)
       second =
           ap (λ (m : ℕ). Rest ps bits m part₁) turn-is
           ∙ rest-turn ps bits some (length ps) part₁ (mod-self (length ps)) (omega (arith, turn-is))
-          ∙ ap₂ (λ (m : ℕ) (l : ℕ). Rest ps bits m (putFrom 0 ps (drop l bits) part₁)) (omega (arith, turn-is)) (sym turn-is)
+          ∙ ap₂ (λ (m : ℕ) (l : ℕ). Rest ps bits m (putAlong agreeing ps (drop l bits) part₁)) (omega (arith, turn-is)) (sym turn-is)

@@ -12,7 +12,7 @@ ghost use Rattle.rate_matching.specs.SubBlocks.{rows, rowsBefore};
 ghost use Rattle.rate_matching.specs.Walk.{itself};
 ghost use Rattle.rate_matching.specs.Shape.{shape, bitPlaces, second, pairPlaces, lastPlace};
 ghost use Rattle.slots.specs.Room.{disputed, meet};
-ghost use Rattle.reception.specs.inner.Along.{putAlong, Put, AllKnown, ringAfter, turnIn, Walked, Sends, Column};
+ghost use Rattle.reception.specs.inner.Along.{putFirst, Put, AllKnown, ringAfter, turnIn, Walked, Sends, Column};
 
 // What a place that kept `old` keeps after the bit `new`: no branch, so that a run is met many places at a time.
 fn met(old: u8, new: u8) -> u8
@@ -28,7 +28,7 @@ fn met(old: u8, new: u8) -> u8
 // Puts bits at the front of a run.
 fn meet_run(bits: &[u8], run: &mut [u8])
     requires { ⌜ length (now bits) ≤ length (now run) ⌝ }
-    ensures { λ _. ⌜ now (run .exit) ≡ putAlong (tab (length (now (bits .entry))) itself) (now (bits .entry)) (now (run .entry)) ⌝ }
+    ensures { λ _. ⌜ now (run .exit) ≡ putFirst (tab (length (now (bits .entry))) itself) (now (bits .entry)) (now (run .entry)) ⌝ }
 {
     let mut i = 0;
     while i < bits.len() {
@@ -47,7 +47,7 @@ fn agreed(old: u8, new: u8) -> u8
 // Puts bits at the front of a run in which something was heard everywhere.
 fn agree_run(bits: &[u8], run: &mut [u8])
     requires { ⌜ (length (now bits) ≤ length (now run)) × AllKnown (now bits) × AllKnown (now run) ⌝ }
-    ensures { λ _. ⌜ now (run .exit) ≡ putAlong (tab (length (now (bits .entry))) itself) (now (bits .entry)) (now (run .entry)) ⌝ }
+    ensures { λ _. ⌜ now (run .exit) ≡ putFirst (tab (length (now (bits .entry))) itself) (now (bits .entry)) (now (run .entry)) ⌝ }
 {
     let mut i = 0;
     while i < bits.len() {

@@ -11,9 +11,11 @@ use slots::State;
 use slots::states;
 ghost use mathlib.Core.Path.{_≡_};
 ghost use lib.ListN.{length};
+ghost use Rattle.slots.specs.Room.{agreeing};
+ghost use Rattle.slots.specs.Reception.{received};
 ghost use Rattle.slots.specs.Reading.{lacking};
 ghost use Rattle.slots.specs.Calls.{receiveNumber, receiveStore, receiveOutcome};
-ghost use Rattle.reception.specs.inner.Parts.{roomAfter, Accepted};
+ghost use Rattle.reception.specs.inner.Parts.{Accepted};
 
 // Puts a reception's bits at the places the build would have taken them from, and tells how many data places then lack a bit.
 pub fn receive(
@@ -81,8 +83,8 @@ fn put_and_count(
     room: &mut [u8],
 ) -> usize
     requires { ⌜ Accepted size soft q n version (now bits) (length (now room)) ⌝ }
-    ensures stored { λ r. ⌜ now (room .exit) ≡ roomAfter size soft q n version (now (bits .entry)) (now (room .entry)) ⌝ }
-    ensures count { λ r. ⌜ r ≡ lacking 1 0 size (now (room .exit)) ⌝ }
+    ensures stored { λ r. ⌜ now (room .exit) ≡ received agreeing soft size q n version (now (bits .entry)) (now (room .entry)) ⌝ }
+    ensures count { λ r. ⌜ r ≡ lacking size (now (room .exit)) ⌝ }
 {
     parts::put_blocks(size, soft, q, n, version, bits, room);
     reading::lacking_in(size, room)

@@ -8,16 +8,18 @@ use slots::State;
 use slots::states;
 ghost use mathlib.Core.Path.{_≡_};
 ghost use mathlib.Core.Bool.{true};
-ghost use Prim.Native.Nat.{_+_, _-_, _*_, _≤_};
+ghost use Prim.Native.Nat.{_+_, _*_, _≤_};
 ghost use lib.ListN.{length};
 ghost use Rattle.laws.specs.Bits.{AreBits};
 ghost use Rattle.rate_matching.specs.SubBlocks.{rows};
 ghost use Rattle.rate_matching.specs.Circle.{cutAt};
-ghost use Rattle.slots.specs.Reading.{sumFrom, lacking};
+ghost use Rattle.slots.specs.Room.{agreeing};
+ghost use Rattle.slots.specs.Circle.{lackingOn};
+ghost use Rattle.slots.specs.Reception.{received};
+ghost use Rattle.slots.specs.Reading.{lacking};
 ghost use Rattle.slots.specs.Calls.{receiveStore, receiveOutcome};
 ghost use Rattle.packing.specs.Store.{placesIn, inForm};
-ghost use Rattle.reading.specs.Circle.{missingOn};
-ghost use Rattle.reception.specs.inner.Parts.{partAfter, roomAfter, Accepted};
+ghost use Rattle.reception.specs.inner.Parts.{partAfter, Accepted};
 ghost use Rattle.reception.specs.inner.Along.{Sends};
 
 // The places that a short and a long circle have room for.
@@ -38,7 +40,7 @@ fn put_by(
     requires { ⌜ Sends (k + 4) filler soft version (length (now circle)) × (filler ≤ k) × (length (now circle) ≡ 4 * length (now part)) × AreBits (now bits) ⌝ }
     ensures stored { λ r. ⌜ placesIn true (now (part .exit))
         ≡ partAfter (k + 4) filler (cutAt soft (rows (k + 4))) version (now (bits .entry)) (placesIn true (now (part .entry))) ⌝ }
-    ensures count { λ r. ⌜ r ≡ sumFrom (missingOn (placesIn true (now (part .exit))) (k + 4)) filler (k - filler) ⌝ }
+    ensures count { λ r. ⌜ r ≡ lackingOn (placesIn true (now (part .exit))) k filler ⌝ }
 {
     packing::unpack_places(part, circle);
     parts::put_block(k + 4, filler, soft, version, bits, circle);
@@ -58,7 +60,7 @@ fn put_short(
     requires { ⌜ Sends (k + 4) filler soft version (4 * length (now part)) × (filler ≤ k) × (4 * length (now part) ≤ 3168) × AreBits (now bits) ⌝ }
     ensures stored { λ r. ⌜ placesIn true (now (part .exit))
         ≡ partAfter (k + 4) filler (cutAt soft (rows (k + 4))) version (now (bits .entry)) (placesIn true (now (part .entry))) ⌝ }
-    ensures count { λ r. ⌜ r ≡ sumFrom (missingOn (placesIn true (now (part .exit))) (k + 4)) filler (k - filler) ⌝ }
+    ensures count { λ r. ⌜ r ≡ lackingOn (placesIn true (now (part .exit))) k filler ⌝ }
 {
     let places = 4 * part.len();
     let mut circle = [0u8; SHORT_CIRCLE];
@@ -77,7 +79,7 @@ fn put_long(
     requires { ⌜ Sends (k + 4) filler soft version (4 * length (now part)) × (filler ≤ k) × (4 * length (now part) ≤ 18528) × AreBits (now bits) ⌝ }
     ensures stored { λ r. ⌜ placesIn true (now (part .exit))
         ≡ partAfter (k + 4) filler (cutAt soft (rows (k + 4))) version (now (bits .entry)) (placesIn true (now (part .entry))) ⌝ }
-    ensures count { λ r. ⌜ r ≡ sumFrom (missingOn (placesIn true (now (part .exit))) (k + 4)) filler (k - filler) ⌝ }
+    ensures count { λ r. ⌜ r ≡ lackingOn (placesIn true (now (part .exit))) k filler ⌝ }
 {
     let places = 4 * part.len();
     let mut circle = [0u8; LONG_CIRCLE];
@@ -96,7 +98,7 @@ fn put_part(
     requires { ⌜ Sends (k + 4) filler soft version (4 * length (now part)) × (filler ≤ k) × (4 * length (now part) ≤ 18528) × AreBits (now bits) ⌝ }
     ensures stored { λ r. ⌜ placesIn true (now (part .exit))
         ≡ partAfter (k + 4) filler (cutAt soft (rows (k + 4))) version (now (bits .entry)) (placesIn true (now (part .entry))) ⌝ }
-    ensures count { λ r. ⌜ r ≡ sumFrom (missingOn (placesIn true (now (part .exit))) (k + 4)) filler (k - filler) ⌝ }
+    ensures count { λ r. ⌜ r ≡ lackingOn (placesIn true (now (part .exit))) k filler ⌝ }
 {
     if 4 * part.len() <= SHORT_CIRCLE {
         return put_short(k, filler, soft, version, bits, part);
@@ -115,8 +117,8 @@ fn put_rooms(
     room: &mut [u8],
 ) -> usize
     requires { ⌜ Accepted a soft q n version (now bits) (4 * length (now room)) ⌝ }
-    ensures stored { λ r. ⌜ placesIn true (now (room .exit)) ≡ roomAfter a soft q n version (now (bits .entry)) (placesIn true (now (room .entry))) ⌝ }
-    ensures count { λ r. ⌜ r ≡ lacking 1 0 a (placesIn true (now (room .exit))) ⌝ }
+    ensures stored { λ r. ⌜ placesIn true (now (room .exit)) ≡ received agreeing soft a q n version (now (bits .entry)) (placesIn true (now (room .entry))) ⌝ }
+    ensures count { λ r. ⌜ r ≡ lacking a (placesIn true (now (room .exit))) ⌝ }
 {
     let s = segmentation::segments_for(a);
     let blocks = s.blocks;

@@ -7,8 +7,10 @@ ghost use lib.ListN.{length};
 ghost use Rattle.laws.specs.Bits.{AreBits};
 ghost use Rattle.rate_matching.specs.SubBlocks.{rows};
 ghost use Rattle.rate_matching.specs.Circle.{cutAt};
-ghost use Rattle.reception.specs.inner.Parts.{partAfter, roomAfter, Accepted};
-ghost use Rattle.reception.specs.inner.Along.{putAlong, ringAfter, turnIn, Sends};
+ghost use Rattle.slots.specs.Room.{agreeing};
+ghost use Rattle.slots.specs.Reception.{received};
+ghost use Rattle.reception.specs.inner.Parts.{partAfter, Accepted};
+ghost use Rattle.reception.specs.inner.Along.{putFirst, ringAfter, turnIn, Sends};
 
 // The places of a turn that the short and the long ring have room for.
 const SHORT_RING: usize = 3168;
@@ -26,7 +28,7 @@ fn put_turns(
     part: &mut [u8],
 )
     requires { ⌜ Sends d filler soft version (length (now part)) × (0 < length (now ring)) × (length (now ring) + length (now ring) ≤ length (now bits)) × AreBits (now bits) ⌝ }
-    ensures { λ _. ⌜ now (part .exit) ≡ putAlong (turnIn d filler soft version) (ringAfter (length (now (ring .entry))) (now (bits .entry))) (now (part .entry)) ⌝ }
+    ensures { λ _. ⌜ now (part .exit) ≡ putFirst (turnIn d filler soft version) (ringAfter (length (now (ring .entry))) (now (bits .entry))) (now (part .entry)) ⌝ }
 {
     circle::meet_turns(bits, ring);
     circle::put_round(d, filler, soft, version, ring, part);
@@ -43,7 +45,7 @@ fn put_short(
     part: &mut [u8],
 )
     requires { ⌜ Sends d filler soft version (length (now part)) × (0 < n) × (n ≤ 3168) × (n + n ≤ length (now bits)) × AreBits (now bits) ⌝ }
-    ensures { λ _. ⌜ now (part .exit) ≡ putAlong (turnIn d filler soft version) (ringAfter n (now (bits .entry))) (now (part .entry)) ⌝ }
+    ensures { λ _. ⌜ now (part .exit) ≡ putFirst (turnIn d filler soft version) (ringAfter n (now (bits .entry))) (now (part .entry)) ⌝ }
 {
     let mut ring = [0u8; SHORT_RING];
     put_turns(d, filler, soft, version, bits, &mut ring[..n], part);
@@ -60,7 +62,7 @@ fn put_long(
     part: &mut [u8],
 )
     requires { ⌜ Sends d filler soft version (length (now part)) × (0 < n) × (n ≤ 18528) × (n + n ≤ length (now bits)) × AreBits (now bits) ⌝ }
-    ensures { λ _. ⌜ now (part .exit) ≡ putAlong (turnIn d filler soft version) (ringAfter n (now (bits .entry))) (now (part .entry)) ⌝ }
+    ensures { λ _. ⌜ now (part .exit) ≡ putFirst (turnIn d filler soft version) (ringAfter n (now (bits .entry))) (now (part .entry)) ⌝ }
 {
     let mut ring = [0u8; LONG_RING];
     put_turns(d, filler, soft, version, bits, &mut ring[..n], part);
@@ -102,7 +104,7 @@ pub(crate) fn put_blocks(
     room: &mut [u8],
 )
     requires { ⌜ Accepted a soft q n version (now bits) (length (now room)) ⌝ }
-    ensures { λ _. ⌜ now (room .exit) ≡ roomAfter a soft q n version (now (bits .entry)) (now (room .entry)) ⌝ }
+    ensures { λ _. ⌜ now (room .exit) ≡ received agreeing soft a q n version (now (bits .entry)) (now (room .entry)) ⌝ }
 {
     let s = segmentation::segments_for(a);
     let blocks = s.blocks;

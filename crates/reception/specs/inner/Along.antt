@@ -1,7 +1,7 @@
 -- Bits put at places as they come, 01 'Receive', turns brought together in a ring, and what the parts of a code block's circle may take for granted.
 -- Assumes nothing.
 use mathlib.Core.Path.{_≡_}
-use mathlib.Core.Bool.{false}
+use mathlib.Core.Bool.{true}
 use mathlib.Core.List.{List}
 use Prim.Native.Nat.{ℕ, _+_, _-_, _*_, _%_, _≤_, _<_, min}
 use lib.ListN.{length, getD, take, drop}
@@ -11,26 +11,26 @@ use Rattle.rate_matching.specs.Circle.{circleLength, Cut, cutAt, startIn}
 use Rattle.rate_matching.specs.Walk.{itself, turn, turnAfterTurn}
 use Rattle.rate_matching.specs.Shape.{shape}
 use Rattle.rate_matching.specs.Places.{longest}
-use Rattle.slots.specs.Room.{isUnheard}
-use Rattle.reception.specs.inner.Parts.{putFrom}
+use Rattle.slots.specs.Putting.{putAlong}
+use Rattle.slots.specs.Room.{hasValue, agreeing}
 
 -- bits at the first of some places, as many as there are of both
-unfoldable pub putAlong : List ℕ → List ℕ → List ℕ → List ℕ
-putAlong places bits list = putFrom 0 (take (length bits) places) bits list
+unfoldable pub putFirst : List ℕ → List ℕ → List ℕ → List ℕ
+putFirst places bits list = putAlong agreeing (take (length bits) places) bits list
 
 -- the bits from `at` on are put at the first of some places, and end at bit `end`
 pub record Put (places bits : List ℕ) (at : ℕ) (list list′ : List ℕ) (end : ℕ) : Type 0 where
-  pub told : list′ ≡ putAlong places (drop at bits) list
+  pub told : list′ ≡ putFirst places (drop at bits) list
   pub ends : end ≡ min (at + length places) (length bits)
 
 -- something was heard for each entry
 abbrev pub AllKnown : List ℕ → Type 0
-AllKnown l = (i : ℕ) → isUnheard (getD l i 0) ≡ false
+AllKnown l = (i : ℕ) → hasValue (getD l i 0) ≡ true
 
 -- the turns of n bits after the first, brought together place by place: the second turn, and what comes after it meets what is there
 unfoldable pub ringAfter : ℕ → List ℕ → List ℕ
 ringAfter n bits =
-    putFrom 0 (tabFrom (n + n) (length bits - (n + n)) (turnAfterTurn (tab n itself))) (drop (n + n) bits) (take n (drop n bits))
+    putAlong agreeing (tabFrom (n + n) (length bits - (n + n)) (turnAfterTurn (tab n itself))) (drop (n + n) bits) (take n (drop n bits))
 
 -- streams of D = K + 4 places, K a multiple of 8 from 40 on, F of them filler, and a list of `long` entries that has the circle's places
 pub record Walked (D F long : ℕ) : Type 0 where

@@ -1,10 +1,10 @@
--- The parts of 01's Receive: bits put at places of a list, a code block's part of a room and a room by itself, and what each part may take for granted.
+-- The parts of 01's Receive: a code block's part of a room, which has its circle, and what each part may take for granted.
 -- Assumes nothing.
 use mathlib.Core.Path.{_≡_}
 use mathlib.Core.Bool.{false}
-use mathlib.Core.List.{List, [], _∷_}
+use mathlib.Core.List.{List}
 use Prim.Native.Nat.{ℕ, _+_, _*_, _≤_}
-use lib.ListN.{length, take, drop, getD}
+use lib.ListN.{length, take}
 use Rattle.laws.specs.Bits.{AreBits}
 use Rattle.segmentation.specs.Segmentation.{blocks}
 use Rattle.segmentation.specs.Sizes.{badSize}
@@ -15,21 +15,12 @@ use Rattle.rate_matching.specs.Shape.{shape}
 use Rattle.codeword.specs.Build.{badAllocation}
 use Rattle.codeword.specs.Codeword.{blockRows}
 use Rattle.slots.specs.State.{perBlock}
-use Rattle.slots.specs.Room.{putBit}
-use Rattle.slots.specs.Reception.{received}
-
--- the list after bits for some places, counted from `base`, in arrival order
-unfoldable pub putFrom : ℕ → List ℕ → List ℕ → List ℕ → List ℕ
-putFrom base [] bits list = list
-putFrom base (j ∷ js) bits list = putFrom base js (drop 1 bits) (putBit list (base + j) (getD bits 0 0))
+use Rattle.slots.specs.Putting.{putAlong}
+use Rattle.slots.specs.Room.{agreeing}
 
 -- the part of a room for a code block with D places a stream and F filler bits, its circle cut at N_cb, after bits of version v
 unfoldable pub partAfter : ℕ → ℕ → ℕ → ℕ → List ℕ → List ℕ → List ℕ
-partAfter D F Ncb v bits part = putFrom 0 (sentPlaces (take Ncb (shape D F)) (startIn Ncb (rows D) v) (length bits)) bits part
-
--- a room after a reception: by itself it is the room of slot 0, which starts at 0 whatever the rooms are for
-unfoldable pub roomAfter : ℕ → ℕ → ℕ → ℕ → ℕ → List ℕ → List ℕ → List ℕ
-roomAfter A soft Q N v bits room = received soft 1 0 A Q N v bits room
+partAfter D F Ncb v bits part = putAlong agreeing (sentPlaces (take Ncb (shape D F)) (startIn Ncb (rows D) v) (length bits)) bits part
 
 -- an accepted reception for a block of A bits, a share `soft` that is long enough for its code blocks, and a room of n bytes for them
 pub record Accepted (A soft Q N v : ℕ) (bits : List ℕ) (n : ℕ) : Type 0 where

@@ -4,7 +4,6 @@ use mathlib.Core.Path.{sym, _∙_}
 use Prim.Native.Nat.{_-_}
 use native.Mathlib.Omega.{arith}
 use lib.ListN.{length}
-use Rattle.slots.specs.Room.{putBit}
 use Rattle.reception.specs.inner.Along.{AllKnown}
 use Rattle.reception.proofs.Ring.{known-put, meet-known-is}
 use Rattle.reception.proofs.Along.{Meeting, meeting-start, meeting-long, meeting-next, meeting-finish}
@@ -39,7 +38,6 @@ loop-less : tie.Need-loop-less Inv-loop μ-loop
 loop-less c = omega arith
 
 loop-again : tie.Need-loop-again Inv-loop μ-loop
-unfolding putBit
 loop-again c =
     let i = c .before .before .before .before in
     let told = c .agreed .ensures ∙ sym (meet-known-is _ _ (i .loop .inv .1 (i .loop .i))) in

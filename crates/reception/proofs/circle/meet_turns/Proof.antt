@@ -11,9 +11,9 @@ use Rattle.laws.specs.Bits.{AreBits}
 use Rattle.laws.proofs.AreBits.{take-below, drop-below}
 use Rattle.laws.proofs.Parts.{length-mid}
 use Rattle.slots.proofs.Meeting.{known-bit}
-use Rattle.reception.specs.inner.Along.{AllKnown, putAlong}
+use Rattle.reception.specs.inner.Along.{AllKnown, putFirst}
 use Rattle.reception.proofs.Ring.{known-along}
-use Rattle.reception.proofs.Along.{length-along}
+use Rattle.reception.proofs.Along.{length-first}
 use Rattle.reception.proofs.Rounds.{Turning, ring-second, turning-start, turning-whole, turning-last}
 use Rattle.reception.proofs.circle.meet_turns.Statement.{statement}
 use Rattle.reception.proofs.circle.meet_turns.Tie as tie
@@ -22,8 +22,8 @@ use Rattle.reception.proofs.circle.meet_turns.Tie as tie
 known-part : (a k : ℕ) (bits : List ℕ) → AreBits bits → AllKnown (midOf a k bits)
 known-part a k bits h i = known-bit _ (take-below 2 (lit< tt) k (drop a bits) (drop-below 2 a bits h) i)
 
-known-after : (js bits ring : List ℕ) {ring′ : List ℕ} → AllKnown bits → AllKnown ring → ring′ ≡ putAlong js bits ring → AllKnown ring′
-unfolding putAlong
+known-after : (js bits ring : List ℕ) {ring′ : List ℕ} → AllKnown bits → AllKnown ring → ring′ ≡ putFirst js bits ring → AllKnown ring′
+unfolding putFirst
 known-after js bits ring h g e = rw e (known-along (take (length bits) js) bits ring h g)
 
 abbrev Inv-loop : tie.InvT-loop
@@ -115,7 +115,7 @@ agree-run-requires-2 c κs =
 same-length : tie.Need-same-length Inv-loop μ-loop
 same-length c =
     let w = c .before .before .before .before .before .before .loop in
-    ap length (c .before .before .agree-run2 .ensures) ∙ length-along _ _ (w .ring) ∙ w .inv .0 .long
+    ap length (c .before .before .agree-run2 .ensures) ∙ length-first _ _ (w .ring) ∙ w .inv .0 .long
 
 returns : tie.Need-returns Inv-loop μ-loop
 returns c =

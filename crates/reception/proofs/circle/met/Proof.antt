@@ -1,16 +1,22 @@
 -- `circle::met` meets its contract: the test is the definition's own.
 -- Assumes nothing.
-use Rattle.slots.specs.Room.{isUnheard, meet}
+use mathlib.Core.Path.{_≡_, refl}
+use mathlib.Core.Bool.{Bool, true, false, not}
+use Rattle.slots.specs.Room.{hasValue, meet}
 use Rattle.reception.proofs.circle.met.Statement.{statement}
 use Rattle.reception.proofs.circle.met.Tie as tie
 
+not-not : (t : Bool) → not (not t) ≡ t
+not-not true = refl
+not-not false = refl
+
 returns : tie.Need-returns
-unfolding meet isUnheard
-returns c = rw (c .if1 .taken)
+unfolding meet hasValue
+returns c = rw (not-not, c .if1 .taken)
 
 returns-2 : tie.Need-returns-2
-unfolding meet isUnheard
-returns-2 c = rw (c .if1 .left)
+unfolding meet hasValue
+returns-2 c = rw (not-not, c .if1 .left)
 
 pub met-spec : {M : Type 1} → statement M
 met-spec = tie.close (tie.spec returns returns-2)

@@ -4,7 +4,7 @@ use mathlib.Core.Path.{_∙_, ap}
 use mathlib.Core.List.{List}
 use Prim.Native.Nat.{ℕ}
 use borrow.Author.Needs.{needs}
-use Rattle.reception.specs.inner.Along.{putAlong, turnIn}
+use Rattle.reception.specs.inner.Along.{putFirst, turnIn}
 use Rattle.reception.proofs.parts.put_turns.Statement.{statement}
 use Rattle.reception.proofs.parts.put_turns.Tie as tie
 
@@ -29,7 +29,7 @@ returns c =
     let p = c .before .before in
     let e = c .before .before .before .before .before .before .before .before .before .before .before .before .args in
     p .put-round .ensures .told
-    ∙ ap (λ (l : List ℕ). putAlong (turnIn (e .d) (e .filler) (e .soft) (e .version)) l (e .part .now)) (met p .meet-turns .ensures)
+    ∙ ap (λ (l : List ℕ). putFirst (turnIn (e .d) (e .filler) (e .soft) (e .version)) l (e .part .now)) (met p .meet-turns .ensures)
 
 pub put-turns-spec : {M : Type 1} → statement M
 put-turns-spec =
