@@ -14,67 +14,53 @@ use Rattle.segmentation.specs.Segmentation.{blocks}
 use Rattle.codeword.specs.Shares.{sharesBefore}
 use Rattle.codeword.proofs.Accepted.{given-bits}
 use Rattle.slots.specs.declared.State.{State}
-use Rattle.slots.specs.Room.{unheard, disputed, heard, meet}
-use Rattle.slots.specs.Reception.{blockPlaces}
+use Rattle.slots.specs.Putting.{arriving, metBy}
+use Rattle.slots.specs.Room.{unheard, disputed, isDecided, meet, agreeing}
+use Rattle.slots.specs.Reception.{blockPlaces, blockValues}
 use Rattle.slots.specs.Calls.{receiveNumber, closeNumber}
 use Rattle.slots.proofs.Acceptance.{receives}
-use Rattle.slots.proofs.Meeting.{heard-bit, disputed-not, unheard-not, unheard-two, Known, known-bit, meet-unheard, meet-same, meet-other, meet-disputed}
+use Rattle.slots.proofs.Meeting.{decided-bit, disputed-not, unheard-not, unheard-two, Known, known-bit, meet-unheard, meet-same, meet-other, meet-disputed}
 use Rattle.history.specs.Links.{openingNumber}
 use Rattle.history.specs.Calls.{Reception, Call, opening, receiving, reading, streaming, closing, History}
-use Rattle.history.specs.Accepted.{lentLength, headsAfter, sinceCall, since, arriving, arrivals}
+use Rattle.history.specs.Accepted.{lentLength, headsAfter, sinceCall, since, inOrder, bitsFor, arrivals}
 use Rattle.history.specs.Agreed.{allAre, holding, decided}
 use Rattle.history.specs.Sent.{among, sent}
 
 -- ---- bits that meet one after the other
 
-unfoldable pub met : ℕ → List ℕ → ℕ
-met before [] = before
-met before (b ∷ bs) = met (meet before b) bs
-
-pub met-append : (before : ℕ) (fs bs : List ℕ) → met before (fs ++ bs) ≡ met (met before fs) bs
-unfolding met
-met-append before [] bs = refl
-met-append before (f ∷ fs) bs = met-append (meet before f) fs bs
-
--- a bit that may be for the place or not
-pub met-next : (t : Bool) (before b : ℕ) (bs : List ℕ) → met (cond t (meet before b) before) bs ≡ met before (cond t (b ∷ bs) bs)
-unfolding met
-met-next true before b bs = refl
-met-next false before b bs = refl
-
-met-disputed : (bs : List ℕ) → met disputed bs ≡ disputed
-unfolding met
+met-disputed : (bs : List ℕ) → metBy agreeing disputed bs ≡ disputed
+unfolding metBy agreeing
 met-disputed [] = refl
-met-disputed (b ∷ bs) = ap (λ (v : ℕ). met v bs) (meet-disputed b) ∙ met-disputed bs
+met-disputed (b ∷ bs) = ap (λ (v : ℕ). metBy agreeing v bs) (meet-disputed b) ∙ met-disputed bs
 
-met-bit : (b : ℕ) (bs : List ℕ) → Known b → met b bs ≡ cond (allAre b bs) b disputed
-unfolding met allAre
+met-bit : (b : ℕ) (bs : List ℕ) → Known b → metBy agreeing b bs ≡ cond (allAre b bs) b disputed
+unfolding metBy agreeing allAre
 met-bit b [] h = refl
 met-bit b (c ∷ cs) h = elim (ℕ-discrete b c) [
   | yes e ↦
-      ap (λ (v : ℕ). met v cs) (ap (meet b) (sym e) ∙ meet-same b)
+      ap (λ (v : ℕ). metBy agreeing v cs) (ap (meet b) (sym e) ∙ meet-same b)
       ∙ met-bit b cs h
       ∙ ap (λ (t : Bool). cond (t && allAre b cs) b disputed) (sym (eq-eqb c b (sym e)))
   | no n ↦
-      ap (λ (v : ℕ). met v cs) (meet-other b c h n)
+      ap (λ (v : ℕ). metBy agreeing v cs) (meet-other b c h n)
       ∙ met-disputed cs
       ∙ ap (λ (t : Bool). cond (t && allAre b cs) b disputed) (sym (ne-eqb c b (λ e. n (sym e))))
 ]
 
 -- from unheard on they leave what they say together
-pub met-is : (bs : List ℕ) → AreBits bs → met unheard bs ≡ holding bs
-unfolding met holding
+pub met-is : (bs : List ℕ) → AreBits bs → metBy agreeing unheard bs ≡ holding bs
+unfolding metBy agreeing holding
 met-is [] h = refl
-met-is (b ∷ bs) h = ap (λ (v : ℕ). met v bs) (meet-unheard unheard b unheard-two) ∙ met-bit b bs (known-bit b (h 0))
+met-is (b ∷ bs) h = ap (λ (v : ℕ). metBy agreeing v bs) (meet-unheard unheard b unheard-two) ∙ met-bit b bs (known-bit b (h 0))
 
--- which is a bit exactly where one came and all agree
-pub holding-heard : (bs : List ℕ) → AreBits bs → heard (holding bs) ≡ decided bs
+-- which is decided exactly where a bit came and all agree
+pub holding-decided : (bs : List ℕ) → AreBits bs → isDecided (holding bs) ≡ decided bs
 unfolding holding decided
-holding-heard [] h = unheard-not
-holding-heard (b ∷ bs) h = go (allAre b bs)
+holding-decided [] h = unheard-not
+holding-decided (b ∷ bs) h = go (allAre b bs)
   where
-    go : (t : Bool) → heard (cond t b disputed) ≡ t
-    go true = heard-bit b (h 0)
+    go : (t : Bool) → isDecided (cond t b disputed) ≡ t
+    go true = decided-bit b (h 0)
     go false = disputed-not
 
 -- ---- all the same
@@ -89,19 +75,19 @@ unfolding allAre
 all-append b [] bs h g = g
 all-append b (f ∷ fs) bs h g = let both = and-eq-true-iff (eqb f b) (allAre b fs) .0 h in ap₂ _&&_ (both .0) (all-append b fs bs (both .1) g)
 
-pub all-met : (b : ℕ) (bs : List ℕ) → allAre b bs ≡ true → met unheard bs ≡ cond (someCame bs) b unheard
-unfolding met allAre someCame
+pub all-met : (b : ℕ) (bs : List ℕ) → allAre b bs ≡ true → metBy agreeing unheard bs ≡ cond (someCame bs) b unheard
+unfolding metBy agreeing allAre someCame
 all-met b [] h = refl
 all-met b (c ∷ cs) h =
     let both = and-eq-true-iff (eqb c b) (allAre b cs) .0 h in
     let is : c ≡ b = eqb-true c b (both .0) in
-    ap (λ (v : ℕ). met v cs) (meet-unheard unheard c unheard-two ∙ is) ∙ stays cs (both .1)
+    ap (λ (v : ℕ). metBy agreeing v cs) (meet-unheard unheard c unheard-two ∙ is) ∙ stays cs (both .1)
   where
-    stays : (cs : List ℕ) → allAre b cs ≡ true → met b cs ≡ b
+    stays : (cs : List ℕ) → allAre b cs ≡ true → metBy agreeing b cs ≡ b
     stays [] h = refl
     stays (c ∷ cs) h =
         let both = and-eq-true-iff (eqb c b) (allAre b cs) .0 h in
-        ap (λ (v : ℕ). met v cs) (ap (meet b) (eqb-true c b (both .0)) ∙ meet-same b) ∙ stays cs (both .1)
+        ap (λ (v : ℕ). metBy agreeing v cs) (ap (meet b) (eqb-true c b (both .0)) ∙ meet-same b) ∙ stays cs (both .1)
 
 pub all-decided : (b : ℕ) (bs : List ℕ) → allAre b bs ≡ true → decided bs ≡ someCame bs
 unfolding allAre someCame decided
@@ -119,18 +105,18 @@ came-append [] (b ∷ bs) = refl
 came-append (f ∷ fs) [] = refl
 came-append (f ∷ fs) (b ∷ bs) = refl
 
-came-among : (ps bits : List ℕ) (j : ℕ) → someCame (arriving ps bits j) ≡ among j ps
-unfolding arriving among someCame
+came-among : (ps bits : List ℕ) (j : ℕ) → someCame (arriving agreeing ps bits j) ≡ among j ps
+unfolding arriving agreeing among someCame
 came-among [] bits j = refl
 came-among (p ∷ ps) bits j = go (eqb p j) (came-among ps (drop 1 bits) j)
   where
-    go : (t : Bool) → someCame (arriving ps (drop 1 bits) j) ≡ among j ps
-        → someCame (cond t (getD bits 0 0 ∷ arriving ps (drop 1 bits) j) (arriving ps (drop 1 bits) j)) ≡ (t || among j ps)
+    go : (t : Bool) → someCame (arriving agreeing ps (drop 1 bits) j) ≡ among j ps
+        → someCame (cond t (getD bits 0 0 ∷ arriving agreeing ps (drop 1 bits) j) (arriving agreeing ps (drop 1 bits) j)) ≡ (t || among j ps)
     go true e = refl
     go false e = e
 
 pub came-sent : (soft A : ℕ) (xs : List Reception) (r j : ℕ) → someCame (arrivals soft A xs r j) ≡ sent soft A xs r j
-unfolding arrivals sent someCame
+unfolding inOrder bitsFor sent someCame
 came-sent soft A [] r j = refl
 came-sent soft A (x ∷ xs) r j =
     came-append (arrivals soft A xs r j) _
@@ -142,17 +128,17 @@ abbrev pub AllBits : List Reception → Type 0
 AllBits [] = Unit {0}
 AllBits (x ∷ xs) = AreBits (x .bits) × AllBits xs
 
-arriving-bits : (ps bits : List ℕ) (j : ℕ) → AreBits bits → AreBits (arriving ps bits j)
-unfolding arriving
+arriving-bits : (ps bits : List ℕ) (j : ℕ) → AreBits bits → AreBits (arriving agreeing ps bits j)
+unfolding arriving agreeing
 arriving-bits [] bits j h = no-bits
 arriving-bits (p ∷ ps) bits j h = go (eqb p j) (arriving-bits ps (drop 1 bits) j (drop-below 2 1 bits h))
   where
-    go : (t : Bool) → AreBits (arriving ps (drop 1 bits) j) → AreBits (cond t (getD bits 0 0 ∷ arriving ps (drop 1 bits) j) (arriving ps (drop 1 bits) j))
-    go true rest = with-bit (getD bits 0 0) (arriving ps (drop 1 bits) j) (h 0) rest
+    go : (t : Bool) → AreBits (arriving agreeing ps (drop 1 bits) j) → AreBits (cond t (getD bits 0 0 ∷ arriving agreeing ps (drop 1 bits) j) (arriving agreeing ps (drop 1 bits) j))
+    go true rest = with-bit (getD bits 0 0) (arriving agreeing ps (drop 1 bits) j) (h 0) rest
     go false rest = rest
 
 pub arrived-bits : (soft A : ℕ) (xs : List Reception) (r j : ℕ) → AllBits xs → AreBits (arrivals soft A xs r j)
-unfolding arrivals
+unfolding inOrder bitsFor blockValues
 arrived-bits soft A [] r j h = no-bits
 arrived-bits soft A (x ∷ xs) r j h =
     append-bits (arrivals soft A xs r j) _ (arrived-bits soft A xs r j (h .1))

@@ -12,7 +12,7 @@ use Rattle.segmentation.specs.Segmentation.{blocks, checkLength, sizeOf, filler
 use Rattle.segmentation.specs.CodeBlocks.{takenBefore}
 use Rattle.segmentation.proofs.Segmentation.{single, several, large-of, blocks-least, size-checks}
 use Rattle.segmentation.proofs.CodeBlocks.{taken-all, filler-first}
-use Rattle.slots.specs.Reading.{sumFrom}
+use Rattle.slots.specs.Circle.{sumFrom}
 use Rattle.slots.proofs.Sums.{sumFrom-done, sumFrom-more, sumFrom-ext, sumFrom-same, sumFrom-none}
 use Rattle.history.specs.Calls.{Reception}
 use Rattle.history.specs.Sent.{DataPlace, sentData, decidedData, missing, dataWithoutIn, dataWithout, unsent, undecided, AllSent, NoneSent, AllDecided, dataPlacesIn, dataPlaces}

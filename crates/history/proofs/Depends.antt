@@ -18,11 +18,11 @@ use Rattle.slots.specs.declared.Outcome.{Outcome}
 use Rattle.slots.specs.declared.State.{State}
 use Rattle.slots.specs.State.{storeLength, closedHead, openHead, roomLength, roomStart, headAt, badState}
 use Rattle.slots.specs.Answers.{isDone, unlessRefused}
-use Rattle.slots.specs.Room.{cleared}
+use Rattle.slots.specs.Room.{agreeing, roomAt, withRoom, cleared}
 use Rattle.slots.specs.Reception.{received}
 use Rattle.slots.specs.Reading.{lacking, heardAnswer, heardBlock, threeStreams}
 use Rattle.slots.specs.Calls.{withHead, storeRules, ownerRules, sizeAtHead, shareAtHead, openRules, openNumber, openDownNumber, receiveNumber, receiveOutcome, readNumber, readOutcome, released, readOutput, streamsNumber, streamsOutcome, streamsOutput, closeNumber, closeOutcome}
-use Rattle.slots.proofs.RoomLaws.{room-within, cleared-in}
+use Rattle.slots.proofs.RoomLaws.{room-byte, cleared-in, blocks-fit, room-stored}
 use Rattle.slots.proofs.HeadLaws.{open-size, its-head, no-head, closed-head}
 use Rattle.slots.proofs.Acceptance.{receives, reads, streams}
 use Rattle.history.specs.Links.{Link, uplink, downlink, shareIn, openingNumber}
@@ -56,6 +56,10 @@ same-output number number′ new new′ out e f = rw (← e) (go (eqb number 0) 
     go false t = refl
 
 module _ (slot : ℕ) (state other : State) (store otherStore : List ℕ) (same : SameSlot slot state other store otherStore) where
+  -- the slot's room in a store
+  abbrev roomOf : State → List ℕ → List ℕ
+  roomOf t l = roomAt (t .blocks) slot l
+
   same-size : sizeAtHead state slot ≡ sizeAtHead other slot
   unfolding sizeAtHead
   same-size = ap (λ h. h .size) (same .head)
@@ -92,34 +96,29 @@ module _ (slot : ℕ) (state other : State) (store otherStore : List ℕ) (same 
   -- ---- what is read of an open slot
 
   module _ (sound : badState state ≡ false) (below : slot < state .slots) (opened : headAt state slot .opened ≡ true) where
-    -- whatever is the same in two stores with the same room
-    at-slot : {B : Type 0} (f : ℕ → ℕ → ℕ → List ℕ → B)
-        → ((M s A : ℕ) → badSize A ≡ false → blocks (A + 24) ≤ M → (l r : List ℕ) → SameRoom M s l r → f M s A l ≡ f M s A r)
-        → f (state .blocks) slot (sizeAtHead state slot) store ≡ f (other .blocks) slot (sizeAtHead other slot) otherStore
+    -- whatever is the same of two rooms with the same bytes
+    at-slot : {B : Type 0} (f : ℕ → List ℕ → B)
+        → ((M A : ℕ) → badSize A ≡ false → blocks (A + 24) ≤ M → (l r : List ℕ) → ((k : ℕ) → k < roomLength M → getD l k 0 ≡ getD r k 0) → f A l ≡ f A r)
+        → f (sizeAtHead state slot) (roomOf state store) ≡ f (sizeAtHead other slot) (roomOf other otherStore)
     at-slot f law =
         let size = open-size state sound slot below opened in
-        law (state .blocks) slot (sizeAtHead state slot) (size .0) (size .1) store otherStore (same .room)
-        ∙ ap₂ (λ (M A : ℕ). f M slot A otherStore) (same .blocks) same-size
+        law (state .blocks) (sizeAtHead state slot) (size .0) (size .1) _ _ (same .room)
+        ∙ ap₂ (λ (M A : ℕ). f A (roomAt M slot otherStore)) (same .blocks) same-size
 
-    same-answerAt : heardAnswer (state .blocks) slot (sizeAtHead state slot) store ≡ heardAnswer (other .blocks) slot (sizeAtHead other slot) otherStore
+    same-answerAt : heardAnswer (sizeAtHead state slot) (roomOf state store) ≡ heardAnswer (sizeAtHead other slot) (roomOf other otherStore)
     same-answerAt = at-slot heardAnswer same-answer
 
-    same-blockAt : heardBlock (state .blocks) slot (sizeAtHead state slot) store ≡ heardBlock (other .blocks) slot (sizeAtHead other slot) otherStore
+    same-blockAt : heardBlock (sizeAtHead state slot) (roomOf state store) ≡ heardBlock (sizeAtHead other slot) (roomOf other otherStore)
     same-blockAt = at-slot heardBlock same-block
 
     same-streamsAt : (r : ℕ) → r < blocks (sizeAtHead state slot + 24)
-        → threeStreams (state .blocks) slot (sizeAtHead state slot + 24) store r ≡ threeStreams (other .blocks) slot (sizeAtHead other slot + 24) otherStore r
+        → threeStreams (sizeAtHead state slot + 24) (roomOf state store) r ≡ threeStreams (sizeAtHead other slot + 24) (roomOf other otherStore) r
     same-streamsAt r l =
         let size = open-size state sound slot below opened in
-        same-streams (state .blocks) slot (sizeAtHead state slot) (size .0) (size .1) store otherStore (same .room) r l
-        ∙ ap₂ (λ (M A : ℕ). threeStreams M slot (A + 24) otherStore r) (same .blocks) same-size
+        same-streams (state .blocks) (sizeAtHead state slot) (size .0) (size .1) _ _ (same .room) r l
+        ∙ ap₂ (λ (M A : ℕ). threeStreams (A + 24) (roomAt M slot otherStore) r) (same .blocks) same-size
 
   -- ---- the room after a call
-
-  -- an accepted opening or reception has the slot's room in both stores
-  room-in : slot < state .slots → storeLength state ≤ length store → roomStart (state .blocks) slot + roomLength (state .blocks) ≤ length store
-  unfolding storeLength
-  room-in below long = omega (arith, room-within (state .slots) (state .blocks) slot below, long)
 
   -- the same test, and where it is true the same room
   same-written : (call : Call) (b : Bool) (new new′ : List ℕ) → storeAfterCall state store call ≡ cond b new store
@@ -142,9 +141,11 @@ module _ (slot : ℕ) (state other : State) (store otherStore : List ℕ) (same 
       unheard-both : eqb number 0 ≡ true → SameRoom (state .blocks) slot (cleared (state .blocks) slot store) (cleared (other .blocks) slot otherStore)
       unheard-both e k l =
           let long = room-lent link state (length store) slot A (eqb-true number 0 e) in
-          cleared-in (state .blocks) slot store long (roomStart (state .blocks) slot + k) (omega arith, omega arith)
+          room-byte (state .blocks) slot _ k
+          ∙ cleared-in (state .blocks) slot store long (roomStart (state .blocks) slot + k) (omega arith, omega arith)
           ∙ sym (cleared-in (state .blocks) slot otherStore (omega (arith, same .long)) (roomStart (state .blocks) slot + k) (omega arith, omega arith))
-          ∙ ap (λ (M : ℕ). getD (cleared M slot otherStore) (roomStart (state .blocks) slot + k) 0) (same .blocks)
+          ∙ sym (room-byte (state .blocks) slot _ k)
+          ∙ ap (λ (M : ℕ). getD (roomAt (state .blocks) slot (cleared M slot otherStore)) k 0) (same .blocks)
 
   same-put : (terminal : ℕ) (x : Reception)
       → SameRoom (state .blocks) slot (storeAfterCall state store (receiving slot terminal x)) (storeAfterCall other otherStore (receiving slot terminal x))
@@ -158,7 +159,7 @@ module _ (slot : ℕ) (state other : State) (store otherStore : List ℕ) (same 
       number = receiveNumber state (length store) slot terminal (x .Q) (x .N) (x .version) (x .bits)
 
       put : ℕ → ℕ → ℕ → List ℕ → List ℕ
-      put soft M A l = received soft M slot A (x .Q) (x .N) (x .version) (x .bits) l
+      put soft M A l = withRoom M slot (received agreeing soft A (x .Q) (x .N) (x .version) (x .bits) (roomAt M slot l)) l
 
       put-both : eqb number 0 ≡ true
           → SameRoom (state .blocks) slot (put (shareAtHead state slot) (state .blocks) (sizeAtHead state slot) store) (put (shareAtHead other slot) (other .blocks) (sizeAtHead other slot) otherStore)
@@ -166,20 +167,26 @@ module _ (slot : ℕ) (state other : State) (store otherStore : List ℕ) (same 
           let z : number ≡ 0 = eqb-true number 0 e in
           let a = receives state (length store) slot terminal (x .Q) (x .N) (x .version) (x .bits) z in
           let size = open-size state (a .sound) slot (a .below) (a .opened) in
-          let long = room-in (a .below) (a .long) in
+          let fits = reception-fits state (length store) slot terminal x z in
+          let long : roomStart (state .blocks) slot + roomLength (state .blocks) ≤ length otherStore = omega (arith, fits .room, same .long) in
+          let stored = room-stored (shareAtHead state slot) (state .blocks) slot (sizeAtHead state slot) (x .Q) (x .N) (x .version) (x .bits) in
+          let has = blocks-fit (shareAtHead state slot) (state .blocks) slot (sizeAtHead state slot) (x .Q) (x .N) (x .version) (x .bits) in
           subst (SameRoom (state .blocks) slot (put (shareAtHead state slot) (state .blocks) (sizeAtHead state slot) store))
           (ap₂ (λ (M A : ℕ). put (shareAtHead state slot) M A otherStore) (same .blocks) same-size ∙ ap (λ (soft : ℕ). put soft (other .blocks) (sizeAtHead other slot) otherStore) same-share)
-          (same-received (state .blocks) slot (sizeAtHead state slot) (size .0) (size .1) store otherStore (same .room) (shareAtHead state slot) (x .Q) (x .N) (x .version) (x .bits)
-          (reception-fits state (length store) slot terminal x z .1) long (omega (arith, same .long)))
+          (λ k l.
+          ap (λ (room : List ℕ). getD room k 0) (stored store (fits .room) (fits .few) (fits .places))
+          ∙ same-received (state .blocks) (sizeAtHead state slot) (size .0) (size .1) (roomOf state store) (roomOf state otherStore) (same .room) (shareAtHead state slot) (x .Q) (x .N) (x .version) (x .bits)
+          (fits .places) (has store (fits .room) (fits .few) (fits .places)) (has otherStore long (fits .few) (fits .places)) k l
+          ∙ ap (λ (room : List ℕ). getD room k 0) (sym (stored otherStore long (fits .few) (fits .places))))
 
   same-heard : (terminal : ℕ) (x : Reception) → receiveNumber state (length store) slot terminal (x .Q) (x .N) (x .version) (x .bits) ≡ 0
-      → lacking (state .blocks) slot (sizeAtHead state slot) (storeAfterCall state store (receiving slot terminal x))
-      ≡ lacking (other .blocks) slot (sizeAtHead other slot) (storeAfterCall other otherStore (receiving slot terminal x))
+      → lacking (sizeAtHead state slot) (roomOf state (storeAfterCall state store (receiving slot terminal x)))
+      ≡ lacking (sizeAtHead other slot) (roomOf other (storeAfterCall other otherStore (receiving slot terminal x)))
   same-heard terminal x e =
       let a = receives state (length store) slot terminal (x .Q) (x .N) (x .version) (x .bits) e in
       let size = open-size state (a .sound) slot (a .below) (a .opened) in
-      same-lacking (state .blocks) slot (sizeAtHead state slot) (size .0) (size .1) _ _ (same-put terminal x)
-      ∙ ap₂ (λ (M A : ℕ). lacking M slot A (storeAfterCall other otherStore (receiving slot terminal x))) (same .blocks) same-size
+      same-lacking (state .blocks) (sizeAtHead state slot) (size .0) (size .1) _ _ (same-put terminal x)
+      ∙ ap₂ (λ (M A : ℕ). lacking A (roomAt M slot (storeAfterCall other otherStore (receiving slot terminal x)))) (same .blocks) same-size
 
   -- ---- the promise: the answer, and what the outputs hold
 
@@ -208,8 +215,8 @@ module _ (slot : ℕ) (state other : State) (store otherStore : List ℕ) (same 
       written t l b =
           cond
           (isDone
-          (cond {A = Outcome} b (record { answer = heardAnswer (t .blocks) slot (sizeAtHead t slot) l; state = t }) (record { answer = Refused number; state = t }) .answer))
-          (heardBlock (t .blocks) slot (sizeAtHead t slot) l ++ drop (sizeAtHead t slot) out)
+          (cond {A = Outcome} b (record { answer = heardAnswer (sizeAtHead t slot) (roomOf t l); state = t }) (record { answer = Refused number; state = t }) .answer))
+          (heardBlock (sizeAtHead t slot) (roomOf t l) ++ drop (sizeAtHead t slot) out)
           out
 
       go : (b : Bool) → eqb number 0 ≡ b → written state store b ≡ written other otherStore b
@@ -225,8 +232,8 @@ module _ (slot : ℕ) (state other : State) (store otherStore : List ℕ) (same 
   streams-depends terminal r out = same-output _ _ _ _ out (same-stream terminal r (length out)) written
     where
       written : streamsNumber state (length store) slot terminal r (length out) ≡ 0
-          → threeStreams (state .blocks) slot (sizeAtHead state slot + 24) store r ++ drop (3 * (sizeOf (sizeAtHead state slot + 24) r + 4)) out
-          ≡ threeStreams (other .blocks) slot (sizeAtHead other slot + 24) otherStore r ++ drop (3 * (sizeOf (sizeAtHead other slot + 24) r + 4)) out
+          → threeStreams (sizeAtHead state slot + 24) (roomOf state store) r ++ drop (3 * (sizeOf (sizeAtHead state slot + 24) r + 4)) out
+          ≡ threeStreams (sizeAtHead other slot + 24) (roomOf other otherStore) r ++ drop (3 * (sizeOf (sizeAtHead other slot + 24) r + 4)) out
       written z =
           let a = streams state (length store) slot terminal r (length out) z in
           ap₂ (λ (l : List ℕ) (A : ℕ). l ++ drop (3 * (sizeOf (A + 24) r + 4)) out)

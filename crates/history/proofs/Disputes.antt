@@ -8,19 +8,21 @@ use Prim.Native.Nat.{ℕ, _+_}
 use lib.Dec.{eqb}
 use lib.ListN.{length, drop}
 use borrow.Author.Tests.{eq-eqb, ne-eqb, eqb-true}
+use Rattle.segmentation.specs.Segmentation.{sizeOf}
 use Rattle.slots.specs.declared.Answer.the-variants.{Done, StillLacking}
 use Rattle.slots.specs.declared.Head.{Head}
 use Rattle.slots.specs.declared.Outcome.{Outcome}
 use Rattle.slots.specs.declared.State.{State}
 use Rattle.slots.specs.State.{headAt}
-use Rattle.slots.specs.Room.{unheard, disputed}
+use Rattle.slots.specs.Room.{unheard, disputed, roomAt, circleAt}
+use Rattle.slots.specs.Circle.{keptOn}
 use Rattle.slots.specs.Answers.{Lacking, isDone}
-use Rattle.slots.specs.Reading.{keptAt, checkedAnswer, heardBlock}
+use Rattle.slots.specs.Reading.{checkedAnswer, heardBlock}
 use Rattle.slots.specs.Calls.{sizeAtHead, shareAtHead, receiveNumber, receiveOutcome, readNumber, readOutcome, released, readOutput}
 use Rattle.slots.proofs.HeadLaws.{open-size}
 use Rattle.slots.proofs.Acceptance.{receives, reads}
 use Rattle.history.specs.Calls.{Reception, Call, opening, receiving, reading, streaming, closing, History}
-use Rattle.history.specs.Accepted.{lentLength, headsAfter, sinceCall, since, arrivals}
+use Rattle.history.specs.Accepted.{lentLength, headsAfter, sinceCall, since, inOrder, arrivals}
 use Rattle.history.specs.Agreed.{allAre, holding, decided}
 use Rattle.history.specs.Sent.{among, DataPlace, arrivalsAt, decidedData, undecided, AllDecided}
 use Rattle.history.specs.After.{stateAfter, storeAfter, roomsLong, acceptedAfter}
@@ -105,19 +107,19 @@ among-first c (f ∷ fs) bs m = go (eqb f c) m (among-first c fs bs)
     go false n g = g n
 
 -- a call that neither opens nor closes the slot leaves what came for it
-came-on : (state : State) (room slot : ℕ) (call : Call) (earlier : List Reception) (soft A r j c : ℕ) → restarts state room slot call ≡ false
-    → among c (arrivals soft A earlier r j) ≡ true → among c (arrivals soft A (sinceCall state room slot call earlier) r j) ≡ true
-unfolding sinceCall restarts arrivals
-came-on state room slot (opening link s terminal B) earlier soft A r j c e m = rw e m
-came-on state room slot (receiving s terminal x) earlier soft A r j c e m =
-    go (eqb s slot && eqb (receiveNumber state room s terminal (x .Q) (x .N) (x .version) (x .bits)) 0)
+came-on : (state : State) (lent slot : ℕ) (call : Call) (earlier : List Reception) (soft A r j c : ℕ) → restarts state lent slot call ≡ false
+    → among c (arrivals soft A earlier r j) ≡ true → among c (arrivals soft A (sinceCall state lent slot call earlier) r j) ≡ true
+unfolding sinceCall restarts inOrder
+came-on state lent slot (opening link s terminal B) earlier soft A r j c e m = rw e m
+came-on state lent slot (receiving s terminal x) earlier soft A r j c e m =
+    go (eqb s slot && eqb (receiveNumber state lent s terminal (x .Q) (x .N) (x .version) (x .bits)) 0)
   where
     go : (t : Bool) → among c (arrivals soft A (cond t (x ∷ earlier) earlier) r j) ≡ true
     go true = among-first c (arrivals soft A earlier r j) _ m
     go false = m
-came-on state room slot (reading s terminal size) earlier soft A r j c e m = m
-came-on state room slot (streaming s terminal block size) earlier soft A r j c e m = m
-came-on state room slot (closing s terminal) earlier soft A r j c e m = rw e m
+came-on state lent slot (reading s terminal size) earlier soft A r j c e m = m
+came-on state lent slot (streaming s terminal block size) earlier soft A r j c e m = m
+came-on state lent slot (closing s terminal) earlier soft A r j c e m = rw e m
 
 came-stays : (S M n slot : ℕ) (later h : History) (soft A r j c : ℕ) → Undisturbed S M n slot later h
     → among c (arrivals soft A (since S M n slot h) r j) ≡ true → among c (arrivals soft A (since S M n slot (later ++ h)) r j) ≡ true
@@ -135,6 +137,10 @@ module _ (S M : ℕ) (store₀ : List ℕ) (h : History) (past : List ℕ) (slot
 
   abbrev store : List ℕ
   store = storeAfter S M store₀ h past
+
+  -- the slot's room
+  abbrev room : List ℕ
+  room = roomAt (state .blocks) slot store
 
   abbrev accepted : List Reception
   accepted = acceptedAfter S M store₀ h slot
@@ -157,7 +163,7 @@ module _ (S M : ℕ) (store₀ : List ℕ) (h : History) (past : List ℕ) (slot
     -- Read, where it comes to the room
     pub read-is : readNumber state (length store) slot terminal (length out) ≡ 0
         → readOutcome state store slot terminal (length out)
-        ≡ record { answer = cond (eqb (undecided soft A accepted) 0) (checkedAnswer (state .blocks) slot A store) (Lacking (undecided soft A accepted)); state = state }
+        ≡ record { answer = cond (eqb (undecided soft A accepted) 0) (checkedAnswer A room) (Lacking (undecided soft A accepted)); state = state }
     read-is came =
         let w = reads state (length store) slot terminal (length out) came in
         read-any state store slot terminal accepted (given S M store₀ h past slot terminal)
@@ -171,20 +177,20 @@ module _ (S M : ℕ) (store₀ : List ℕ) (h : History) (past : List ℕ) (slot
         let is : readOutcome state store slot terminal (length out) ≡ record { answer = Lacking (undecided soft A accepted); state = state } =
         rw (ne-eqb (undecided soft A accepted) 0 some) at (read-is came) in (
           is,
-          ap (λ (o : Outcome). cond (isDone (o .answer)) (heardBlock (state .blocks) slot A store ++ drop A out) out) is,
+          ap (λ (o : Outcome). cond (isDone (o .answer)) (heardBlock A room ++ drop A out) out) is,
         )
 
     -- none is: what the checks say, and where they are right the block
     pub decided-checked : readNumber state (length store) slot terminal (length out) ≡ 0 → AllDecided soft A accepted
-        → (readOutcome state store slot terminal (length out) ≡ record { answer = checkedAnswer (state .blocks) slot A store; state = state })
+        → (readOutcome state store slot terminal (length out) ≡ record { answer = checkedAnswer A room; state = state })
         × (readOutput state store slot terminal out
-        ≡ cond (isDone (checkedAnswer (state .blocks) slot A store)) (heardBlock (state .blocks) slot A store ++ drop A out) out)
+        ≡ cond (isDone (checkedAnswer A room)) (heardBlock A room ++ drop A out) out)
     unfolding readOutput released
     decided-checked came all =
-        let is : readOutcome state store slot terminal (length out) ≡ record { answer = checkedAnswer (state .blocks) slot A store; state = state } =
+        let is : readOutcome state store slot terminal (length out) ≡ record { answer = checkedAnswer A room; state = state } =
         rw (undecided-none soft A accepted all) at (read-is came) in (
           is,
-          ap (λ (o : Outcome). cond (isDone (o .answer)) (heardBlock (state .blocks) slot A store ++ drop A out) out) is,
+          ap (λ (o : Outcome). cond (isDone (o .answer)) (heardBlock A room ++ drop A out) out) is,
         )
 
     -- a data place undecided: no read whatever gives the block or writes a byte
@@ -202,7 +208,7 @@ module _ (S M : ℕ) (store₀ : List ℕ) (h : History) (past : List ℕ) (slot
     -- a block is given: at each data place the room has a bit that came since the opening, and none came that differs
     pub given-agreed : readOutcome state store slot terminal (length out) .answer ≡ Done → (r i : ℕ) → DataPlace A r i
         → let bits : List ℕ = arrivalsAt soft A accepted r i in
-        let bit : ℕ = keptAt (state .blocks) slot (A + 24) store r 0 i in
+        let bit : ℕ = keptOn (circleAt r room) (sizeOf (A + 24) r + 4) 0 i in
         (among bit bits ≡ true) × ((c : ℕ) → among c bits ≡ true → c ≡ bit)
     given-agreed done r i place = go (eqb (readNumber state (length store) slot terminal (length out)) 0) refl
       where
@@ -210,7 +216,7 @@ module _ (S M : ℕ) (store₀ : List ℕ) (h : History) (past : List ℕ) (slot
         bits = arrivalsAt soft A accepted r i
 
         bit : ℕ
-        bit = keptAt (state .blocks) slot (A + 24) store r 0 i
+        bit = keptOn (circleAt r room) (sizeOf (A + 24) r + 4) 0 i
 
         is-decided : (t : Bool) → decided bits ≡ t → decided bits ≡ true
         is-decided true e = e
@@ -220,7 +226,7 @@ module _ (S M : ℕ) (store₀ : List ℕ) (h : History) (past : List ℕ) (slot
         go true t =
             let w = reads state (length store) slot terminal (length out) (eqb-true _ 0 t) in
             let is : bit ≡ holding bits =
-            kept-holding soft A (open-size state (w .sound) slot (w .below) (w .opened) .0) accepted (given S M store₀ h past slot terminal) (state .blocks) slot store
+            kept-holding soft A (open-size state (w .sound) slot (w .below) (w .opened) .0) accepted (given S M store₀ h past slot terminal) room
             (kept S M store₀ h past slot terminal (w .sound) (w .long) (w .below) (w .opened)) r i (place .block) (place .below-size) in
             rw is (decided-holds bits (is-decided (decided bits) refl))
         go false t = absurd (refused-answer state store slot terminal out t done)

@@ -14,6 +14,7 @@ use Rattle.slots.specs.declared.Outcome.{Outcome}
 use Rattle.slots.specs.declared.State.{State}
 use Rattle.slots.specs.State.{closedHead, openHead, newState, broken, badShape, badState}
 use Rattle.slots.specs.Answers.{numberOf, Lacking, WrongBlock, unlessRefused}
+use Rattle.slots.specs.Room.{roomAt}
 use Rattle.slots.specs.Reading.{lacking, firstWrong, someWrong, wrongCheck, heardAnswer}
 use Rattle.slots.specs.Calls.{withHead, storeRules, ownerRules, sizeAtHead, newOutcome, openRules, openNumber, openOutcome, openDownNumber, openDownOutcome, receiveNumber, receiveOutcome, readNumber, readOutcome, streamsNumber, streamsOutcome, closeNumber, closeOutcome}
 use Rattle.slots.proofs.Heads.{closed-unbroken}
@@ -124,15 +125,15 @@ module _ (state : State) (sound : badState state ≡ false) where
   answer-not-13 store (opening uplink slot terminal A) = not-13 _ _ (behind _ tt) (eqb-false 0 13 refl)
   answer-not-13 store (opening (downlink release kMIMO processes Nsoft layers) slot terminal A) = not-13 _ _ (behind _ tt) (eqb-false 0 13 refl)
   answer-not-13 store (receiving slot terminal r) = not-13 _ _ (behind _ tt) (eqb-false 0 13 refl)
-  answer-not-13 store (reading slot terminal size) = not-13 _ _ (behind _ tt) (read (eqb (lacking M slot A store) 0) (someWrong M slot A store) (wrongCheck M slot A store))
+  answer-not-13 store (reading slot terminal size) = not-13 _ _ (behind _ tt) (read (eqb (lacking A room) 0) (someWrong A room) (wrongCheck A room))
     where
-      M : ℕ
-      M = state .blocks
-
       A : ℕ
       A = sizeAtHead state slot
 
-      read : (a b w : Bool) → numberOf (cond a (cond b (WrongBlock (firstWrong M slot A store)) (cond w (Refused 12) Done)) (Lacking (lacking M slot A store))) ≡ 13 → ⊥
+      room : List ℕ
+      room = roomAt (state .blocks) slot store
+
+      read : (a b w : Bool) → numberOf (cond a (cond b (WrongBlock (firstWrong A room)) (cond w (Refused 12) Done)) (Lacking (lacking A room))) ≡ 13 → ⊥
       read true true w = eqb-false 16 13 refl
       read true false true = eqb-false 12 13 refl
       read true false false = eqb-false 0 13 refl

@@ -13,39 +13,24 @@ use borrow.Author.Tests.{eqb-true, eq-eqb, ne-eqb}
 use Rattle.segmentation.specs.Segmentation.{blocks}
 use Rattle.slots.specs.declared.Head.{Head}
 use Rattle.slots.specs.declared.State.{State}
-use Rattle.slots.specs.State.{perBlock, storeLength, closedHead, openHead, headAt, badShape}
-use Rattle.slots.specs.Room.{unheard, byteOf}
-use Rattle.slots.specs.Reception.{received}
+use Rattle.slots.specs.State.{roomLength, roomStart, closedHead, openHead, headAt, badShape}
+use Rattle.slots.specs.Room.{unheard, agreeing, roomAt}
 use Rattle.slots.specs.Calls.{withHead, sizeAtHead, shareAtHead, receiveNumber, closeNumber}
-use Rattle.slots.proofs.RoomLaws.{AllPlaces, room-within, rooms-apart, byte-in-room, cleared-in, received-past}
+use Rattle.slots.proofs.RoomLaws.{room-byte, cleared-in, blocks-fit, room-stored}
 use Rattle.slots.proofs.HeadLaws.{open-size, closed-head, new-head}
 use Rattle.slots.proofs.Acceptance.{receives}
 use Rattle.history.specs.Links.{Link, shareIn, openingNumber}
 use Rattle.history.specs.Calls.{Reception, Call, opening, receiving, reading, streaming, closing, Made, History}
 use Rattle.history.specs.Run.{World, lent, storeAfterCall, step, begin, run}
-use Rattle.history.specs.Accepted.{lentLength, headsAfterCall, headsAfter, sinceCall, since, arrivals}
+use Rattle.history.specs.Accepted.{lentLength, headsAfterCall, headsAfter, sinceCall, since, bitsFor, arrivals}
 use Rattle.history.specs.Answered.{slotOf}
 use Rattle.history.specs.Holds.{Holds}
 use Rattle.history.proofs.Links.{opening-fits}
-use Rattle.history.proofs.State.{open-writes, receive-writes, room-lent, rooms-lent, length-lent, rooms-long, heads}
+use Rattle.history.proofs.State.{withReception, open-writes, receive-writes, room-lent, length-lent, rooms-long, heads}
 use Rattle.history.proofs.Heads.{Good, good-call, new-is, run-good, refused-state}
-use Rattle.history.proofs.Arrived.{met, met-append, met-is, arrived-bits, since-bits}
-use Rattle.history.proofs.Received.{brought, received-here}
-use Rattle.history.proofs.Others.{head-stays, reception-fits, lent-at, rooms-whole, same-rooms, step-at, rooms-stay}
-
--- the bits accepted for each place have met there, one after the other
-pub record Keeps (soft M slot A : ℕ) (xs : List Reception) (rooms : List ℕ) : Type 0 where
-  pub place : (r j : ℕ) → r < blocks (A + 24) → j < perBlock → getD rooms (byteOf M slot r j) 0 ≡ met unheard (arrivals soft A xs r j)
-  pub rest : (r j : ℕ) → blocks (A + 24) ≤ r → r < M → j < perBlock → getD rooms (byteOf M slot r j) 0 ≡ unheard
-
--- the same bytes in the room
-holds-on : {soft M slot A : ℕ} {xs : List Reception} {rooms after : List ℕ} → blocks (A + 24) ≤ M
-    → ((r j : ℕ) → r < M → j < perBlock → getD after (byteOf M slot r j) 0 ≡ getD rooms (byteOf M slot r j) 0)
-    → Keeps soft M slot A xs rooms → Keeps soft M slot A xs after
-holds-on fits same h = record {
-  place = λ r j l k. same r j (omega arith) k ∙ h .place r j l k;
-  rest = λ r j l g k. same r j g k ∙ h .rest r j l g k;
-}
+use Rattle.history.proofs.Arrived.{met-is, arrived-bits, since-bits}
+use Rattle.history.proofs.Follows.{Met, follows-none, follows-same, follows-more}
+use Rattle.history.proofs.Others.{head-stays, reception-fits, same-rooms, room-before, room-after, others-room}
 
 -- a call on another slot counts for nothing
 since-other : (state : State) (room slot : ℕ) (call : Call) (earlier : List Reception) → (slot ≡ slotOf call → ⊥)
@@ -57,9 +42,23 @@ since-other state room slot (reading s terminal size) earlier n = refl
 since-other state room slot (streaming s terminal block size) earlier n = refl
 since-other state room slot (closing s terminal) earlier n = rw (ne-eqb s slot (λ e. n (sym e)))
 
+-- an accepted reception meets what is in the slot's room
+pub reception-met : (state : State) (store : List ℕ) (slot terminal : ℕ) (x : Reception) → receiveNumber state (length store) slot terminal (x .Q) (x .N) (x .version) (x .bits) ≡ 0
+    → {xs : List Reception} → Met (shareAtHead state slot) (sizeAtHead state slot) (state .blocks) xs (roomAt (state .blocks) slot store)
+    → Met (shareAtHead state slot) (sizeAtHead state slot) (state .blocks) (x ∷ xs) (roomAt (state .blocks) slot (withReception state slot x store))
+unfolding bitsFor
+reception-met state store slot terminal x accepted before =
+    let M : ℕ = state .blocks in
+    let soft : ℕ = shareAtHead state slot in
+    let A : ℕ = sizeAtHead state slot in
+    let fits = reception-fits state (length store) slot terminal x accepted in
+    let more = follows-more agreeing unheard (bitsFor soft A) M soft A (x .Q) (x .N) (x .version) (x .bits) x (λ r j. refl) (roomAt M slot store)
+    (blocks-fit soft M slot A (x .Q) (x .N) (x .version) (x .bits) store (fits .room) (fits .few) (fits .places)) (fits .places) before in
+    rw (room-stored soft M slot A (x .Q) (x .N) (x .version) (x .bits) store (fits .room) (fits .few) (fits .places)) more
+
 -- what is to be shown of a slot with a head, after receptions, of the rooms
 abbrev Kept : ℕ → ℕ → Head → List Reception → List ℕ → Type 0
-Kept M slot h xs rooms = h .opened ≡ true → Keeps (h .share) M slot (h .size) xs rooms
+Kept M slot h xs rooms = h .opened ≡ true → Met (h .share) (h .size) M xs (roomAt M slot rooms)
 
 -- ---- one call
 
@@ -83,13 +82,6 @@ module _ (w : World) (past : List ℕ) where
   KeptAfter slot xs call =
       Kept M slot (headAt (headsAfterCall state (length store) call) slot) (sinceCall state (length store) slot call xs) (rooms call)
 
-  -- where all rooms are there
-  within : (slot r j : ℕ) → slot < state .slots → r < M → j < perBlock → storeLength state ≤ length store → byteOf M slot r j < length (w .rooms)
-  unfolding storeLength
-  within slot r j below h l long =
-      let whole = rooms-whole w (record { call = reading 0 0 0; past = past }) long in
-      omega (arith, whole, room-within (state .slots) M slot below, byte-in-room M slot r j h l)
-
   module _ (slot : ℕ) (below : slot < state .slots) where
     -- an open slot of a sound state has room for its code blocks
     open-fits : {after : State} → Good (state .slots) M after → headAt after slot .opened ≡ true → blocks (headAt after slot .size + 24) ≤ M
@@ -101,16 +93,12 @@ module _ (w : World) (past : List ℕ) where
     module _ (g : Good (state .slots) M state) (xs : List Reception) (kept : Kept M slot (headAt state slot) xs (w .rooms)) where
       -- a call on another slot
       on-other : (call : Call) → (slot ≡ slotOf call → ⊥) → KeptAfter slot xs call
+      unfolding agreeing
       on-other call other =
           subst₂ (λ (h : Head) (l : List Reception). Kept M slot h l (rooms call))
           (sym (head-stays state (length store) slot call other))
           (sym (since-other state (length store) slot call xs other))
-          (λ o. holds-on (open-fits g o) bytes (kept o))
-        where
-          bytes : (r j : ℕ) → r < M → j < perBlock → getD (rooms call) (byteOf M slot r j) 0 ≡ getD (w .rooms) (byteOf M slot r j) 0
-          bytes r j h l =
-              rooms-stay w (record { call = call; past = past }) (byteOf M slot r j)
-              (λ i. other (rooms-apart M slot (slotOf call) (byteOf M slot r j) (byte-in-room M slot r j h l) i))
+          (λ o. follows-same agreeing unheard _ M (roomAt M slot (w .rooms)) _ (open-fits g o) (others-room w (record { call = call; past = past }) slot other) (kept o))
 
       -- a call that leaves the store
       same-store : (call : Call) → storeAfterCall state store call ≡ store → Kept M slot (headAt state slot) xs (rooms call)
@@ -118,7 +106,7 @@ module _ (w : World) (past : List ℕ) where
           subst (Kept M slot (headAt state slot) xs) (sym (same-rooms w (record { call = call; past = past }) e)) kept
 
       opening-here : (link : Link) (terminal A : ℕ) → KeptAfter slot xs (opening link slot terminal A)
-      unfolding headsAfterCall sinceCall arrivals met
+      unfolding headsAfterCall sinceCall agreeing
       opening-here link terminal A =
           rw (eq-eqb slot slot refl) (go (eqb number 0) refl (good-call g (length store) call))
         where
@@ -133,21 +121,19 @@ module _ (w : World) (past : List ℕ) where
 
           go : (b : Bool) → eqb number 0 ≡ b → Good (state .slots) M (after b)
               → Kept M slot (headAt (after b) slot) (cond (true && b) [] xs) (rooms call)
-          go true e good = λ o. record {
-            place = λ r j l k. bytes r j (omega (arith, open-fits good o)) k;
-            rest = λ r j l h k. bytes r j h k;
-          }
+          go true e good = λ o. follows-none agreeing unheard _ M _ (open-fits good o) bytes
             where
-              bytes : (r j : ℕ) → r < M → j < perBlock → getD (rooms call) (byteOf M slot r j) 0 ≡ unheard
-              bytes r j h k =
+              bytes : (k : ℕ) → k < roomLength M → getD (roomAt M slot (rooms call)) k 0 ≡ unheard
+              bytes k l =
                   let accepted : number ≡ 0 = eqb-true number 0 e in
-                  step-at w (record { call = call; past = past }) (byteOf M slot r j) (within slot r j below h k (opening-fits state (length store) slot A link accepted .slot-stored .enough))
-                  ∙ ap (λ (l : List ℕ). getD l (byteOf M slot r j) 0) (open-writes link state store slot terminal A true e)
-                  ∙ cleared-in M slot store (room-lent link state (length store) slot A accepted) (byteOf M slot r j) (byte-in-room M slot r j h k)
+                  room-after w (record { call = call; past = past }) slot below (opening-fits state (length store) slot A link accepted .slot-stored .enough) k l
+                  ∙ ap (λ (s : List ℕ). getD (roomAt M slot s) k 0) (open-writes link state store slot terminal A true e)
+                  ∙ room-byte M slot _ k
+                  ∙ cleared-in M slot store (room-lent link state (length store) slot A accepted) (roomStart M slot + k) (omega arith, omega arith)
           go false e good = same-store call (open-writes link state store slot terminal A false e)
 
       receiving-here : (terminal : ℕ) (x : Reception) → KeptAfter slot xs (receiving slot terminal x)
-      unfolding headsAfterCall sinceCall arrivals sizeAtHead shareAtHead
+      unfolding headsAfterCall sinceCall sizeAtHead shareAtHead agreeing
       receiving-here terminal x = rw (eq-eqb slot slot refl) (go (eqb number 0) refl)
         where
           call : Call
@@ -157,49 +143,15 @@ module _ (w : World) (past : List ℕ) where
           number = receiveNumber state (length store) slot terminal (x .Q) (x .N) (x .version) (x .bits)
 
           go : (b : Bool) → eqb number 0 ≡ b → Kept M slot (headAt state slot) (cond (true && b) (x ∷ xs) xs) (rooms call)
-          go true e = λ o. record {
-            place = λ r j l k.
-                let h : r < M = omega (arith, fits .0) in
-                bytes r j h k
-                ∙ received-here soft M slot A (x .Q) (x .N) (x .version) (x .bits) store (fits .1) r j l k (there r j h k)
-                ∙ ap (brought soft (A + 24) (x .Q) (x .N) (x .version) (x .bits) r j) (before r j h k ∙ kept o .place r j l k)
-                ∙ sym (met-append unheard (arrivals soft A xs r j) _);
-            rest = λ r j l h k.
-                bytes r j h k
-                ∙ received-past soft M slot A (x .Q) (x .N) (x .version) (x .bits) store (fits .0) (fits .1) r j l k
-                ∙ before r j h k
-                ∙ kept o .rest r j l h k;
-          }
-            where
-              A : ℕ
-              A = headAt state slot .size
-
-              soft : ℕ
-              soft = headAt state slot .share
-
-              m : Made
-              m = record { call = call; past = past }
-
-              accepted : number ≡ 0
-              accepted = eqb-true number 0 e
-
-              fits : (blocks (A + 24) ≤ M) × AllPlaces soft (A + 24) (x .Q) (x .N) (x .version) (length (x .bits))
-              fits = reception-fits state (length store) slot terminal x accepted
-
-              here : (r j : ℕ) → r < M → j < perBlock → byteOf M slot r j < length (w .rooms)
-              here r j h k = within slot r j below h k (receives state (length store) slot terminal (x .Q) (x .N) (x .version) (x .bits) accepted .long)
-
-              there : (r j : ℕ) → r < M → j < perBlock → byteOf M slot r j < length store
-              there r j h k = omega (arith, here r j h k, rooms-lent w past)
-
-              bytes : (r j : ℕ) → r < M → j < perBlock
-                  → getD (rooms call) (byteOf M slot r j) 0 ≡ getD (received soft M slot A (x .Q) (x .N) (x .version) (x .bits) store) (byteOf M slot r j) 0
-              bytes r j h k =
-                  step-at w m (byteOf M slot r j) (here r j h k)
-                  ∙ ap (λ (l : List ℕ). getD l (byteOf M slot r j) 0) (receive-writes state store slot terminal x true e)
-
-              before : (r j : ℕ) → r < M → j < perBlock → getD store (byteOf M slot r j) 0 ≡ getD (w .rooms) (byteOf M slot r j) 0
-              before r j h k = lent-at w m (byteOf M slot r j) (here r j h k)
+          go true e = λ o.
+              let m : Made = record { call = call; past = past } in
+              let accepted : number ≡ 0 = eqb-true number 0 e in
+              let enough = receives state (length store) slot terminal (x .Q) (x .N) (x .version) (x .bits) accepted .long in
+              let fits = reception-fits state (length store) slot terminal x accepted in
+              let met = reception-met state store slot terminal x accepted
+              (follows-same agreeing unheard _ M (roomAt M slot (w .rooms)) _ (fits .few) (room-before w m slot below enough) (kept o)) in
+              follows-same agreeing unheard _ M (roomAt M slot (storeAfterCall state store call)) _ (fits .few) (room-after w m slot below enough)
+              (rw (receive-writes state store slot terminal x true e) met)
           go false e = same-store call (receive-writes state store slot terminal x false e)
 
       closing-here : (terminal : ℕ) → KeptAfter slot xs (closing slot terminal)
@@ -253,7 +205,7 @@ module _ (S M : ℕ) (store₀ : List ℕ) (slot : ℕ) where
       absurd (false≢true (sym (ap (λ (t : State). headAt t slot .opened) (refused-state S M refused long h) ∙ ap (λ (k : Head). k .opened) (new-head 0 0 slot)) ∙ o))
 
   pub keeps : slot < S → (h : History) → headAt (headsAfter S M long h) slot .opened ≡ true
-      → Keeps (headAt (headsAfter S M long h) slot .share) M slot (headAt (headsAfter S M long h) slot .size) (since S M long slot h) (run S M store₀ h .rooms)
+      → Met (headAt (headsAfter S M long h) slot .share) (headAt (headsAfter S M long h) slot .size) M (since S M long slot h) (roomAt M slot (run S M store₀ h .rooms))
   keeps below h = go (badShape S M) refl
     where
       go : (b : Bool) → badShape S M ≡ b → Kept M slot (headAt (headsAfter S M long h) slot) (since S M long slot h) (run S M store₀ h .rooms)
@@ -263,6 +215,7 @@ module _ (S M : ℕ) (store₀ : List ℕ) (slot : ℕ) where
   -- THE promise on receptions: any S, M, store, history and slot
   pub holds : slot < S → (h : History) → headAt (headsAfter S M long h) slot .opened ≡ true
       → Holds (headAt (headsAfter S M long h) slot .share) M slot (headAt (headsAfter S M long h) slot .size) (since S M long slot h) (run S M store₀ h .rooms)
+  unfolding agreeing
   holds below h is-open =
       let kept = keeps below h is-open in
       let soft = headAt (headsAfter S M long h) slot .share in

@@ -14,6 +14,7 @@ use Rattle.slots.specs.declared.Answer.the-variants.{Done, Refused}
 use Rattle.slots.specs.declared.Outcome.{Outcome}
 use Rattle.slots.specs.declared.State.{State}
 use Rattle.slots.specs.Answers.{Lacking, isDone, unlessRefused}
+use Rattle.slots.specs.Room.{roomAt}
 use Rattle.slots.specs.Reading.{heardAnswer, heardBlock}
 use Rattle.slots.specs.Calls.{sizeAtHead, shareAtHead, receiveNumber, readNumber, readOutcome, released, readOutput}
 use Rattle.history.specs.Links.{Link, shareIn, openingNumber}
@@ -54,8 +55,8 @@ module _ (state : State) (store : List ℕ) (slot terminal : ℕ) (out : List �
   refused-output e =
       ap (λ (b : Bool). cond
       (isDone
-      (cond {A = Outcome} b (record { answer = heardAnswer (state .blocks) slot (sizeAtHead state slot) store; state = state }) (record { answer = Refused refusal; state = state }) .answer))
-      (heardBlock (state .blocks) slot (sizeAtHead state slot) store ++ drop (sizeAtHead state slot) out)
+      (cond {A = Outcome} b (record { answer = heardAnswer (sizeAtHead state slot) (roomAt (state .blocks) slot store); state = state }) (record { answer = Refused refusal; state = state }) .answer))
+      (heardBlock (sizeAtHead state slot) (roomAt (state .blocks) slot store) ++ drop (sizeAtHead state slot) out)
       out) e
 
 -- ---- a block is released neither sooner nor later than all its data places were sent

@@ -2,7 +2,7 @@ pub mod Links
 pub mod State
 pub mod Heads
 pub mod Arrived
-pub mod Received
+pub mod Follows
 pub mod Others
 pub mod Holds
 pub mod SameRoom

@@ -13,11 +13,10 @@ use borrow.Author.Tests.{eqb-true, ltb-false}
 use Rattle.segmentation.specs.Segmentation.{blocks}
 use Rattle.slots.specs.declared.Head.{Head}
 use Rattle.slots.specs.declared.State.{State}
-use Rattle.slots.specs.State.{storeLength, roomStart, closedHead, openHead, headAt}
+use Rattle.slots.specs.State.{storeLength, roomLength, roomStart, closedHead, openHead, headAt}
 use Rattle.slots.specs.Room.{cleared}
-use Rattle.slots.specs.Reception.{received}
 use Rattle.slots.specs.Calls.{withHead, sizeAtHead, shareAtHead, receiveNumber, receiveStore, closeNumber}
-use Rattle.slots.proofs.RoomLaws.{InRoom, AllPlaces, rooms-apart, cleared-out, received-out}
+use Rattle.slots.proofs.RoomLaws.{InRoom, AllPlaces, room-within, rooms-apart, room-byte, cleared-out, stored-out}
 use Rattle.slots.proofs.Accepted.{good}
 use Rattle.slots.proofs.HeadLaws.{open-size, other-head}
 use Rattle.slots.proofs.PlaceBounds.{sent-below}
@@ -28,7 +27,7 @@ use Rattle.history.specs.Run.{World, lent, storeAfterCall, step}
 use Rattle.history.specs.Accepted.{headsAfterCall}
 use Rattle.history.specs.Answered.{slotOf, SameRoom}
 use Rattle.history.proofs.Links.{opening-store}
-use Rattle.history.proofs.State.{room-lent, state-after, length-step}
+use Rattle.history.proofs.State.{withReception, room-lent, state-after, length-step}
 
 -- ---- the head
 
@@ -52,13 +51,23 @@ module _ (state : State) (room slot : ℕ) where
 
 -- ---- the store
 
--- an accepted reception sends places of code blocks, all of which find room
-pub reception-fits : (state : State) (room slot terminal : ℕ) (r : Reception) → receiveNumber state room slot terminal (r .Q) (r .N) (r .version) (r .bits) ≡ 0
-    → (blocks (sizeAtHead state slot + 24) ≤ state .blocks) × AllPlaces (shareAtHead state slot) (sizeAtHead state slot + 24) (r .Q) (r .N) (r .version) (length (r .bits))
-reception-fits state room slot terminal r e =
-    let a = receives state room slot terminal (r .Q) (r .N) (r .version) (r .bits) e in
+-- an accepted reception finds the slot's room in its store, and sends places of code blocks, all of which are in the room
+pub record ReceptionFits (state : State) (lent slot : ℕ) (r : Reception) : Type 0 where
+  pub room : roomStart (state .blocks) slot + roomLength (state .blocks) ≤ lent
+  pub few : blocks (sizeAtHead state slot + 24) ≤ state .blocks
+  pub places : AllPlaces (shareAtHead state slot) (sizeAtHead state slot + 24) (r .Q) (r .N) (r .version) (length (r .bits))
+
+pub reception-fits : (state : State) (lent slot terminal : ℕ) (r : Reception) → receiveNumber state lent slot terminal (r .Q) (r .N) (r .version) (r .bits) ≡ 0
+    → ReceptionFits state lent slot r
+unfolding storeLength
+reception-fits state lent slot terminal r e =
+    let a = receives state lent slot terminal (r .Q) (r .N) (r .version) (r .bits) e in
     let o = open-size state (a .sound) slot (a .below) (a .opened) in
-    (o .1, λ q. sent-below (sizeAtHead state slot) (o .0) (good state (a .sound) .wide slot (a .below) (a .opened)) (r .Q) (r .N) (r .version) (length (r .bits)) q (a .version))
+    record {
+      room = omega (arith, a .long, room-within (state .slots) (state .blocks) slot (a .below));
+      few = o .1;
+      places = λ q. sent-below (sizeAtHead state slot) (o .0) (good state (a .sound) .wide slot (a .below) (a .opened)) (r .Q) (r .N) (r .version) (length (r .bits)) q (a .version);
+    }
 
 -- a call changes no byte outside the room of the slot that it names
 pub bytes-stay : (state : State) (store : List ℕ) (call : Call) (at : ℕ) → (InRoom (state .blocks) (slotOf call) at → ⊥)
@@ -76,16 +85,24 @@ bytes-stay state store (receiving slot terminal r) at n = go (eqb number 0) refl
     number = receiveNumber state (length store) slot terminal (r .Q) (r .N) (r .version) (r .bits)
 
     go : (b : Bool) → eqb number 0 ≡ b
-        → getD (cond b (received (shareAtHead state slot) (state .blocks) slot (sizeAtHead state slot) (r .Q) (r .N) (r .version) (r .bits) store) store) at 0 ≡ getD store at 0
+        → getD (cond b (withReception state slot r store) store) at 0 ≡ getD store at 0
     go true e =
         let f = reception-fits state (length store) slot terminal r (eqb-true _ _ e) in
-        received-out (shareAtHead state slot) (state .blocks) slot (sizeAtHead state slot) (r .Q) (r .N) (r .version) (r .bits) store (f .0) (f .1) at n
+        stored-out (shareAtHead state slot) (state .blocks) slot (sizeAtHead state slot) (r .Q) (r .N) (r .version) (r .bits) store (f .room) (f .few) (f .places) at n
     go false e = refl
 bytes-stay state store (reading slot terminal size) at n = refl
 bytes-stay state store (streaming slot terminal block size) at n = refl
 bytes-stay state store (closing slot terminal) at n = refl
 
 -- ---- a step of a history
+
+-- where the stores have the same bytes from a room's start on, the rooms have
+pub room-bytes : (M slot : ℕ) (store other : List ℕ) → ((k : ℕ) → k < roomLength M → getD store (roomStart M slot + k) 0 ≡ getD other (roomStart M slot + k) 0) → SameRoom M slot store other
+room-bytes M slot store other same k l = room-byte M slot store k ∙ same k l ∙ sym (room-byte M slot other k)
+
+-- and the other way
+pub bytes-room : (M slot : ℕ) (store other : List ℕ) → SameRoom M slot store other → (k : ℕ) → k < roomLength M → getD store (roomStart M slot + k) 0 ≡ getD other (roomStart M slot + k) 0
+bytes-room M slot store other same k l = sym (room-byte M slot store k) ∙ same k l ∙ room-byte M slot other k
 
 module _ (w : World) (m : Made) where
   -- the rooms are the front of the store that is lent
@@ -129,6 +146,18 @@ module _ (w : World) (m : Made) where
         ∙ sym (List·getD-eq-default (w .rooms) 0 {n = at} (omega arith))
   ]
 
+  -- where all rooms are there, the room of a slot is that of the store that is lent, before the call and after it
+  module _ (slot : ℕ) (below : slot < w .state .slots) (enough : storeLength (w .state) ≤ length (lent w (m .past))) where
+    inside : (k : ℕ) → k < roomLength (w .state .blocks) → roomStart (w .state .blocks) slot + k < length (w .rooms)
+    unfolding storeLength
+    inside k l = omega (arith, rooms-whole enough, room-within (w .state .slots) (w .state .blocks) slot below)
+
+    pub room-before : SameRoom (w .state .blocks) slot (lent w (m .past)) (w .rooms)
+    room-before = room-bytes (w .state .blocks) slot (lent w (m .past)) (w .rooms) (λ k l. lent-at _ (inside k l))
+
+    pub room-after : SameRoom (w .state .blocks) slot (step w m .rooms) (storeAfterCall (w .state) (lent w (m .past)) (m .call))
+    room-after = room-bytes (w .state .blocks) slot (step w m .rooms) _ (λ k l. step-at _ (inside k l))
+
   module _ (slot : ℕ) (other : slot ≡ slotOf (m .call) → ⊥) where
     -- a call on another slot leaves this slot's head
     pub others-head : headAt (step w m .state) slot ≡ headAt (w .state) slot
@@ -139,6 +168,6 @@ module _ (w : World) (m : Made) where
 
     -- and its room
     pub others-room : SameRoom (w .state .blocks) slot (step w m .rooms) (w .rooms)
-    others-room k l =
-        rooms-stay (roomStart (w .state .blocks) slot + k)
-        (λ i. other (rooms-apart (w .state .blocks) slot (slotOf (m .call)) (roomStart (w .state .blocks) slot + k) (omega arith, omega arith) i))
+    others-room = room-bytes (w .state .blocks) slot (step w m .rooms) (w .rooms)
+        (λ k l. rooms-stay (roomStart (w .state .blocks) slot + k)
+        (λ i. other (rooms-apart (w .state .blocks) slot (slotOf (m .call)) (roomStart (w .state .blocks) slot + k) (omega arith, omega arith) i)))

@@ -11,7 +11,7 @@ use lib.ListN.{length, getD, take, List·getD-append, List·getD-eq-default, len
 use lib.Seq.{getD-append-add, getD-take}
 use borrow.Author.Tests.{eqb-true, eqb-false}
 use Rattle.slots.specs.declared.State.{State}
-use Rattle.slots.specs.State.{storeLength, roomLength, roomStart, newState, headAt, badShape, badState}
+use Rattle.slots.specs.State.{storeLength, roomLength, newState, headAt, badShape, badState}
 use Rattle.slots.specs.Calls.{readOutput, streamsOutput}
 use Rattle.history.specs.Calls.{Call, Made, History}
 use Rattle.history.specs.Run.{World, lent, step, begin, run}
@@ -19,7 +19,7 @@ use Rattle.history.specs.Accepted.{lentLength}
 use Rattle.history.specs.Answered.{answerTo, slotOf, SameRoom, SameSlot, ownCalls}
 use Rattle.history.proofs.State.{state-after, length-lent, rooms-long, SameShape, shape-step, shape-stays, heads}
 use Rattle.history.proofs.Heads.{run-good, refused-state}
-use Rattle.history.proofs.Others.{others-head, others-room}
+use Rattle.history.proofs.Others.{room-bytes, bytes-room, others-head, others-room}
 use Rattle.history.proofs.Depends.{answer-depends, read-depends, streams-depends, room-depends, head-depends}
 
 -- ---- the stores that two worlds lend
@@ -90,7 +90,7 @@ module _ (S M : ℕ) (store : List ℕ) (slot : ℕ) where
         length-lent (run S M store h) past
         ∙ ap₂ (λ (n k : ℕ). cond (ltb k n) k (k + length past)) need long
         ∙ sym (length-lent (run S M store g) past);
-    room = λ k l. lent-same (run S M store h) (run S M store g) past need long (roomStart (run S M store h .state .blocks) slot + k) (same .room k l);
+    room = room-bytes _ slot _ _ (λ k l. lent-same (run S M store h) (run S M store g) past need long _ (bytes-room _ slot _ _ (same .room) k l));
   }
     where
       shape : SameShape (run S M store h .state) (run S M store g .state)
@@ -122,8 +122,9 @@ module _ (S M : ℕ) (store : List ℕ) (slot : ℕ) where
         ∙ ap (λ (t : State). headAt t slot) (sym (state-after (v .state) (lent v (m .past)) (m .call)));
     room =
         subst (λ (n : ℕ). SameRoom n slot (step w m .rooms) (step v m .rooms)) (sym (shape-step w m .blocks))
+        (room-bytes _ slot _ _
         (λ k l. front-same (length (w .rooms)) (length (v .rooms)) _ _ (rooms-long S M store h ∙ sym (rooms-long S M store g)) _
-        (room-depends slot (w .state) (v .state) (lent w (m .past)) (lent v (m .past)) slots (m .call) own k l));
+        (bytes-room _ slot _ _ (room-depends slot (w .state) (v .state) (lent w (m .past)) (lent v (m .past)) slots (m .call) own) k l)));
   }
     where
       w : World

@@ -9,7 +9,7 @@ use Prim.Native.Nat.{ℕ, _+_, _*_, _≤_, _<_}
 use lib.Dec.{eqb}
 use lib.ListN.{length, drop}
 use Rattle.laws.specs.Bits.{AreBits}
-use Rattle.segmentation.specs.Segmentation.{blocks}
+use Rattle.segmentation.specs.Segmentation.{blocks, sizeOf}
 use Rattle.segmentation.specs.Sizes.{badSize}
 use Rattle.rate_matching.specs.SoftBuffer.{wholeShare}
 use Rattle.codeword.specs.Build.{badModulation, badLayers, badAllocation}
@@ -17,7 +17,9 @@ use Rattle.slots.specs.declared.Answer.the-variants.{Done, StillLacking}
 use Rattle.slots.specs.declared.State.{State}
 use Rattle.slots.specs.State.{headAt, badShape}
 use Rattle.slots.specs.Answers.{numberOf, valuesOf, Lacking, isDone}
-use Rattle.slots.specs.Reading.{keptAt, checkedAnswer, heardBlock}
+use Rattle.slots.specs.Room.{roomAt, circleAt}
+use Rattle.slots.specs.Circle.{keptOn}
+use Rattle.slots.specs.Reading.{checkedAnswer, heardBlock}
 use Rattle.slots.specs.Checks.{blocksAt, RightBlock, RightTransport}
 use Rattle.slots.proofs.Checks as checking
 use Rattle.slots.specs.Calls.{sizeAtHead, shareAtHead, receiveNumber, receiveOutcome, readNumber, readOutcome, readOutput, streamsOutput}
@@ -127,7 +129,7 @@ at-once = incident.at-once
 pub checks-right : (state : State) (store : List ℕ) (slot terminal : ℕ) (out : List ℕ)
     → numberOf (readOutcome state store slot terminal (length out) .answer) ≡ 0
     → (readOutput state store slot terminal out
-    ≡ heardBlock (state .blocks) slot (sizeAtHead state slot) store ++ drop (sizeAtHead state slot) out)
+    ≡ heardBlock (sizeAtHead state slot) (roomAt (state .blocks) slot store) ++ drop (sizeAtHead state slot) out)
     × RightTransport state store slot
     × (1 < blocksAt state slot → (r : ℕ) → r < blocksAt state slot → RightBlock state store slot r)
 checks-right state store slot terminal out e =
@@ -167,7 +169,7 @@ pub released-uncontradicted : (S M : ℕ) (store₀ : List ℕ) (h : History) (p
     → (r i : ℕ)
     → DataPlace A r i
     → let bits : List ℕ = arrivalsAt soft A (acceptedAfter S M store₀ h slot) r i in
-    let bit : ℕ = keptAt (state .blocks) slot (A + 24) store r 0 i in
+    let bit : ℕ = keptOn (circleAt r (roomAt (state .blocks) slot store)) (sizeOf (A + 24) r + 4) 0 i in
     (among bit bits ≡ true) × ((c : ℕ) → among c bits ≡ true → c ≡ bit)
 released-uncontradicted = disputing.given-agreed
 
@@ -191,13 +193,13 @@ contradiction-withholds = disputing.disputed-stays
 pub nothing-else-withholds : (S M : ℕ) (store₀ : List ℕ) (h : History) (past : List ℕ) (slot terminal : ℕ) (out : List ℕ)
     → let state : State = stateAfter S M store₀ h in
     let store : List ℕ = storeAfter S M store₀ h past in
+    let room : List ℕ = roomAt (state .blocks) slot store in
     let A : ℕ = sizeAtHead state slot in
     let soft : ℕ = shareAtHead state slot in
     readNumber state (length store) slot terminal (length out) ≡ 0
     → AllDecided soft A (acceptedAfter S M store₀ h slot)
-    → (readOutcome state store slot terminal (length out) ≡ record { answer = checkedAnswer (state .blocks) slot A store; state = state })
-    × (readOutput state store slot terminal out
-    ≡ cond (isDone (checkedAnswer (state .blocks) slot A store)) (heardBlock (state .blocks) slot A store ++ drop A out) out)
+    → (readOutcome state store slot terminal (length out) ≡ record { answer = checkedAnswer A room; state = state })
+    × (readOutput state store slot terminal out ≡ cond (isDone (checkedAnswer A room)) (heardBlock A room ++ drop A out) out)
 nothing-else-withholds = disputing.decided-checked
 
 -- True transmissions of one block never contradict each other: a data place is decided exactly when it was sent.

@@ -4,32 +4,31 @@
 use mathlib.Core.Path.{_≡_, refl, sym, _∙_, ap, subst₂}
 use mathlib.Core.Bool.{Bool, true, false, cond}
 use mathlib.Core.List.{List, _∷_, _++_}
-use Prim.Native.Nat.{ℕ, _+_, _≤_, _<_}
+use Prim.Native.Nat.{ℕ, _≤_, _<_}
 use native.Mathlib.Omega.{arith}
 use lib.Dec.{eqb}
 use lib.ListN.{length, drop}
 use Rattle.laws.specs.Bits.{AreBits}
-use Rattle.segmentation.specs.Segmentation.{blocks}
 use Rattle.segmentation.proofs.Segmentation.{in-range}
 use Rattle.slots.specs.declared.Answer.the-variants.{Done, StillLacking}
 use Rattle.slots.specs.declared.State.{State}
 use Rattle.slots.specs.Answers.{Lacking}
-use Rattle.slots.specs.State.{perBlock, storeLength, newState, headAt, badShape, badState}
-use Rattle.slots.specs.Room.{byteOf}
+use Rattle.slots.specs.State.{storeLength, newState, headAt, badShape, badState}
+use Rattle.slots.specs.Room.{unheard, agreeing, roomAt}
 use Rattle.slots.specs.Calls.{sizeAtHead, shareAtHead, receiveNumber, receiveOutcome, readNumber, readOutcome, readOutput}
-use Rattle.slots.proofs.RoomLaws.{room-within, byte-in-room}
 use Rattle.slots.proofs.HeadLaws.{open-size}
 use Rattle.slots.proofs.Acceptance.{receives, reads}
-use Rattle.history.specs.Calls.{Reception, reading, Made, History}
+use Rattle.history.specs.Calls.{Reception, reading, History}
 use Rattle.history.specs.Run.{World, lent, begin, run}
 use Rattle.history.specs.Accepted.{since}
 use Rattle.history.specs.Sent.{True, AllTrue, unsent, undecided}
 use Rattle.history.proofs.State.{heads}
 use Rattle.history.proofs.Heads.{run-good, refused-state}
-use Rattle.history.proofs.Others.{lent-at, rooms-whole}
+use Rattle.history.proofs.Others.{room-before}
 use Rattle.history.proofs.Arrived.{AllBits, since-bits}
-use Rattle.history.proofs.Holds.{Keeps, keeps}
-use Rattle.history.proofs.ReleaseCount.{HoldsMet, true-undecided}
+use Rattle.history.proofs.Holds.{keeps}
+use Rattle.history.proofs.Follows.{Met, follows-same}
+use Rattle.history.proofs.ReleaseCount.{true-undecided}
 use Rattle.history.proofs.AnyAnswers.{receive-any}
 use Rattle.history.proofs.ReleaseAnswers.{read-answer, read-output}
 
@@ -53,32 +52,27 @@ module _ (S M : ℕ) (store₀ : List ℕ) (h : History) (past : List ℕ) (slot
 
   -- in the slot's room in the lent store they have met
   pub kept : badState state ≡ false → storeLength state ≤ length store → slot < state .slots → headAt state slot .opened ≡ true
-      → HoldsMet soft (state .blocks) slot (sizeAtHead state slot) accepted store
-  unfolding newState storeLength sizeAtHead shareAtHead
+      → Met soft (sizeAtHead state slot) (state .blocks) accepted (roomAt (state .blocks) slot store)
+  unfolding newState sizeAtHead shareAtHead agreeing
   kept sound long below opened = go (badShape S M) refl
     where
       w : World
       w = run S M store₀ h
 
-      go : (b : Bool) → badShape S M ≡ b → HoldsMet soft (state .blocks) slot (sizeAtHead state slot) accepted store
+      go : (b : Bool) → badShape S M ≡ b → Met soft (sizeAtHead state slot) (state .blocks) accepted (roomAt (state .blocks) slot store)
       go true e =
           let none : state .slots ≡ 0 = ap (λ (t : State). t .slots) (heads S M store₀ h ∙ refused-state S M e (length (begin S M store₀ .rooms)) h) in
           absurd (omega arith)
-      go false e = λ r j l k. lent-at w made (byteOf (state .blocks) slot r j) (there r j l k) ∙ room .place r j l k
+      go false e =
+          follows-same agreeing unheard _ (state .blocks) (roomAt (state .blocks) slot (w .rooms)) _ (open-size state sound slot below opened .1)
+          (room-before w (record { call = reading slot terminal 0; past = past }) slot below long)
+          room
         where
-          made : Made
-          made = record { call = reading slot terminal 0; past = past }
-
-          room : Keeps soft (state .blocks) slot (sizeAtHead state slot) accepted (w .rooms)
+          room : Met soft (sizeAtHead state slot) (state .blocks) accepted (roomAt (state .blocks) slot (w .rooms))
           room =
               let good = run-good S M e store₀ h in
-              subst₂ (λ (n : ℕ) (t : State). Keeps (headAt t slot .share) n slot (headAt t slot .size) accepted (w .rooms)) (sym (good .blocks)) (sym (heads S M store₀ h))
+              subst₂ (λ (n : ℕ) (t : State). Met (headAt t slot .share) (headAt t slot .size) n accepted (roomAt n slot (w .rooms))) (sym (good .blocks)) (sym (heads S M store₀ h))
               (keeps S M store₀ slot (omega (arith, good .slots)) h (rw (heads S M store₀ h) at opened))
-
-          there : (r j : ℕ) → r < blocks (sizeAtHead state slot + 24) → j < perBlock → byteOf (state .blocks) slot r j < length (w .rooms)
-          there r j l k =
-              let fits = open-size state sound slot below opened .1 in
-              omega (arith, rooms-whole w made long, room-within (state .slots) (state .blocks) slot below, byte-in-room (state .blocks) slot r j (omega arith) k)
 
   -- a has as many bits as the slot is open for, and all that was accepted since the opening are true transmissions of it
   module _ (a : List ℕ) (bits : AreBits a) (size-is : sizeAtHead state slot ≡ length a) (true-all : AllTrue soft a accepted) where

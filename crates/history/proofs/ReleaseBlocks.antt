@@ -18,7 +18,9 @@ use Rattle.check_bits.proofs.Carried.{checked}
 use Rattle.segmentation.specs.Segmentation.{checkLength, blocks, filler, sizeOf, fillerOf}
 use Rattle.segmentation.specs.CodeBlocks.{takenBefore, payload, codeBlock}
 use Rattle.segmentation.proofs.CodeBlocks.{filler-within, length-payload, length-codeBlock}
-use Rattle.slots.specs.Reading.{keptAt, heardCodeBlock, wrongBlock, firstFrom}
+use Rattle.slots.specs.Room.{circleAt}
+use Rattle.slots.specs.Circle.{keptOn, heardOn, codeBlockOn}
+use Rattle.slots.specs.Reading.{heardCodeBlock, wrongBlock, firstFrom}
 use Rattle.slots.proofs.First.{firstFrom-none}
 
 -- several code blocks: each of them with its check leaves nothing
@@ -45,11 +47,11 @@ module _ (B : ℕ) (low : 24 ≤ B) (high : B ≤ 30600) (b : List ℕ) (long : 
       none l = omega arith
 
   -- a room that holds the code blocks' bits at the data places
-  module _ (M slot : ℕ) (store : List ℕ)
-      (held : (r i : ℕ) → r < blocks B → fillerOf B r ≤ i → i < sizeOf B r → keptAt M slot B store r 0 i ≡ getD (codeBlock b r) i 0) where
+  module _ (room : List ℕ)
+      (held : (r i : ℕ) → r < blocks B → fillerOf B r ≤ i → i < sizeOf B r → keptOn (circleAt r room) (sizeOf B r + 4) 0 i ≡ getD (codeBlock b r) i 0) where
     -- holds the code blocks themselves
-    heard-code-block : (r : ℕ) → r < blocks B → heardCodeBlock M slot B store r ≡ codeBlock b r
-    unfolding heardCodeBlock
+    heard-code-block : (r : ℕ) → r < blocks B → heardCodeBlock B room r ≡ codeBlock b r
+    unfolding heardCodeBlock codeBlockOn heardOn
     heard-code-block r h =
         ext-getD 0 (zeros ++ kept) (codeBlock b r) (all ∙ sym (length-codeBlock B high b long r h))
         (λ k l. elim (decLt k (fillerOf B r)) [
@@ -64,12 +66,12 @@ module _ (B : ℕ) (low : 24 ≤ B) (high : B ≤ 30600) (b : List ℕ) (long : 
         zeros = replicate {A = ℕ} (fillerOf B r) 0
 
         kept : List ℕ
-        kept = tabFrom (fillerOf B r) (sizeOf B r - fillerOf B r) (keptAt M slot B store r 0)
+        kept = tabFrom (fillerOf B r) (sizeOf B r - fillerOf B r) (keptOn (circleAt r room) (sizeOf B r + 4) 0)
 
         all : length (zeros ++ kept) ≡ sizeOf B r
         all =
             length-append zeros kept
-            ∙ rw (length-replicate {A = ℕ} (fillerOf B r) 0, length-tabFrom (fillerOf B r) (sizeOf B r - fillerOf B r) (keptAt M slot B store r 0))
+            ∙ rw (length-replicate {A = ℕ} (fillerOf B r) 0, length-tabFrom (fillerOf B r) (sizeOf B r - fillerOf B r) (keptOn (circleAt r room) (sizeOf B r + 4) 0))
             (omega (arith, filler-within B high low r))
 
         past : (k : ℕ) → fillerOf B r ≤ k → k < sizeOf B r → getD (zeros ++ kept) k 0 ≡ getD (codeBlock b r) k 0
@@ -78,17 +80,17 @@ module _ (B : ℕ) (low : 24 ≤ B) (high : B ≤ 30600) (b : List ℕ) (long : 
             let back : fillerOf B r + (k - fillerOf B r) ≡ k = omega arith in
             ap (λ (i : ℕ). getD (zeros ++ kept) i 0) place
             ∙ getD-append-add zeros kept (k - fillerOf B r) 0
-            ∙ getD-tabFrom (fillerOf B r) (sizeOf B r - fillerOf B r) (keptAt M slot B store r 0) (k - fillerOf B r) 0 (omega arith)
-            ∙ ap (keptAt M slot B store r 0) back
+            ∙ getD-tabFrom (fillerOf B r) (sizeOf B r - fillerOf B r) (keptOn (circleAt r room) (sizeOf B r + 4) 0) (k - fillerOf B r) 0 (omega arith)
+            ∙ ap (keptOn (circleAt r room) (sizeOf B r + 4) 0) back
             ∙ held r k h f l
 
     -- so none of them is wrong
-    pub none-wrong : firstFrom (wrongBlock M slot B store) 0 (blocks B) ≡ blocks B
+    pub none-wrong : firstFrom (wrongBlock B room) 0 (blocks B) ≡ blocks B
     unfolding wrongBlock
     none-wrong = firstFrom-none _ 0 (blocks B) (λ r a h. right r (omega arith) (eqb (blocks B) 1) refl) ∙ omega arith
       where
-        right : (r : ℕ) → r < blocks B → (single : Bool) → eqb (blocks B) 1 ≡ single → wrongBlock M slot B store r ≡ false
-        right r h true e = ap (λ (t : Bool). not t && not (eqb (crc 24 gCRC24B (heardCodeBlock M slot B store r)) 0)) e
+        right : (r : ℕ) → r < blocks B → (single : Bool) → eqb (blocks B) 1 ≡ single → wrongBlock B room r ≡ false
+        right r h true e = ap (λ (t : Bool). not t && not (eqb (crc 24 gCRC24B (heardCodeBlock B room r)) 0)) e
         right r h false e =
-            ap (λ (t : Bool). not t && not (eqb (crc 24 gCRC24B (heardCodeBlock M slot B store r)) 0)) e
+            ap (λ (t : Bool). not t && not (eqb (crc 24 gCRC24B (heardCodeBlock B room r)) 0)) e
             ∙ ap not (eq-eqb _ 0 (ap (crc 24 gCRC24B) (heard-code-block r h) ∙ code-block-checked b r (rw (← long) at e)))

@@ -21,13 +21,15 @@ use Rattle.segmentation.proofs.CodeBlocks.{taken-all, taken-within, filler-with
 use Rattle.laws.specs.Bits.{AreBits}
 use Rattle.codeword.proofs.Data.{filler-over, carries}
 use Rattle.codeword.proofs.Taken.{length-withCheck}
-use Rattle.slots.specs.Room.{unheard}
-use Rattle.slots.specs.Reading.{keptAt, firstWrong, someWrong, heardIn, heardFrom, heardSequence, wrongCheck, heardBlock}
+use Rattle.slots.specs.Room.{unheard, circleAt}
+use Rattle.slots.specs.Circle.{keptOn, heardOn}
+use Rattle.slots.specs.Reading.{firstWrong, someWrong, heardIn, heardFrom, heardSequence, wrongCheck, heardBlock}
 use Rattle.slots.proofs.Buffers.{Wide}
 use Rattle.history.specs.Calls.{Reception}
 use Rattle.history.specs.Sent.{AllTrue, unsent}
 use Rattle.history.proofs.DataPlaces.{none-unsent}
-use Rattle.history.proofs.ReleaseCount.{HoldsMet, kept-data}
+use Rattle.history.proofs.Follows.{Met}
+use Rattle.history.proofs.ReleaseCount.{kept-data}
 use Rattle.history.proofs.ReleaseBlocks.{none-wrong}
 
 -- ---- the bits of b that each code block carries, in order
@@ -45,28 +47,28 @@ module _ (B : ℕ) (low : 24 ≤ B) (high : B ≤ 30600) (b : List ℕ) (long : 
   unfolding takenBefore fillerOf
   begins-next r = rw (eqb·suc-zero r) (omega (arith, filler-over B low high r, filler-within B high low r))
 
-  module _ (M slot : ℕ) (store : List ℕ)
-      (held : (r i : ℕ) → r < blocks B → fillerOf B r ≤ i → i < sizeOf B r → keptAt M slot B store r 0 i ≡ getD (codeBlock b r) i 0) where
-    heard-in : (r : ℕ) → r < blocks B → heardIn M slot B store r ≡ take (many r) (drop (begins r) b)
-    unfolding heardIn
+  module _ (room : List ℕ)
+      (held : (r i : ℕ) → r < blocks B → fillerOf B r ≤ i → i < sizeOf B r → keptOn (circleAt r room) (sizeOf B r + 4) 0 i ≡ getD (codeBlock b r) i 0) where
+    heard-in : (r : ℕ) → r < blocks B → heardIn B room r ≡ take (many r) (drop (begins r) b)
+    unfolding heardIn heardOn
     heard-in r h =
-        ext-getD 0 (tabFrom (fillerOf B r) (many r) (keptAt M slot B store r 0)) (take (many r) (drop (begins r) b))
-        (length-tabFrom (fillerOf B r) (many r) (keptAt M slot B store r 0) ∙ sym (length-take-le (many r) (drop (begins r) b) enough))
+        ext-getD 0 (tabFrom (fillerOf B r) (many r) (keptOn (circleAt r room) (sizeOf B r + 4) 0)) (take (many r) (drop (begins r) b))
+        (length-tabFrom (fillerOf B r) (many r) (keptOn (circleAt r room) (sizeOf B r + 4) 0) ∙ sym (length-take-le (many r) (drop (begins r) b) enough))
         (λ k l. entry k (rw length-tabFrom at l))
       where
         enough : many r ≤ length (drop (begins r) b)
         enough = rw (length-drop, long) (omega (arith, taken-within B high r h, filler-over B low high r, filler-within B high low r))
 
-        entry : (k : ℕ) → k < many r → getD (tabFrom (fillerOf B r) (many r) (keptAt M slot B store r 0)) k 0 ≡ getD (take (many r) (drop (begins r) b)) k 0
+        entry : (k : ℕ) → k < many r → getD (tabFrom (fillerOf B r) (many r) (keptOn (circleAt r room) (sizeOf B r + 4) 0)) k 0 ≡ getD (take (many r) (drop (begins r) b)) k 0
         entry k l =
             let place : takenBefore B r + (fillerOf B r + k) - filler B ≡ begins r + k = omega (arith, filler-over B low high r) in
-            getD-tabFrom (fillerOf B r) (many r) (keptAt M slot B store r 0) k 0 l
+            getD-tabFrom (fillerOf B r) (many r) (keptOn (circleAt r room) (sizeOf B r + 4) 0) k 0 l
             ∙ held r (fillerOf B r + k) h (omega arith) (omega arith)
             ∙ carries B low high b long r h (fillerOf B r + k) (omega arith) (omega arith)
             ∙ ap (λ (i : ℕ). getD b i 0) place
             ∙ sym (getD-take (many r) (drop (begins r) b) k 0 l ∙ getD-drop (begins r) b k 0)
 
-    heard-from : (r n : ℕ) → r + n ≡ blocks B → heardFrom M slot B store r n ≡ drop (begins r) b
+    heard-from : (r n : ℕ) → r + n ≡ blocks B → heardFrom B room r n ≡ drop (begins r) b
     unfolding heardFrom
     heard-from r zero e =
         let last : r ≡ blocks B = omega arith in
@@ -77,7 +79,7 @@ module _ (B : ℕ) (low : 24 ≤ B) (high : B ≤ 30600) (b : List ℕ) (long : 
         ∙ take-append-drop (many r) (drop (begins r) b)
 
     -- all of b
-    heard-all : heardFrom M slot B store 0 (blocks B) ≡ b
+    heard-all : heardFrom B room 0 (blocks B) ≡ b
     unfolding takenBefore fillerOf
     heard-all =
         let front : 0 + filler B - filler B ≡ 0 = omega arith in
@@ -86,35 +88,35 @@ module _ (B : ℕ) (low : 24 ≤ B) (high : B ≤ 30600) (b : List ℕ) (long : 
 -- ---- the room
 
 module _ (soft : ℕ) (a : List ℕ) (admitted : badSize (length a) ≡ false) (bits : AreBits a) (xs : List Reception) (true-all : AllTrue soft a xs) (wide : Wide soft (length a + 24))
-    (M slot : ℕ) (store : List ℕ) (kept : HoldsMet soft M slot (length a) xs store) (all : unsent soft (length a) xs ≡ 0) where
+    {M : ℕ} (room : List ℕ) (kept : Met soft (length a) M xs room) (all : unsent soft (length a) xs ≡ 0) where
   -- each data place holds the code block's bit
   held : (r i : ℕ) → r < blocks (length a + 24) → fillerOf (length a + 24) r ≤ i → i < sizeOf (length a + 24) r
-      → keptAt M slot (length a + 24) store r 0 i ≡ getD (codeBlock (withCheck a) r) i 0
+      → keptOn (circleAt r room) (sizeOf (length a + 24) r + 4) 0 i ≡ getD (codeBlock (withCheck a) r) i 0
   held r i h l m =
-      kept-data soft a admitted bits xs true-all wide M slot store kept r i h l m
+      kept-data soft a admitted bits xs true-all wide room kept r i h l m
       ∙ ap (λ (s : Bool). cond s (getD (codeBlock (withCheck a) r) i 0) unheard) (none-unsent soft (length a) xs all r i (record { block = h; past-filler = l; below-size = m }))
 
   -- what is heard is the block with its transport check
-  pub sequence : heardSequence M slot (length a) store ≡ withCheck a
+  pub sequence : heardSequence (length a) room ≡ withCheck a
   unfolding heardSequence
   sequence =
       let range = in-range (length a) admitted in
-      heard-all (length a + 24) (omega arith) (omega arith) (withCheck a) (length-withCheck a) M slot store held
+      heard-all (length a + 24) (omega arith) (omega arith) (withCheck a) (length-withCheck a) room held
 
   -- so no code block is wrong
-  pub right-blocks : someWrong M slot (length a) store ≡ false
+  pub right-blocks : someWrong (length a) room ≡ false
   unfolding someWrong firstWrong
   right-blocks =
       let range = in-range (length a) admitted in
-      let first = none-wrong (length a + 24) (omega arith) (omega arith) (withCheck a) (length-withCheck a) M slot store held in
+      let first = none-wrong (length a + 24) (omega arith) (omega arith) (withCheck a) (length-withCheck a) room held in
       le-ltb _ (blocks (length a + 24)) (omega (arith, first))
 
   -- nor the transport check
-  pub right-check : wrongCheck M slot (length a) store ≡ false
+  pub right-check : wrongCheck (length a) room ≡ false
   unfolding wrongCheck withCheck
   right-check = ap not (eq-eqb _ 0 (ap (crc 24 gCRC24A) sequence ∙ checked 24 gCRC24A a))
 
   -- and the block is the one that was sent
-  pub true-block : heardBlock M slot (length a) store ≡ a
+  pub true-block : heardBlock (length a) room ≡ a
   unfolding heardBlock withCheck
   true-block = ap (take (length a)) sequence ∙ take-at a (checkBits 24 gCRC24A a) (length a) refl

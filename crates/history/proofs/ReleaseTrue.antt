@@ -19,14 +19,15 @@ use Rattle.codeword.specs.Shares.{share, sharesBefore}
 use Rattle.codeword.specs.Codeword.{blockCircle, blockRows, blockCut, sentBits, blockBits, bitsFrom}
 use Rattle.codeword.proofs.Data.{withCheck-bits, block-filled}
 use Rattle.codeword.proofs.Taken.{length-withCheck, stretch-is}
-use Rattle.slots.specs.Room.{unheard}
+use Rattle.slots.specs.Putting.{arriving, metBy}
+use Rattle.slots.specs.Room.{unheard, agreeing}
 use Rattle.rate_matching.specs.Shape.{shape}
-use Rattle.slots.specs.Reception.{blockPlaces}
+use Rattle.slots.specs.Reception.{blockPlaces, blockValues}
 use Rattle.history.specs.Calls.{Reception}
-use Rattle.history.specs.Accepted.{arriving, arrivals}
+use Rattle.history.specs.Accepted.{inOrder, bitsFor, arrivals}
 use Rattle.history.specs.Agreed.{allAre, decided}
 use Rattle.history.specs.Sent.{True, AllTrue, sent}
-use Rattle.history.proofs.Arrived.{met, all-append, all-met, all-decided, came-sent}
+use Rattle.history.proofs.Arrived.{all-append, all-met, all-decided, came-sent}
 
 -- ---- the places of a transmission, from the sizes alone
 
@@ -47,22 +48,23 @@ module _ (soft : ℕ) (b : List ℕ) (B : ℕ) (low : 24 ≤ B) (high : B ≤ 30
 -- ---- the bits of true transmissions
 
 -- bits by a rule f along places: all that come for place j are f j
-all-of-rule : (f : ℕ → ℕ) (ps rest : List ℕ) (j : ℕ) → allAre (f j) (arriving ps (map f ps ++ rest) j) ≡ true
-unfolding arriving allAre
+all-of-rule : (f : ℕ → ℕ) (ps rest : List ℕ) (j : ℕ) → allAre (f j) (arriving agreeing ps (map f ps ++ rest) j) ≡ true
+unfolding arriving agreeing allAre
 all-of-rule f [] rest j = refl
 all-of-rule f (p ∷ ps) rest j = go (eqb p j) refl (all-of-rule f ps rest j)
   where
-    go : (t : Bool) → eqb p j ≡ t → allAre (f j) (arriving ps (map f ps ++ rest) j) ≡ true
-        → allAre (f j) (cond t (f p ∷ arriving ps (map f ps ++ rest) j) (arriving ps (map f ps ++ rest) j)) ≡ true
+    go : (t : Bool) → eqb p j ≡ t → allAre (f j) (arriving agreeing ps (map f ps ++ rest) j) ≡ true
+        → allAre (f j) (cond t (f p ∷ arriving agreeing ps (map f ps ++ rest) j) (arriving agreeing ps (map f ps ++ rest) j)) ≡ true
     go true e all = ap₂ _&&_ (eq-eqb (f p) (f j) (ap f (eqb-true p j e))) all
     go false e all = all
 
 module _ (soft : ℕ) (a : List ℕ) (small : length a ≤ 30576) (bits : AreBits a) where
   -- the bits that a true transmission brings for code block r, and what follows them
   brings : (x : Reception) → True soft a x → (r : ℕ) → r < blocks (length a + 24)
-      → drop (sharesBefore (blocks (length a + 24)) (x .Q) (x .N) (length (x .bits)) r) (x .bits)
+      → blockValues (length a + 24) (x .Q) (x .N) (x .bits) r
       ≡ map (onCircle (cutCircle soft (withCheck a) r)) (blockPlaces soft (length a + 24) (x .Q) (x .N) (x .version) (length (x .bits)) r)
       ++ bitsFrom soft (withCheck a) (x .Q) (x .N) (x .version) (length (x .bits)) (suc r) (blocks (length a + 24) - suc r)
+  unfolding blockValues
   brings x t r h =
       let B : ℕ = length a + 24 in
       let G : ℕ = length (x .bits) in
@@ -74,17 +76,17 @@ module _ (soft : ℕ) (a : List ℕ) (small : length a ≤ 30576) (bits : AreBit
   -- true transmissions never contradict each other: all that they bring for a place is the block's own bit there
   true-bits : (xs : List Reception) → AllTrue soft a xs → (r j : ℕ) → r < blocks (length a + 24)
       → allAre (onCircle (cutCircle soft (withCheck a) r) j) (arrivals soft (length a) xs r j) ≡ true
-  unfolding arrivals allAre
+  unfolding inOrder bitsFor allAre
   true-bits [] t r j h = refl
   true-bits (x ∷ xs) t r j h =
       let ps : List ℕ = blockPlaces soft (length a + 24) (x .Q) (x .N) (x .version) (length (x .bits)) r in
       let f : ℕ → ℕ = onCircle (cutCircle soft (withCheck a) r) in
       all-append (f j) (arrivals soft (length a) xs r j) _ (true-bits xs (t .1) r j h)
-      (ap (λ (l : List ℕ). allAre (f j) (arriving ps l j)) (brings x (t .0) r h) ∙ all-of-rule f ps _ j)
+      (ap (λ (l : List ℕ). allAre (f j) (arriving agreeing ps l j)) (brings x (t .0) r h) ∙ all-of-rule f ps _ j)
 
   -- so a place keeps that bit if it was sent
   pub true-bit : (xs : List Reception) → AllTrue soft a xs → (r j : ℕ) → r < blocks (length a + 24)
-      → met unheard (arrivals soft (length a) xs r j) ≡ cond (sent soft (length a) xs r j) (onCircle (cutCircle soft (withCheck a) r) j) unheard
+      → metBy agreeing unheard (arrivals soft (length a) xs r j) ≡ cond (sent soft (length a) xs r j) (onCircle (cutCircle soft (withCheck a) r) j) unheard
   true-bit xs t r j h =
       all-met (onCircle (cutCircle soft (withCheck a) r) j) (arrivals soft (length a) xs r j) (true-bits xs t r j h)
       ∙ ap (λ (b : Bool). cond b (onCircle (cutCircle soft (withCheck a) r) j) unheard) (came-sent soft (length a) xs r j)

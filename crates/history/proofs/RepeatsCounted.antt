@@ -13,6 +13,7 @@ use Rattle.slots.specs.declared.Answer.the-variants.{StillLacking, Refused}
 use Rattle.slots.specs.declared.Outcome.{Outcome}
 use Rattle.slots.specs.declared.State.{State}
 use Rattle.slots.specs.Answers.{unlessRefused}
+use Rattle.slots.specs.Room.{roomAt}
 use Rattle.slots.specs.Reading.{lacking}
 use Rattle.slots.specs.Calls.{sizeAtHead, receiveNumber, receiveStore, receiveOutcome}
 use Rattle.history.specs.Calls.{Reception, Call, opening, receiving, reading, streaming, closing, History}
@@ -35,7 +36,7 @@ received-number state store slot terminal x n e = go (eqb number 0) refl e
 
     go : (b : Bool) → eqb number 0 ≡ b
         → cond {A = Outcome} b
-        (record { answer = StillLacking (lacking (state .blocks) slot (sizeAtHead state slot) (receiveStore state slot terminal (x .Q) (x .N) (x .version) (x .bits) store)); state = state })
+        (record { answer = StillLacking (lacking (sizeAtHead state slot) (roomAt (state .blocks) slot (receiveStore state slot terminal (x .Q) (x .N) (x .version) (x .bits) store))); state = state })
         (record { answer = Refused number; state = state }) .answer
         ≡ StillLacking n → number ≡ 0
     go true t d = eqb-true number 0 t

@@ -14,11 +14,11 @@ use Rattle.slots.specs.declared.Answer.the-variants.{Refused}
 use Rattle.slots.specs.declared.Head.{Head}
 use Rattle.slots.specs.declared.Outcome.{Outcome}
 use Rattle.slots.specs.State.{storeLength, roomStart, roomLength, closedHead, openHead}
-use Rattle.slots.specs.Room.{cleared}
+use Rattle.slots.specs.Room.{agreeing, roomAt, withRoom, cleared}
 use Rattle.slots.specs.Reception.{received}
 use Rattle.slots.specs.Answers.{unlessRefused}
 use Rattle.slots.specs.Calls.{withHead, sizeAtHead, shareAtHead, newOutcome, receiveNumber, receiveOutcome, receiveStore, readOutcome, streamsOutcome, closeNumber, closeOutcome}
-use Rattle.slots.proofs.RoomLaws.{length-cleared, length-received}
+use Rattle.slots.proofs.RoomLaws.{length-cleared, length-received, length-withRoom}
 use Rattle.history.specs.Links.{Link, shareIn, openingNumber}
 use Rattle.history.specs.Calls.{Reception, Call, opening, receiving, reading, streaming, closing, Made, History}
 use Rattle.history.specs.Run.{World, lent, outcomeOf, storeAfterCall, step, begin, run}
@@ -38,13 +38,20 @@ pub open-writes : (link : Link) (state : State) (store : List ℕ) (slot termina
 unfolding storeAfterCall
 open-writes link state store slot terminal A b e = opening-store link state slot A store ∙ ap (λ (t : Bool). cond t (cleared (state .blocks) slot store) store) e
 
+-- the store with a reception in the slot's room
+abbrev pub withReception : State → ℕ → Reception → List ℕ → List ℕ
+withReception state slot x store =
+    withRoom (state .blocks) slot
+    (received agreeing (shareAtHead state slot) (sizeAtHead state slot) (x .Q) (x .N) (x .version) (x .bits) (roomAt (state .blocks) slot store))
+    store
+
 pub receive-writes : (state : State) (store : List ℕ) (slot terminal : ℕ) (x : Reception) (b : Bool)
     → eqb (receiveNumber state (length store) slot terminal (x .Q) (x .N) (x .version) (x .bits)) 0 ≡ b
     → storeAfterCall state store (receiving slot terminal x)
-    ≡ cond b (received (shareAtHead state slot) (state .blocks) slot (sizeAtHead state slot) (x .Q) (x .N) (x .version) (x .bits) store) store
+    ≡ cond b (withReception state slot x store) store
 unfolding storeAfterCall receiveStore
 receive-writes state store slot terminal x b e =
-    ap (λ (t : Bool). cond t (received (shareAtHead state slot) (state .blocks) slot (sizeAtHead state slot) (x .Q) (x .N) (x .version) (x .bits) store) store) e
+    ap (λ (t : Bool). cond t (withReception state slot x store) store) e
 
 -- no call changes the length of the store
 pub length-after : (state : State) (store : List ℕ) (call : Call) → length (storeAfterCall state store call) ≡ length store
@@ -57,8 +64,8 @@ length-after state store (opening link slot terminal A) = ap length (opening-sto
 length-after state store (receiving slot terminal x) =
     go (eqb (receiveNumber state (length store) slot terminal (x .Q) (x .N) (x .version) (x .bits)) 0)
   where
-    go : (b : Bool) → length (cond b (received (shareAtHead state slot) (state .blocks) slot (sizeAtHead state slot) (x .Q) (x .N) (x .version) (x .bits) store) store) ≡ length store
-    go true = length-received (shareAtHead state slot) (state .blocks) slot (sizeAtHead state slot) (x .Q) (x .N) (x .version) (x .bits) store
+    go : (b : Bool) → length (cond b (withReception state slot x store) store) ≡ length store
+    go true = length-withRoom (state .blocks) slot _ store (length-received agreeing (shareAtHead state slot) (sizeAtHead state slot) (x .Q) (x .N) (x .version) (x .bits) _)
     go false = refl
 length-after state store (reading slot terminal size) = refl
 length-after state store (streaming slot terminal block size) = refl

@@ -4,12 +4,12 @@ use mathlib.Core.Bool.{cond, _&&_}
 use mathlib.Core.List.{List, [], _∷_, _++_}
 use Prim.Native.Nat.{ℕ, _+_}
 use lib.Dec.{eqb, ltb}
-use lib.ListN.{length, drop, getD}
-use Rattle.segmentation.specs.Segmentation.{blocks}
-use Rattle.codeword.specs.Shares.{sharesBefore}
+use lib.ListN.{length}
 use Rattle.slots.specs.declared.State.{State}
 use Rattle.slots.specs.State.{storeLength, closedHead, openHead}
-use Rattle.slots.specs.Reception.{blockPlaces}
+use Rattle.slots.specs.Putting.{arriving}
+use Rattle.slots.specs.Room.{agreeing}
+use Rattle.slots.specs.Reception.{blockPlaces, blockValues}
 use Rattle.slots.specs.Calls.{withHead, newOutcome, receiveNumber, closeNumber}
 use Rattle.history.specs.Links.{shareIn, openingNumber}
 use Rattle.history.specs.Calls.{Reception, Call, opening, receiving, reading, streaming, closing, History}
@@ -51,18 +51,19 @@ since S M n slot [] = []
 since S M n slot (m ∷ h) =
     sinceCall (headsAfter S M n h) (lentLength (headsAfter S M n h) n (m .past)) slot (m .call) (since S M n slot h)
 
--- those of the bits, given for some places in arrival order, that are for circle place j
-unfoldable pub arriving : List ℕ → List ℕ → ℕ → List ℕ
-arriving [] bits j = []
-arriving (p ∷ ps) bits j =
-    cond (eqb p j) (getD bits 0 0 ∷ arriving ps (drop 1 bits) j) (arriving ps (drop 1 bits) j)
+-- what came in all, in arrival order, where the latest stands first and `brought` says what each brought
+unfoldable pub inOrder : {R Y : Type 0} → (R → List Y) → List R → List Y
+inOrder brought [] = []
+inOrder brought (x ∷ xs) = inOrder brought xs ++ brought x
 
--- all bits that receptions for a block of A bits, latest first, brought for circle place j of code block r, in arrival order, each code block having a share `soft` of the soft buffer
-unfoldable pub arrivals : ℕ → ℕ → List Reception → ℕ → ℕ → List ℕ
-arrivals soft A [] r j = []
-arrivals soft A (x ∷ xs) r j =
-    arrivals soft A xs r j
-    ++ arriving
+-- the bits that a reception for a block of A bits brought for circle place j of code block r, in arrival order, each code block having a share `soft` of the soft buffer
+unfoldable pub bitsFor : ℕ → ℕ → ℕ → ℕ → Reception → List ℕ
+bitsFor soft A r j x =
+    arriving agreeing
     (blockPlaces soft (A + 24) (x .Q) (x .N) (x .version) (length (x .bits)) r)
-    (drop (sharesBefore (blocks (A + 24)) (x .Q) (x .N) (length (x .bits)) r) (x .bits))
+    (blockValues (A + 24) (x .Q) (x .N) (x .bits) r)
     j
+
+-- all bits that receptions, latest first, brought for it
+abbrev pub arrivals : ℕ → ℕ → List Reception → ℕ → ℕ → List ℕ
+arrivals soft A xs r j = inOrder (bitsFor soft A r j) xs

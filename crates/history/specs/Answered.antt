@@ -3,12 +3,13 @@
 use mathlib.Core.Path.{_≡_}
 use mathlib.Core.Bool.{cond}
 use mathlib.Core.List.{List, [], _∷_}
-use Prim.Native.Nat.{ℕ, _+_, _<_}
+use Prim.Native.Nat.{ℕ, _<_}
 use lib.Dec.{eqb}
 use lib.ListN.{length, getD}
 use Rattle.slots.specs.declared.Answer.{Answer}
 use Rattle.slots.specs.declared.State.{State}
-use Rattle.slots.specs.State.{roomStart, roomLength, headAt, badState}
+use Rattle.slots.specs.State.{roomLength, headAt, badState}
+use Rattle.slots.specs.Room.{roomAt}
 use Rattle.history.specs.Calls.{Call, opening, receiving, reading, streaming, closing, History}
 use Rattle.history.specs.Run.{outcomeOf}
 
@@ -27,7 +28,7 @@ slotOf (closing slot terminal) = slot
 -- the same bytes in a slot's room
 abbrev pub SameRoom : ℕ → ℕ → List ℕ → List ℕ → Type 0
 SameRoom M slot store other =
-    (k : ℕ) → k < roomLength M → getD store (roomStart M slot + k) 0 ≡ getD other (roomStart M slot + k) 0
+    (k : ℕ) → k < roomLength M → getD (roomAt M slot store) k 0 ≡ getD (roomAt M slot other) k 0
 
 -- all that an answer for a slot may depend on besides the arguments is the same: S, M, whether a head is broken, this head, the length lent and this room
 pub record SameSlot (slot : ℕ) (state other : State) (store otherStore : List ℕ) : Type 0 where

@@ -6,7 +6,7 @@ use Prim.Native.Nat.{ℕ, _+_, _≤_, _<_}
 use lib.ListN.{getD}
 use Rattle.segmentation.specs.Segmentation.{blocks}
 use Rattle.slots.specs.State.{perBlock}
-use Rattle.slots.specs.Room.{unheard, byteOf}
+use Rattle.slots.specs.Room.{unheard, roomAt, circleAt}
 use Rattle.history.specs.Calls.{Reception}
 use Rattle.history.specs.Accepted.{arrivals}
 use Rattle.history.specs.Agreed.{holding}
@@ -15,6 +15,7 @@ use Rattle.history.specs.Agreed.{holding}
 pub record Holds (soft M slot A : ℕ) (xs : List Reception) (rooms : List ℕ) : Type 0 where
   -- a place of one of its code blocks
   pub place : (r j : ℕ) → r < blocks (A + 24) → j < perBlock
-      → getD rooms (byteOf M slot r j) 0 ≡ holding (arrivals soft A xs r j)
+      → getD (circleAt r (roomAt M slot rooms)) j 0 ≡ holding (arrivals soft A xs r j)
   -- the rest of the room
-  pub rest : (r j : ℕ) → blocks (A + 24) ≤ r → r < M → j < perBlock → getD rooms (byteOf M slot r j) 0 ≡ unheard
+  pub rest : (r j : ℕ) → blocks (A + 24) ≤ r → r < M → j < perBlock
+      → getD (circleAt r (roomAt M slot rooms)) j 0 ≡ unheard

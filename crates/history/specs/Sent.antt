@@ -10,7 +10,7 @@ use Rattle.segmentation.specs.Segmentation.{blocks, sizeOf, fillerOf}
 use Rattle.rate_matching.specs.Places.{placeNumber}
 use Rattle.codeword.specs.Codeword.{codewordIn}
 use Rattle.slots.specs.Reception.{blockPlaces}
-use Rattle.slots.specs.Reading.{sumFrom}
+use Rattle.slots.specs.Circle.{sumFrom}
 use Rattle.history.specs.Calls.{Reception}
 use Rattle.history.specs.Accepted.{arrivals}
 use Rattle.history.specs.Agreed.{decided}
