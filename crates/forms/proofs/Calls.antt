@@ -1,23 +1,23 @@
 -- A call on a store with values above 3 become 2 answers as before and leaves what it leaves, with that change; and so a call on the packed store is the
 -- packed result of the plain call, 02 E7: answer, state, store and outputs, for every call, every state and every store.
 -- Assumes nothing.
-use mathlib.Core.Path.{_≡_, refl, sym, _∙_, ap, ap₂}
+use mathlib.Core.Path.{_≡_, refl, _∙_, ap, ap₂}
 use mathlib.Core.Bool.{Bool, true, false, cond}
 use mathlib.Core.List.{List, _++_, map}
-use Prim.Native.Nat.{ℕ, _+_, _*_, _/_, _<_}
+use Prim.Native.Nat.{ℕ, _+_, _*_, _/_}
 use native.Mathlib.Omega.{arith}
 use lib.Dec.{eqb}
-use lib.ListN.{length, getD, drop, length-map}
+use lib.ListN.{length, drop, length-map}
 use borrow.Author.Tests.{eqb-true}
 use Rattle.laws.specs.Bits.{EachBelow}
-use Rattle.laws.specs.Lists.{tab}
 use Rattle.laws.proofs.Tab.{tab-ext}
 use Rattle.segmentation.specs.Segmentation.{sizeOf}
 use Rattle.segmentation.specs.Sizes.{badSize}
-use Rattle.slots.specs.declared.Answer.the-variants.{Done, StillLacking, Refused}
+use Rattle.slots.specs.declared.Answer.the-variants.{StillLacking, Refused}
 use Rattle.slots.specs.declared.Outcome.{Outcome}
 use Rattle.slots.specs.declared.State.{State}
 use Rattle.slots.specs.Answers.{isDone, unlessRefused}
+use Rattle.slots.specs.Room.{roomAt}
 use Rattle.slots.specs.Reading.{lacking, heardAnswer, heardBlock, threeStreams}
 use Rattle.slots.specs.Calls.{sizeAtHead, receiveNumber, receiveOutcome, receiveStore, readNumber, readOutcome, released, readOutput, streamsNumber, streamsOutcome, streamsOutput}
 use Rattle.slots.proofs.HeadLaws.{open-size}
@@ -27,11 +27,11 @@ use Rattle.packing.specs.Store.{placesIn, inForm}
 use Rattle.packing.proofs.Forms.{length-packed, there-and-back}
 use Rattle.packing.proofs.Stores.{form-back}
 use Rattle.history.specs.Links.{openingOutcome}
-use Rattle.history.specs.Calls.{Reception, Call, opening, receiving, reading, streaming, closing}
+use Rattle.history.specs.Calls.{Call, opening, receiving, reading, streaming, closing}
 use Rattle.history.specs.Run.{outcomeOf, storeAfterCall}
 use Rattle.history.proofs.State.{length-after}
 use Rattle.forms.specs.Calls.{outcomeIn, storeAfterIn, readOutputIn, streamsOutputIn}
-use Rattle.forms.proofs.TwoBits.{twice, getD-two}
+use Rattle.forms.proofs.TwoBits.{twice, getD-two, room-two}
 use Rattle.forms.proofs.Readings.{lacking-two, streams-two, answer-two, given-two}
 use Rattle.forms.proofs.Writings.{open-two, receive-two}
 
@@ -50,6 +50,10 @@ module _ (state : State) (store : List ℕ) where
   abbrev two : List ℕ
   two = map inTwoBits store
 
+  -- a slot's room in the store
+  abbrev room : ℕ → List ℕ
+  room slot = roomAt (state .blocks) slot store
+
   long : length two ≡ length store
   long = length-map store inTwoBits
 
@@ -63,15 +67,16 @@ module _ (state : State) (store : List ℕ) where
   unfolding readOutcome
   read-two slot terminal size =
       same-outcome _ _ state _ _ (ap (λ (n : ℕ). readNumber state n slot terminal size) long)
-      (λ z. ap (λ x. record { answer = x; state = state }) (answer-two (state .blocks) slot store (sizeAtHead state slot) (size-good slot terminal size z)))
+      (λ z. ap (λ x. record { answer = x; state = state }) (ap (heardAnswer (sizeAtHead state slot)) (room-two (state .blocks) slot store) ∙ answer-two (room slot) (sizeAtHead state slot) (size-good slot terminal size z)))
 
   received-two : (slot terminal Q N v : ℕ) (bits : List ℕ) → receiveOutcome state slot terminal Q N v bits two ≡ receiveOutcome state slot terminal Q N v bits store
   unfolding receiveOutcome
   received-two slot terminal Q N v bits =
       same-outcome _ _ state _ _ (ap (λ (n : ℕ). receiveNumber state n slot terminal Q N v bits) long)
       (λ z. ap (λ (n : ℕ). record { answer = StillLacking n; state = state })
-      (ap (lacking (state .blocks) slot (sizeAtHead state slot)) (receive-two state store slot terminal Q N v bits)
-      ∙ lacking-two (state .blocks) slot (receiveStore state slot terminal Q N v bits store) (sizeAtHead state slot)))
+      (ap (λ (l : List ℕ). lacking (sizeAtHead state slot) (roomAt (state .blocks) slot l)) (receive-two state store slot terminal Q N v bits)
+      ∙ ap (lacking (sizeAtHead state slot)) (room-two (state .blocks) slot (receiveStore state slot terminal Q N v bits store))
+      ∙ lacking-two (roomAt (state .blocks) slot (receiveStore state slot terminal Q N v bits store)) (sizeAtHead state slot)))
 
   -- the answer and the state
   pub outcome-two : (call : Call) → outcomeOf state two call ≡ outcomeOf state store call
@@ -94,7 +99,7 @@ module _ (state : State) (store : List ℕ) where
   -- the outputs
   pub read-output-two : (slot terminal : ℕ) (out : List ℕ) → readOutput state two slot terminal out ≡ readOutput state store slot terminal out
   unfolding readOutput released readOutcome unlessRefused isDone
-  read-output-two slot terminal out = rw (length-map store inTwoBits) (go (eqb number 0) refl)
+  read-output-two slot terminal out = rw (length-map store inTwoBits, room-two (state .blocks) slot store) (go (eqb number 0) refl)
     where
       number : ℕ
       number = readNumber state (length store) slot terminal (length out)
@@ -103,12 +108,12 @@ module _ (state : State) (store : List ℕ) where
       written l b =
           cond
           (isDone
-          (cond {A = Outcome} b (record { answer = heardAnswer (state .blocks) slot (sizeAtHead state slot) l; state = state }) (record { answer = Refused number; state = state }) .answer))
-          (heardBlock (state .blocks) slot (sizeAtHead state slot) l ++ drop (sizeAtHead state slot) out)
+          (cond {A = Outcome} b (record { answer = heardAnswer (sizeAtHead state slot) l; state = state }) (record { answer = Refused number; state = state }) .answer))
+          (heardBlock (sizeAtHead state slot) l ++ drop (sizeAtHead state slot) out)
           out
 
-      go : (b : Bool) → eqb number 0 ≡ b → written two b ≡ written store b
-      go true z = given-two (state .blocks) slot store (sizeAtHead state slot) (size-good slot terminal (length out) (eqb-true number 0 z)) (drop (sizeAtHead state slot) out) out
+      go : (b : Bool) → eqb number 0 ≡ b → written (map inTwoBits (room slot)) b ≡ written (room slot) b
+      go true z = given-two (room slot) (sizeAtHead state slot) (size-good slot terminal (length out) (eqb-true number 0 z)) (drop (sizeAtHead state slot) out) out
       go false z = refl
 
   pub streams-output-two : (slot terminal r : ℕ) (out : List ℕ) → streamsOutput state two slot terminal r out ≡ streamsOutput state store slot terminal r out
@@ -116,7 +121,7 @@ module _ (state : State) (store : List ℕ) where
   streams-output-two slot terminal r out =
       ap₂ (λ (n : ℕ) (l : List ℕ). cond (eqb (streamsNumber state n slot terminal r (length out)) 0) (l ++ drop (3 * (sizeOf (sizeAtHead state slot + 24) r + 4)) out) out)
       long
-      (streams-two (state .blocks) slot store (sizeAtHead state slot + 24) r)
+      (ap (λ (l : List ℕ). threeStreams (sizeAtHead state slot + 24) l r) (room-two (state .blocks) slot store) ∙ streams-two (room slot) (sizeAtHead state slot + 24) r)
 
 -- ---- the packed store
 

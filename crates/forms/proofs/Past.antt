@@ -1,9 +1,9 @@
 -- The rooms after a call do not depend on what stands past them, 01 'Slots' and 02 E7, nor on a value above 3 being 2 but for that change.
 -- Assumes nothing.
-use mathlib.Core.Path.{_≡_, refl, sym, _∙_, ap, ap₂}
+use mathlib.Core.Path.{_≡_, refl, sym, _∙_, ap}
 use mathlib.Core.Bool.{Bool, true, false, cond}
 use mathlib.Core.List.{List, _++_, map}
-use Prim.Native.Nat.{ℕ, _+_, _-_, _*_, _≤_, _<_}
+use Prim.Native.Nat.{ℕ, _+_, _-_, _≤_, _<_}
 use native.Mathlib.Nat.{mul-le-mul-right}
 use native.Mathlib.Decide.{decLt, decLe}
 use native.Mathlib.Omega.{arith}
@@ -16,10 +16,10 @@ use Rattle.slots.specs.State.{roomLength, roomStart, storeLength}
 use Rattle.slots.proofs.RoomLaws.{InRoom, room-within}
 use Rattle.packing.specs.Packing.{inTwoBits}
 use Rattle.history.specs.Calls.{Call}
-use Rattle.history.specs.Run.{outcomeOf, storeAfterCall}
-use Rattle.history.specs.Answered.{slotOf, SameRoom, SameSlot}
+use Rattle.history.specs.Run.{storeAfterCall}
+use Rattle.history.specs.Answered.{slotOf, SameSlot}
 use Rattle.history.proofs.State.{length-after}
-use Rattle.history.proofs.Others.{bytes-stay}
+use Rattle.history.proofs.Others.{bytes-stay, room-bytes, bytes-room}
 use Rattle.history.proofs.Depends.{room-depends}
 use Rattle.forms.proofs.Lists.{map-append, map-take}
 use Rattle.forms.proofs.TwoBits.{list-twice}
@@ -59,9 +59,9 @@ module _ (state : State) (rooms past past′ : List ℕ) (call : Call) (whole : 
     broken = refl;
     head = refl;
     long = rw (length-append rooms past, length-append rooms past′) (omega arith);
-    room = λ k l.
+    room = room-bytes (state .blocks) slot (rooms ++ past) (rooms ++ past′) (λ k l.
         let inside : roomStart (state .blocks) slot + k < length rooms = omega (arith, whole, room-within (state .slots) (state .blocks) slot b) in
-        in-front past (roomStart (state .blocks) slot + k) inside ∙ sym (in-front past′ (roomStart (state .blocks) slot + k) inside);
+        in-front past (roomStart (state .blocks) slot + k) inside ∙ sym (in-front past′ (roomStart (state .blocks) slot + k) inside));
   }
 
   at : (k : ℕ) → k < length rooms → getD (storeAfterCall state (rooms ++ past) call) k 0 ≡ getD (storeAfterCall state (rooms ++ past′) call) k 0
@@ -70,7 +70,8 @@ module _ (state : State) (rooms past past′ : List ℕ) (call : Call) (whole : 
     | yes l ↦ elim (decLt k (roomStart M slot + roomLength M)) [
       | yes u ↦
           let place : roomStart M slot + (k - roomStart M slot) ≡ k = omega arith in
-          rw place at (room-depends slot state state (rooms ++ past) (rooms ++ past′) (same-slot (present k h l)) call refl (k - roomStart M slot) (omega arith))
+          rw place at
+          (bytes-room M slot _ _ (room-depends slot state state (rooms ++ past) (rooms ++ past′) (same-slot (present k h l)) call refl) (k - roomStart M slot) (omega arith))
       | no u ↦ outside (λ i. omega arith)
     ]
     | no l ↦ outside (λ i. omega arith)

@@ -3,7 +3,7 @@
 use mathlib.Core.Path.{_≡_, refl, sym, _∙_, ap, ap₂}
 use mathlib.Core.Bool.{Bool, true, false, cond}
 use mathlib.Core.List.{List, [], _∷_, _++_, map}
-use Prim.Native.Nat.{ℕ, zero, suc, _+_, _<_}
+use Prim.Native.Nat.{ℕ, zero, suc, _+_, _*_}
 use lib.Dec.{eqb}
 use lib.ListN.{length, getD, take, drop, set, replicate, length-map}
 use borrow.Author.Tests.{eqb-true}
@@ -13,16 +13,17 @@ use Rattle.segmentation.specs.Segmentation.{blocks}
 use Rattle.codeword.specs.Shares.{sharesBefore}
 use Rattle.codeword.proofs.Accepted.{given-bits}
 use Rattle.slots.specs.declared.State.{State}
-use Rattle.slots.specs.State.{roomStart, roomLength}
-use Rattle.slots.specs.Room.{unheard, meet, byteOf, putBit, cleared}
-use Rattle.slots.specs.Reception.{blockPlaces, putBits, putBlocks, received}
+use Rattle.slots.specs.State.{perBlock, roomStart, roomLength}
+use Rattle.slots.specs.Putting.{putAlong}
+use Rattle.slots.specs.Room.{unheard, meet, agreeing, roomAt, circleAt, withRoom, withCircle, cleared}
+use Rattle.slots.specs.Reception.{blockPlaces, blockValues, putOn, putBlocks, received}
 use Rattle.slots.specs.Calls.{sizeAtHead, shareAtHead, receiveNumber, receiveStore}
 use Rattle.slots.proofs.Acceptance.{receives}
 use Rattle.packing.specs.Packing.{inTwoBits}
 use Rattle.history.specs.Links.{Link, openingNumber, openingStore}
 use Rattle.history.proofs.Links.{opening-store}
 use Rattle.forms.proofs.Lists.{map-append, map-take, map-drop, map-replicate, map-set}
-use Rattle.forms.proofs.TwoBits.{meet-alike, getD-two}
+use Rattle.forms.proofs.TwoBits.{meet-alike, getD-two, room-two, circle-two}
 
 module _ (M slot : ℕ) where
   cleared-two : (store : List ℕ) → cleared M slot (map inTwoBits store) ≡ map inTwoBits (cleared M slot store)
@@ -33,32 +34,41 @@ module _ (M slot : ℕ) where
       ∙ sym (map-append inTwoBits (replicate {A = ℕ} (roomLength M) unheard) _))
       ∙ sym (map-append inTwoBits (take (roomStart M slot) store) _)
 
-  put-two : (store : List ℕ) (at bit : ℕ) → bit < 2 → putBit (map inTwoBits store) at bit ≡ map inTwoBits (putBit store at bit)
-  unfolding putBit
-  put-two store at bit h =
-      ap (set (map inTwoBits store) at) (ap (λ (x : ℕ). meet x bit) (getD-two store at) ∙ meet-alike (getD store at 0) bit h)
-      ∙ sym (map-set inTwoBits store at (meet (getD store at 0) bit))
+-- bits put at places
+puts-two : (js bits kept : List ℕ) → AreBits bits → putAlong agreeing js bits (map inTwoBits kept) ≡ map inTwoBits (putAlong agreeing js bits kept)
+unfolding putAlong agreeing
+puts-two [] bits kept h = refl
+puts-two (j ∷ js) bits kept h =
+    ap (putAlong agreeing js (drop 1 bits))
+    (ap (set (map inTwoBits kept) j) (ap (λ (x : ℕ). meet x (getD bits 0 0)) (getD-two kept j) ∙ meet-alike (getD kept j 0) (getD bits 0 0) (h 0))
+    ∙ sym (map-set inTwoBits kept j (meet (getD kept j 0) (getD bits 0 0))))
+    ∙ puts-two js (drop 1 bits) (set kept j (meet (getD kept j 0) (getD bits 0 0))) (drop-below 2 1 bits h)
 
-  puts-two : (r : ℕ) (js bits store : List ℕ) → AreBits bits → putBits M slot r js bits (map inTwoBits store) ≡ map inTwoBits (putBits M slot r js bits store)
-  unfolding putBits
-  puts-two r [] bits store h = refl
-  puts-two r (j ∷ js) bits store h =
-      ap (putBits M slot r js (drop 1 bits)) (put-two store (byteOf M slot r j) (getD bits 0 0) (h 0))
-      ∙ puts-two r js (drop 1 bits) (putBit store (byteOf M slot r j) (getD bits 0 0)) (drop-below 2 1 bits h)
+blocks-two : (soft B Q N v : ℕ) (bits : List ℕ) → AreBits bits → (r n : ℕ) (room : List ℕ)
+    → putBlocks agreeing soft B Q N v bits r n (map inTwoBits room) ≡ map inTwoBits (putBlocks agreeing soft B Q N v bits r n room)
+unfolding putBlocks putOn blockValues withCircle
+blocks-two soft B Q N v bits h r zero room = refl
+blocks-two soft B Q N v bits h r (suc n) room =
+    let before : ℕ = sharesBefore (blocks B) Q N (length bits) r in
+    let places : List ℕ = blockPlaces soft B Q N v (length bits) r in
+    let at : ℕ = r * perBlock in
+    let circle : List ℕ = putAlong agreeing places (drop before bits) (circleAt r room) in
+    let same : putAlong agreeing places (drop before bits) (circleAt r (map inTwoBits room)) ≡ map inTwoBits circle =
+    ap (putAlong agreeing places (drop before bits)) (circle-two r room) ∙ puts-two places (drop before bits) (circleAt r room) (drop-below 2 before bits h) in
+    ap (putBlocks agreeing soft B Q N v bits (suc r) n)
+    (ap₂ _++_ (sym (map-take inTwoBits at room)) same ∙ sym (map-append inTwoBits (take at room) circle))
+    ∙ blocks-two soft B Q N v bits h (suc r) n (take at room ++ circle)
 
-  blocks-two : (soft B Q N v : ℕ) (bits : List ℕ) → AreBits bits → (r n : ℕ) (store : List ℕ)
-      → putBlocks soft M slot B Q N v bits r n (map inTwoBits store) ≡ map inTwoBits (putBlocks soft M slot B Q N v bits r n store)
-  unfolding putBlocks
-  blocks-two soft B Q N v bits h r zero store = refl
-  blocks-two soft B Q N v bits h r (suc n) store =
-      let before : ℕ = sharesBefore (blocks B) Q N (length bits) r in
-      let places : List ℕ = blockPlaces soft B Q N v (length bits) r in
-      ap (putBlocks soft M slot B Q N v bits (suc r) n) (puts-two r places (drop before bits) store (drop-below 2 before bits h))
-      ∙ blocks-two soft B Q N v bits h (suc r) n (putBits M slot r places (drop before bits) store)
-
-  received-two : (soft A Q N v : ℕ) (bits store : List ℕ) → AreBits bits → received soft M slot A Q N v bits (map inTwoBits store) ≡ map inTwoBits (received soft M slot A Q N v bits store)
-  unfolding received
-  received-two soft A Q N v bits store h = blocks-two soft (A + 24) Q N v bits h 0 (blocks (A + 24)) store
+-- a reception in a room of the store
+received-two : (M slot soft A Q N v : ℕ) (bits store : List ℕ) → AreBits bits
+    → withRoom M slot (received agreeing soft A Q N v bits (roomAt M slot (map inTwoBits store))) (map inTwoBits store)
+    ≡ map inTwoBits (withRoom M slot (received agreeing soft A Q N v bits (roomAt M slot store)) store)
+unfolding received withRoom
+received-two M slot soft A Q N v bits store h =
+    ap₂ _++_ (sym (map-take inTwoBits (roomStart M slot) store))
+    (ap (putBlocks agreeing soft (A + 24) Q N v bits 0 (blocks (A + 24))) (room-two M slot store)
+    ∙ blocks-two soft (A + 24) Q N v bits h 0 (blocks (A + 24)) (roomAt M slot store))
+    ∙ sym (map-append inTwoBits (take (roomStart M slot) store) _)
 
 -- by the test of the call's number: where it is accepted the new store, else the old one
 either : (number number′ : ℕ) (new new′ store : List ℕ) → number ≡ number′ → (number′ ≡ 0 → new ≡ map inTwoBits new′)
