@@ -17,6 +17,7 @@ use Rattle.slots.specs.declared.Answer.the-variants.{Done, Refused}
 use Rattle.slots.specs.declared.State.{State}
 use Rattle.slots.specs.declared.Outcome.{Outcome}
 use Rattle.slots.specs.State.{roomLength, headAt, tooMany, badShape}
+use Rattle.slots.specs.Room.{roomAt}
 use Rattle.slots.specs.Reading.{lacking, firstWrong, someWrong, wrongCheck, heardAnswer}
 use Rattle.slots.specs.Answers.{numberOf, Lacking, WrongBlock, unlessRefused}
 use Rattle.slots.specs.Calls.{openOutcome, openDownOutcome, receiveOutcome, readOutcome, streamsOutcome, closeOutcome, newOutcome, sizeAtHead}
@@ -49,12 +50,12 @@ unfolding unlessRefused
 accepting number state accepted e = rw e
 
 -- the numbers that a room can give
-heard-numbers : (M slot A : ℕ) (store : List ℕ)
-    → let number : ℕ = numberOf (heardAnswer M slot A store) in (number ≡ 0) ⊎ ((number ≡ 11) ⊎ ((number ≡ 16) ⊎ (number ≡ 12)))
+heard-numbers : (A : ℕ) (room : List ℕ)
+    → let number : ℕ = numberOf (heardAnswer A room) in (number ≡ 0) ⊎ ((number ≡ 11) ⊎ ((number ≡ 16) ⊎ (number ≡ 12)))
 unfolding heardAnswer numberOf
-heard-numbers M slot A store = by (eqb (lacking M slot A store) 0) (someWrong M slot A store) (wrongCheck M slot A store)
+heard-numbers A room = by (eqb (lacking A room) 0) (someWrong A room) (wrongCheck A room)
   where
-    by : (t u v : Bool) → let number : ℕ = numberOf (cond t (cond u (WrongBlock (firstWrong M slot A store)) (cond v (Refused 12) Done)) (Lacking (lacking M slot A store))) in
+    by : (t u v : Bool) → let number : ℕ = numberOf (cond t (cond u (WrongBlock (firstWrong A room)) (cond v (Refused 12) Done)) (Lacking (lacking A room))) in
         (number ≡ 0) ⊎ ((number ≡ 11) ⊎ ((number ≡ 16) ⊎ (number ≡ 12)))
     by true true v = inr (inr (inl refl))
     by true false true = inr (inr (inr refl))
@@ -127,4 +128,4 @@ module _ (S M : ℕ) (store₀ : List ℕ) (new : New S M store₀) (h : History
         → let number : ℕ = numberOf (readOutcome state store slot terminal (length out) .answer) in
         (number ≡ 0) ⊎ ((number ≡ 11) ⊎ ((number ≡ 16) ⊎ (number ≡ 12)))
     unfolding readOutcome
-    read-answers out fits = rw (accepting _ state _ (read-admitted state (length store) slot (ok .sound) (ok .long past) here terminal (owner .opened) (owner .terminal-is) (length out) (rw size-at fits))) (heard-numbers (state .blocks) slot (sizeAtHead state slot) store)
+    read-answers out fits = rw (accepting _ state _ (read-admitted state (length store) slot (ok .sound) (ok .long past) here terminal (owner .opened) (owner .terminal-is) (length out) (rw size-at fits))) (heard-numbers (sizeAtHead state slot) (roomAt (state .blocks) slot store))

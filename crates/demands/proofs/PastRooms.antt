@@ -11,12 +11,12 @@ use borrow.Author.Tests.{eqb-true}
 use Rattle.segmentation.proofs.Segmentation.{good-size}
 use Rattle.slots.specs.declared.State.{State}
 use Rattle.slots.specs.State.{storeLength}
-use Rattle.slots.specs.Room.{cleared}
+use Rattle.slots.specs.Room.{agreeing, roomAt, withRoom, cleared}
 use Rattle.slots.specs.Reception.{received}
 use Rattle.slots.specs.Calls.{openNumber, openStore, openDownNumber, openDownStore, receiveNumber, receiveStore, sizeAtHead, shareAtHead}
 use Rattle.slots.proofs.Accepted.{room-within, openable, good, down-open}
 use Rattle.slots.proofs.Acceptance.{receives}
-use Rattle.slots.proofs.RoomLaws.{InRoom, cleared-out, received-out}
+use Rattle.slots.proofs.RoomLaws.{InRoom, cleared-out, stored-out}
 use Rattle.slots.proofs.PlaceBounds.{sent-below}
 
 -- where a test passes or not, an entry stays
@@ -48,11 +48,11 @@ module _ (state : State) (slot : ℕ) (store : List ℕ) (at : ℕ) (past : stor
   past-receive terminal Q N v bits = stays (eqb (receiveNumber state (length store) slot terminal Q N v bits) 0) _ store at (λ t. put (eqb-true _ 0 t))
     where
       put : receiveNumber state (length store) slot terminal Q N v bits ≡ 0
-          → getD (received (shareAtHead state slot) (state .blocks) slot (sizeAtHead state slot) Q N v bits store) at 0 ≡ getD store at 0
+          → getD (withRoom (state .blocks) slot (received agreeing (shareAtHead state slot) (sizeAtHead state slot) Q N v bits (roomAt (state .blocks) slot store)) store) at 0 ≡ getD store at 0
       put e =
           let k = receives state (length store) slot terminal Q N v bits e in
           let g = good state (k .sound) in
           let f = g .fits slot (k .below) (k .opened) in
-          received-out (shareAtHead state slot) (state .blocks) slot (sizeAtHead state slot) Q N v bits store (f .few)
+          stored-out (shareAtHead state slot) (state .blocks) slot (sizeAtHead state slot) Q N v bits store (omega (arith, room-within state (k .below), k .long)) (f .few)
           (λ r. sent-below (sizeAtHead state slot) (good-size (sizeAtHead state slot) (f .size-some) (f .size-most)) (g .wide slot (k .below) (k .opened)) Q N v (length bits) r (k .version))
           at (outside (k .below))

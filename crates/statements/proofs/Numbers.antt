@@ -14,6 +14,7 @@ use Rattle.slots.specs.declared.Outcome.{Outcome}
 use Rattle.slots.specs.declared.Answer.the-variants.{Done, Refused}
 use Rattle.slots.specs.State.{badShape}
 use Rattle.slots.specs.Answers.{numberOf, Lacking, WrongBlock, unlessRefused}
+use Rattle.slots.specs.Room.{roomAt}
 use Rattle.slots.specs.Reading.{lacking, firstWrong, someWrong, wrongCheck, heardAnswer}
 use Rattle.slots.specs.Calls.{storeRules, ownerRules, sizeAtHead, newOutcome, openNumber, openOutcome, openDownNumber, openDownOutcome, receiveNumber, receiveOutcome, readNumber, readOutcome, streamsNumber, streamsOutcome, closeNumber, closeOutcome}
 
@@ -54,23 +55,23 @@ unfolding closeOutcome numberOf
 close-number state slot terminal = given _ _ _ refl
 
 -- Read's refusals from the room: 11, 16, 12
-abbrev pub roomRules : ℕ → ℕ → ℕ → List ℕ → List Rule
-roomRules M slot A store =
-    rule (not (eqb (lacking M slot A store) 0)) 11 ∷ rule (someWrong M slot A store) 16 ∷ rule (wrongCheck M slot A store) 12 ∷ []
+abbrev pub roomRules : ℕ → List ℕ → List Rule
+roomRules A room =
+    rule (not (eqb (lacking A room) 0)) 11 ∷ rule (someWrong A room) 16 ∷ rule (wrongCheck A room) 12 ∷ []
 
 -- and all of them: 13, 5 (store), 6, 8, 9, 5 (output), 11, 16, 12
 abbrev pub readRules : State → List ℕ → ℕ → ℕ → ℕ → List Rule
 readRules state store slot terminal size =
     (storeRules state (length store) slot ++ (ownerRules state slot terminal ++ (rule (ltb size (sizeAtHead state slot)) 5 ∷ [])))
-    ++ roomRules (state .blocks) slot (sizeAtHead state slot) store
+    ++ roomRules (sizeAtHead state slot) (roomAt (state .blocks) slot store)
 
 -- the room is looked at only where the rules before it do not apply
-room-number : (M slot A : ℕ) (store : List ℕ) → numberOf (heardAnswer M slot A store) ≡ firstOf (roomRules M slot A store)
+room-number : (A : ℕ) (room : List ℕ) → numberOf (heardAnswer A room) ≡ firstOf (roomRules A room)
 unfolding heardAnswer numberOf firstOf
-room-number M slot A store = go (eqb (lacking M slot A store) 0) (someWrong M slot A store) (wrongCheck M slot A store)
+room-number A room = go (eqb (lacking A room) 0) (someWrong A room) (wrongCheck A room)
   where
     go : (u s w : Bool)
-        → numberOf (cond u (cond s (WrongBlock (firstWrong M slot A store)) (cond w (Refused 12) Done)) (Lacking (lacking M slot A store)))
+        → numberOf (cond u (cond s (WrongBlock (firstWrong A room)) (cond w (Refused 12) Done)) (Lacking (lacking A room)))
         ≡ firstOf (rule (not u) 11 ∷ rule s 16 ∷ rule w 12 ∷ [])
     go true true w = refl
     go true false true = refl
@@ -91,9 +92,9 @@ unfolding readOutcome readNumber storeRules ownerRules
 read-number state store slot terminal size =
     after (readNumber state (length store) slot terminal size) state _
     ∙ ap (λ (k : ℕ). cond (eqb (readNumber state (length store) slot terminal size) 0) k (readNumber state (length store) slot terminal size))
-    (room-number (state .blocks) slot (sizeAtHead state slot) store)
+    (room-number (sizeAtHead state slot) (roomAt (state .blocks) slot store))
     ∙ sym
     (firstOf-append
     (storeRules state (length store) slot ++ (ownerRules state slot terminal ++ (rule (ltb size (sizeAtHead state slot)) 5 ∷ [])))
-    (roomRules (state .blocks) slot (sizeAtHead state slot) store)
+    (roomRules (sizeAtHead state slot) (roomAt (state .blocks) slot store))
     tt)

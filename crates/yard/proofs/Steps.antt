@@ -10,6 +10,7 @@ use Rattle.slots.specs.declared.State.{State}
 use Rattle.slots.specs.declared.Answer.the-variants.{StillLacking, Refused}
 use Rattle.slots.specs.declared.Outcome.{Outcome}
 use Rattle.slots.specs.Answers.{unlessRefused}
+use Rattle.slots.specs.Room.{roomAt}
 use Rattle.slots.specs.Reading.{lacking}
 use Rattle.slots.specs.Calls.{sizeAtHead, receiveNumber, receiveStore, receiveOutcome}
 use native.Mathlib.Omega.{arith}
@@ -36,7 +37,7 @@ pub received-state : (state : State) (slot terminal Q N v : ℕ) (bits store : L
 unfolding receiveOutcome unlessRefused
 received-state state slot terminal Q N v bits store = go (eqb (receiveNumber state (length store) slot terminal Q N v bits) 0)
   where
-    go : (b : Bool) → cond {A = Outcome} b (record { answer = StillLacking (lacking (state .blocks) slot (sizeAtHead state slot) (receiveStore state slot terminal Q N v bits store)); state = state })
+    go : (b : Bool) → cond {A = Outcome} b (record { answer = StillLacking (lacking (sizeAtHead state slot) (roomAt (state .blocks) slot (receiveStore state slot terminal Q N v bits store))); state = state })
         (record { answer = Refused (receiveNumber state (length store) slot terminal Q N v bits); state = state }) .state ≡ state
     go true = refl
     go false = refl

@@ -28,7 +28,9 @@ use Rattle.codeword.specs.Build.{buildNumber, buildOutput}
 use Rattle.codeword.specs.Downlink.{buildDownNumber, buildDownOutput}
 use Rattle.codeword.proofs.Numbers.{accepted as accepted-build}
 use Rattle.codeword.proofs.SoftShares.{accepted-down}
-use Rattle.slots.specs.Reading.{heardBlock, streamByte, threeStreams}
+use Rattle.slots.specs.Room.{roomAt}
+use Rattle.slots.specs.Circle.{streamsOn}
+use Rattle.slots.specs.Reading.{heardBlock, threeStreams}
 use Rattle.slots.specs.Calls.{sizeAtHead, readNumber, readOutcome, released, readOutput, streamsNumber, streamsOutcome, streamsOutput}
 use Rattle.slots.proofs.Acceptance.{reads, streams}
 use Rattle.answers.specs.Rows.{answerRow, refusalRow, runRow, runsRow}
@@ -107,9 +109,9 @@ module _ (a b c rest : List ℕ) {out : List ℕ} (n : ℕ) (one : length a ≡ 
 -- the block that a released read wrote
 pub read-run : (state : State) (store : List ℕ) (slot terminal : ℕ) (out : List ℕ) {out′ : List ℕ} → isDone (readOutcome state store slot terminal (length out) .answer) ≡ true
     → out′ ≡ readOutput state store slot terminal out → length out′ ≡ length out
-    → (sizeAtHead state slot ≤ length out) × (take (sizeAtHead state slot) out′ ≡ heardBlock (state .blocks) slot (sizeAtHead state slot) store)
+    → (sizeAtHead state slot ≤ length out) × (take (sizeAtHead state slot) out′ ≡ heardBlock (sizeAtHead state slot) (roomAt (state .blocks) slot store))
 unfolding readOutput
-read-run state store slot terminal out done e kept = (enough, front (heardBlock (state .blocks) slot (sizeAtHead state slot) store) out (sizeAtHead state slot) enough (rw yes at e) kept)
+read-run state store slot terminal out done e kept = (enough, front (heardBlock (sizeAtHead state slot) (roomAt (state .blocks) slot store)) out (sizeAtHead state slot) enough (rw yes at e) kept)
   where
     yes : released state store slot terminal (length out) ≡ true
     yes = released-is state store slot terminal (length out) ∙ done
@@ -125,10 +127,10 @@ module _ (state : State) (store : List ℕ) (slot terminal r : ℕ) (out : List 
 
   run-length : (s : ℕ) → length (streamRun state store slot r s) ≡ streamLength state slot r
   unfolding streamRun
-  run-length s = length-tab (streamLength state slot r) (streamByte (state .blocks) slot (sizeAtHead state slot + 24) store r s)
+  run-length s = length-tab (streamLength state slot r) _
 
   written : out′ ≡ (streamRun state store slot r 0 ++ (streamRun state store slot r 1 ++ streamRun state store slot r 2)) ++ drop (3 * streamLength state slot r) out
-  unfolding streamsOutput threeStreams streamRun streamLength
+  unfolding streamsOutput threeStreams streamsOn streamRun streamLength
   written = rw (eq-eqb _ _ accepted) at e
 
   pub runs-fit : 3 * streamLength state slot r ≤ length out

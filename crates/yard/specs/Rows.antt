@@ -6,7 +6,7 @@ use Prim.Native.Nat.{ℕ, _+_}
 use lib.Dec.{eqb}
 use lib.ListN.{length}
 use Rattle.laws.specs.Lists.{tab}
-use Rattle.segmentation.specs.Segmentation.{blocks, sizeOf}
+use Rattle.segmentation.specs.Segmentation.{blocks, sizeOf, fillerOf}
 use Rattle.rate_matching.specs.SoftBuffer.{softShare}
 use Rattle.codeword.specs.Codeword.{codeword, codewordIn}
 use Rattle.codeword.specs.Build.{buildNumber}
@@ -14,7 +14,9 @@ use Rattle.codeword.specs.Downlink.{buildDownNumber}
 use Rattle.slots.specs.declared.State.{State}
 use Rattle.slots.specs.declared.Outcome.{Outcome}
 use Rattle.slots.specs.Answers.{isDone}
-use Rattle.slots.specs.Reading.{heardBlock, streamByte}
+use Rattle.slots.specs.Room.{roomAt, circleAt}
+use Rattle.slots.specs.Circle.{streamOn}
+use Rattle.slots.specs.Reading.{heardBlock}
 use Rattle.slots.specs.Calls.{sizeAtHead, shareAtHead, released, readOutcome, streamsNumber, streamsOutcome}
 use Rattle.answers.specs.Rows.{acceptedRow, answerRow, refusalRow, runRow, runsRow}
 use Rattle.yard.specs.Rooms.{readRoom, streamsRoom, buildRoom}
@@ -28,7 +30,7 @@ shareRow o slot =
 unfoldable pub readRow : State → List ℕ → ℕ → ℕ → List ℕ
 readRow state store slot terminal =
     cond (released state store slot terminal readRoom)
-    (runRow (heardBlock (state .blocks) slot (sizeAtHead state slot) store))
+    (runRow (heardBlock (sizeAtHead state slot) (roomAt (state .blocks) slot store)))
     (answerRow (readOutcome state store slot terminal readRoom .answer))
 
 -- D of code block r of a slot
@@ -38,7 +40,8 @@ streamLength state slot r = sizeOf (sizeAtHead state slot + 24) r + 4
 -- stream s of code block r of a slot
 unfoldable pub streamRun : State → List ℕ → ℕ → ℕ → ℕ → List ℕ
 streamRun state store slot r s =
-    tab (streamLength state slot r) (streamByte (state .blocks) slot (sizeAtHead state slot + 24) store r s)
+    tab (streamLength state slot r)
+    (streamOn (circleAt r (roomAt (state .blocks) slot store)) (streamLength state slot r) (fillerOf (sizeAtHead state slot + 24) r) s)
 
 -- the three streams, or the refusal
 unfoldable pub streamsRow : State → List ℕ → ℕ → ℕ → ℕ → List ℕ
