@@ -1,4 +1,3 @@
-pub mod Wrote
 pub mod Given
 pub mod Steps
 pub mod Changed

@@ -1,4 +1,2 @@
-pub mod Rooms
-pub mod Rows
 pub mod Change
 pub mod Step

@@ -5,7 +5,7 @@ use mathlib.Core.Bool.{Bool, false, true, cond}
 use mathlib.Core.List.{List, []}
 use Prim.Native.Nat.{ℕ}
 use lib.Dec.{ltb}
-use lib.ListN.{length, getD}
+use lib.ListN.{length}
 use Rattle.segmentation.specs.Sizes.{sizesAnswer}
 use Rattle.planning.specs.Worst.{worstAnswer}
 use Rattle.slots.specs.declared.State.{State}
@@ -20,11 +20,7 @@ use Rattle.answers.specs.SizesRow.{sizesRow}
 use Rattle.answers.specs.WorstRow.{worstRow}
 use Rattle.yard.specs.declared.Step.{Step}
 use Rattle.yard.specs.Change.{changes, packs, changeRow, formAfter, plainChanged, packedChanged}
-use Rattle.yard.specs.Rows.{shareRow, readRow, streamsRow, buildRow, buildDownRow}
-
--- number i of the line's numbers, the first being number 0
-abbrev pub at : List ℕ → ℕ → ℕ
-at n i = getD n i 0
+use Rattle.call_rows.specs.Rows.{at, shareRow, readRow, streamsRow, buildRow, buildDownRow}
 
 -- the row that answers a verb with its numbers n and bits on the places of the rooms: none for a line that asks for nothing, 15 for one that can't
 -- be read; a change of form is answered by `changeRow`

@@ -1,6 +1,5 @@
 // A line of the yard's log made one call of 01, or a change of form, and its answer a row.
 mod change;
-mod rooms;
 
 use requests::Request;
 use requests::Verb;
@@ -9,17 +8,16 @@ use slots::Outcome;
 use slots::State;
 use slots::states;
 ghost use mathlib.Core.Path.{_≡_};
-ghost use Prim.Native.Nat.{_+_, _-_, _*_, _≤_};
-ghost use lib.ListN.{length, take, drop};
+ghost use Prim.Native.Nat.{_≤_};
+ghost use lib.ListN.{length};
 ghost use Rattle.slots.specs.Calls.{openDownOutcome, openDownStore, receiveOutcome, receiveStore};
 ghost use Rattle.packing.specs.Store.{placesIn, inForm};
 ghost use Rattle.lines.specs.Put.{putAt, endAt};
 ghost use Rattle.requests.specs.Request.{requestOf, bitsFrom, longestLine};
-ghost use Rattle.answers.specs.Rows.{answerRow, runsRow};
-ghost use Rattle.answers.specs.SizesRow.{sizesRow};
-ghost use Rattle.yard.specs.Rows.{shareRow, readRow, streamsRow, buildRow, buildDownRow};
+ghost use Rattle.answers.specs.Rows.{answerRow};
+ghost use Rattle.call_rows.specs.Rows.{at, shareRow, buildRow, buildDownRow};
 ghost use Rattle.yard.specs.Change.{changeRow, plainChanged, packedChanged};
-ghost use Rattle.yard.specs.Step.{callRow, callStep, callStore, changeStep, stepOf, plainAfter, packedAfter, outAfter, stepWithin, plainWithin, packedWithin, outWithin, at};
+ghost use Rattle.yard.specs.Step.{callRow, callStep, callStore, changeStep, stepOf, plainAfter, packedAfter, outAfter, stepWithin, plainWithin, packedWithin, outWithin};
 
 // The state and the form of the rooms to hand to the next line, and the length of the row that answers this one.
 pub struct Step {
@@ -131,7 +129,7 @@ fn call_line(
     match verb {
         Verb::New => told(slots::new(n[0], n[1]), four, out),
         Verb::Open => told(
-            rooms::open_in(state, four, n[0], n[1] as u16, n[2], store),
+            call_rows::rooms::open_in(state, four, n[0], n[1] as u16, n[2], store),
             four,
             out,
         ),
@@ -141,12 +139,12 @@ fn call_line(
         Verb::Read => unchanged(
             state,
             four,
-            put_read(state, four, n[0], n[1] as u16, store, out),
+            call_rows::put_read(state, four, n[0], n[1] as u16, store, out),
         ),
         Verb::Streams => unchanged(
             state,
             four,
-            put_streams(state, four, n[0], n[1] as u16, n[2], store, out),
+            call_rows::put_streams(state, four, n[0], n[1] as u16, n[2], store, out),
         ),
         Verb::Build => unchanged(state, four, put_build(n, line, bits, out)),
         Verb::BuildDown => unchanged(state, four, put_build_down(n, line, bits, out)),
@@ -219,27 +217,6 @@ fn bits_room() -> [u8; 200000]
     [0; 200000]
 }
 
-// Room for the largest block.
-fn block_room() -> [u8; 30576]
-    ensures { λ r. ⌜ 30576 ≡ length r ⌝ }
-{
-    [0; 30576]
-}
-
-// Room for the three streams of the largest code block.
-fn streams_room() -> [u8; 18444]
-    ensures { λ r. ⌜ 18444 ≡ length r ⌝ }
-{
-    [0; 18444]
-}
-
-// Room for the longest codeword.
-fn code_room() -> [u8; 172800]
-    ensures { λ r. ⌜ 172800 ≡ length r ⌝ }
-{
-    [0; 172800]
-}
-
 // Open for a downlink.
 fn opened_down(state: State, four: bool, n: [usize; 9], store: &mut [u8]) -> Outcome
     requires { ⌜ at n 1 ≤ 65535 ⌝ }
@@ -247,7 +224,7 @@ fn opened_down(state: State, four: bool, n: [usize; 9], store: &mut [u8]) -> Out
     ensures { λ r. ⌜ now (store .exit) ≡ inForm four (openDownStore state (at n 0) (at n 2) (at n 3) (at n 4) (at n 5) (at n 6) (at n 7) (placesIn four (now (store .entry)))) ⌝ }
 {
     let terminal = n[1] as u16;
-    rooms::open_down_in(
+    call_rows::rooms::open_down_in(
         state,
         four,
         n[0],
@@ -278,7 +255,7 @@ fn received(
     let mut given = bits_room();
     let count = requests::read_bits(line, from, &mut given);
     let terminal = n[1] as u16;
-    rooms::receive_in(
+    call_rows::rooms::receive_in(
         state,
         four,
         n[0],
@@ -291,66 +268,6 @@ fn received(
     )
 }
 
-// The row of Read.
-fn put_read(
-    state: State,
-    four: bool,
-    slot: usize,
-    terminal: u16,
-    store: &[u8],
-    out: &mut [u8],
-) -> usize
-    ensures { λ r. ⌜ r ≡ endAt 0 (readRow state (placesIn four (now (store .entry))) slot terminal) (now (out .entry)) ⌝ }
-    ensures { λ r. ⌜ now (out .exit) ≡ putAt 0 (readRow state (placesIn four (now (store .entry))) slot terminal) (now (out .entry)) ⌝ }
-{
-    let mut block = block_room();
-    let outcome = rooms::read_in(state, four, slot, terminal, store, &mut block);
-    let answer = outcome.answer;
-    if slots::is_done(answer) {
-        let head = states::head_at(state, slot);
-        let size = head.size;
-        answers::put_run(&block[..size], out)
-    } else {
-        answers::put_answer(answer, out)
-    }
-}
-
-// The row of Streams.
-fn put_streams(
-    state: State,
-    four: bool,
-    slot: usize,
-    terminal: u16,
-    block: usize,
-    store: &[u8],
-    out: &mut [u8],
-) -> usize
-    ensures { λ r. ⌜ r ≡ endAt 0 (streamsRow state (placesIn four (now (store .entry))) slot terminal block) (now (out .entry)) ⌝ }
-    ensures { λ r. ⌜ now (out .exit) ≡ putAt 0 (streamsRow state (placesIn four (now (store .entry))) slot terminal block) (now (out .entry)) ⌝ }
-{
-    let mut runs = streams_room();
-    let outcome = rooms::streams_in(state, four, slot, terminal, block, store, &mut runs);
-    let answer = outcome.answer;
-    if slots::is_done(answer) {
-        let head = states::head_at(state, slot);
-        let s = segmentation::segments_for(head.size);
-        put_three(&runs, segmentation::block::size_of(s, block) + 4, out)
-    } else {
-        answers::put_answer(answer, out)
-    }
-}
-
-// The row of three runs of d bytes that stand one after another.
-fn put_three(runs: &[u8], d: usize, out: &mut [u8]) -> usize
-    requires { ⌜ 3 * d ≤ length (now runs) ⌝ }
-    ensures { λ r. ⌜ r ≡ endAt 0 (runsRow (take d (now (runs .entry))) (take (d + d - d) (drop d (now (runs .entry)))) (take (d + d + d - (d + d)) (drop (d + d) (now (runs .entry))))) (now (out .entry)) ⌝ }
-    ensures { λ r. ⌜ now (out .exit) ≡ putAt 0 (runsRow (take d (now (runs .entry))) (take (d + d - d) (drop d (now (runs .entry)))) (take (d + d + d - (d + d)) (drop (d + d) (now (runs .entry))))) (now (out .entry)) ⌝ }
-{
-    let two = d + d;
-    let three = two + d;
-    answers::put_runs(&runs[..d], &runs[d..two], &runs[two..three], out)
-}
-
 // The row of Build with the line's BITS.
 fn put_build(n: [usize; 9], line: &[u8], from: usize, out: &mut [u8]) -> usize
     requires { ⌜ length (now line) ≤ longestLine ⌝ }
@@ -359,20 +276,7 @@ fn put_build(n: [usize; 9], line: &[u8], from: usize, out: &mut [u8]) -> usize
 {
     let mut given = bits_room();
     let count = requests::read_bits(line, from, &mut given);
-    put_codeword(&given[..count], n[0], n[1], n[2], n[3], out)
-}
-
-// The row of Build.
-fn put_codeword(block: &[u8], q: usize, n: usize, version: usize, g: usize, out: &mut [u8]) -> usize
-    ensures { λ r. ⌜ r ≡ endAt 0 (buildRow (now (block .entry)) q n version g) (now (out .entry)) ⌝ }
-    ensures { λ r. ⌜ now (out .exit) ≡ putAt 0 (buildRow (now (block .entry)) q n version g) (now (out .entry)) ⌝ }
-{
-    let mut code = code_room();
-    let number = codeword::build(block, q, n, version, g, &mut code);
-    if number != 0 {
-        return answers::put_refusal(number as usize, out);
-    }
-    answers::put_run(&code[..g], out)
+    call_rows::put_codeword(&given[..count], n[0], n[1], n[2], n[3], out)
 }
 
 // The row of Build for a downlink with the line's BITS.
@@ -383,31 +287,5 @@ fn put_build_down(n: [usize; 9], line: &[u8], from: usize, out: &mut [u8]) -> us
 {
     let mut given = bits_room();
     let count = requests::read_bits(line, from, &mut given);
-    put_codeword_down(&given[..count], n, out)
-}
-
-// The row of Build for a downlink.
-fn put_codeword_down(block: &[u8], n: [usize; 9], out: &mut [u8]) -> usize
-    ensures { λ r. ⌜ r ≡ endAt 0 (buildDownRow (now (block .entry)) (at n 0) (at n 1) (at n 2) (at n 3) (at n 4) (at n 5) (at n 6) (at n 7) (at n 8)) (now (out .entry)) ⌝ }
-    ensures { λ r. ⌜ now (out .exit) ≡ putAt 0 (buildDownRow (now (block .entry)) (at n 0) (at n 1) (at n 2) (at n 3) (at n 4) (at n 5) (at n 6) (at n 7) (at n 8)) (now (out .entry)) ⌝ }
-{
-    let mut code = code_room();
-    let g = n[8];
-    let number = codeword::build_down(
-        block,
-        n[0],
-        n[1],
-        n[2],
-        n[3],
-        n[4],
-        n[5],
-        n[6],
-        n[7],
-        g,
-        &mut code,
-    );
-    if number != 0 {
-        return answers::put_refusal(number as usize, out);
-    }
-    answers::put_run(&code[..g], out)
+    call_rows::put_codeword_down(&given[..count], n, out)
 }

@@ -11,7 +11,7 @@ use Rattle.requests.specs.Verbs.{formOf}
 use Rattle.requests.proofs.Asked.{asked, terminal-fits}
 use Rattle.answers.specs.SizesRow.{sizesRow}
 use Rattle.answers.specs.WorstRow.{worstRow}
-use Rattle.yard.specs.Rows.{shareRow}
+use Rattle.call_rows.specs.Rows.{shareRow}
 use Rattle.yard.specs.Step.{rowBy, stateBy, storeBy}
 use Rattle.yard.proofs.Steps.{end-nothing, put-nothing, received-state, by-told, by-outcome, by-row}
 use borrow.Author.Needs.{needs}

@@ -5,7 +5,7 @@ use borrow.Author.Tests.{not-true, not-false}
 use borrow.Author.Needs.{needs}
 use Rattle.slots.specs.declared.Head.{Head}
 use Rattle.slots.specs.Calls.{shareAtHead}
-use Rattle.yard.specs.Rows.{shareRow}
+use Rattle.call_rows.specs.Rows.{shareRow}
 use Rattle.yard.proofs.told_share.Statement.{statement}
 use Rattle.yard.proofs.told_share.Tie as tie
 

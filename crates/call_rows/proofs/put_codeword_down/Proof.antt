@@ -1,14 +1,14 @@
--- `yard::put_codeword_down` meets its contract: the number decides.
+-- `call_rows::put_codeword_down` meets its contract: the number decides.
 -- Assumes nothing.
 use mathlib.Core.Path.{_≡_, sym, _∙_}
 use native.Mathlib.Omega.{arith}
 use lib.ListN.{length, take}
 use denote.Ref.{now}
 use Rattle.laws.proofs.Parts.{front-count}
-use Rattle.yard.proofs.Wrote.{down-refused, down-row}
+use Rattle.call_rows.proofs.Wrote.{down-refused, down-row}
 use borrow.Author.Needs.{needs}
-use Rattle.yard.proofs.put_codeword_down.Statement.{statement}
-use Rattle.yard.proofs.put_codeword_down.Tie as tie
+use Rattle.call_rows.proofs.put_codeword_down.Statement.{statement}
+use Rattle.call_rows.proofs.put_codeword_down.Tie as tie
 
 code-room-requires : tie.Need-code-room-requires
 code-room-requires c κs = search needs

@@ -1,4 +1,4 @@
--- `yard::put_codeword` meets its contract: the number decides.
+-- `call_rows::put_codeword` meets its contract: the number decides.
 -- Assumes nothing.
 use mathlib.Core.Path.{_≡_, sym, _∙_}
 use native.Mathlib.Omega.{arith}
@@ -6,11 +6,11 @@ use lib.ListN.{length, take}
 use denote.Ref.{now}
 use borrow.Author.Tests.{eq-eqb, ne-eqb}
 use Rattle.laws.proofs.Parts.{front-count}
-use Rattle.yard.specs.Rows.{buildRow}
-use Rattle.yard.proofs.Wrote.{build-refused, build-row}
+use Rattle.call_rows.specs.Rows.{buildRow}
+use Rattle.call_rows.proofs.Wrote.{build-refused, build-row}
 use borrow.Author.Needs.{needs}
-use Rattle.yard.proofs.put_codeword.Statement.{statement}
-use Rattle.yard.proofs.put_codeword.Tie as tie
+use Rattle.call_rows.proofs.put_codeword.Statement.{statement}
+use Rattle.call_rows.proofs.put_codeword.Tie as tie
 
 code-room-requires : tie.Need-code-room-requires
 code-room-requires c κs = search needs

@@ -34,8 +34,8 @@ use Rattle.slots.specs.Reading.{heardBlock, threeStreams}
 use Rattle.slots.specs.Calls.{sizeAtHead, readNumber, readOutcome, released, readOutput, streamsNumber, streamsOutcome, streamsOutput}
 use Rattle.slots.proofs.Acceptance.{reads, streams}
 use Rattle.answers.specs.Rows.{answerRow, refusalRow, runRow, runsRow}
-use Rattle.yard.specs.Rooms.{readRoom, streamsRoom, buildRoom}
-use Rattle.yard.specs.Rows.{readRow, streamLength, streamRun, streamsRow, buildRow, buildDownRow}
+use Rattle.call_rows.specs.Rooms.{readRoom, streamsRoom, buildRoom}
+use Rattle.call_rows.specs.Rows.{readRow, streamLength, streamRun, streamsRow, buildRow, buildDownRow}
 
 -- Read answers Done exactly where the block is released
 pub released-is : (state : State) (store : List ℕ) (slot terminal size : ℕ)

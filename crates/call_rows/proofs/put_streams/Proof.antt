@@ -1,4 +1,4 @@
--- `yard::put_streams` meets its contract: the answer decides.
+-- `call_rows::put_streams` meets its contract: the answer decides.
 -- Assumes nothing.
 use mathlib.Core.Path.{_≡_, sym, _∙_, ap}
 use mathlib.Core.Bool.{true}
@@ -10,11 +10,11 @@ use Rattle.slots.specs.declared.Outcome.{Outcome}
 use Rattle.slots.specs.Calls.{streamsOutcome}
 use Rattle.slots.specs.Answers.{isDone}
 use Rattle.packing.specs.Store.{placesIn}
-use Rattle.yard.specs.Rows.{streamsRow, streamLength}
-use Rattle.yard.proofs.Wrote.{runs-fit, stream-size, streams-refused, streams-row}
+use Rattle.call_rows.specs.Rows.{streamsRow, streamLength}
+use Rattle.call_rows.proofs.Wrote.{runs-fit, stream-size, streams-refused, streams-row}
 use borrow.Author.Needs.{needs}
-use Rattle.yard.proofs.put_streams.Statement.{statement}
-use Rattle.yard.proofs.put_streams.Tie as tie
+use Rattle.call_rows.proofs.put_streams.Statement.{statement}
+use Rattle.call_rows.proofs.put_streams.Tie as tie
 
 streams-room-requires : tie.Need-streams-room-requires
 streams-room-requires c κs = search needs

@@ -7,7 +7,7 @@ ghost use Rattle.slots.specs.Calls.{openOutcome, openStore, openDownOutcome, op
 ghost use Rattle.packing.specs.Store.{placesIn, inForm};
 
 // Open.
-pub(crate) fn open_in(
+pub fn open_in(
     state: State,
     four: bool,
     slot: usize,
@@ -26,7 +26,7 @@ pub(crate) fn open_in(
 }
 
 // Open for a downlink.
-pub(crate) fn open_down_in(
+pub fn open_down_in(
     state: State,
     four: bool,
     slot: usize,
@@ -72,7 +72,7 @@ pub(crate) fn open_down_in(
 }
 
 // Receive.
-pub(crate) fn receive_in(
+pub fn receive_in(
     state: State,
     four: bool,
     slot: usize,
@@ -94,7 +94,7 @@ pub(crate) fn receive_in(
 }
 
 // Read.
-pub(crate) fn read_in(
+pub fn read_in(
     state: State,
     four: bool,
     slot: usize,
@@ -113,7 +113,7 @@ pub(crate) fn read_in(
 }
 
 // Streams.
-pub(crate) fn streams_in(
+pub fn streams_in(
     state: State,
     four: bool,
     slot: usize,

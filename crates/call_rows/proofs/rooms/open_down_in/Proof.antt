@@ -1,9 +1,9 @@
--- `yard::rooms::open_down_in` meets its contract: the call of each form.
+-- `call_rows::rooms::open_down_in` meets its contract: the call of each form.
 -- Assumes nothing.
 use borrow.Author.Needs.{needs}
 use Rattle.packing.specs.Store.{placesIn, inForm}
-use Rattle.yard.proofs.rooms.open_down_in.Statement.{statement}
-use Rattle.yard.proofs.rooms.open_down_in.Tie as tie
+use Rattle.call_rows.proofs.rooms.open_down_in.Statement.{statement}
+use Rattle.call_rows.proofs.rooms.open_down_in.Tie as tie
 
 open-down-packed-requires : tie.Need-open-down-packed-requires
 open-down-packed-requires c κs = search needs

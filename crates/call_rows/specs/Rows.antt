@@ -4,7 +4,7 @@ use mathlib.Core.Bool.{cond}
 use mathlib.Core.List.{List, [], _∷_}
 use Prim.Native.Nat.{ℕ, _+_}
 use lib.Dec.{eqb}
-use lib.ListN.{length}
+use lib.ListN.{length, getD}
 use Rattle.laws.specs.Lists.{tab}
 use Rattle.segmentation.specs.Segmentation.{blocks, sizeOf, fillerOf}
 use Rattle.rate_matching.specs.SoftBuffer.{softShare}
@@ -19,7 +19,11 @@ use Rattle.slots.specs.Circle.{streamOn}
 use Rattle.slots.specs.Reading.{heardBlock}
 use Rattle.slots.specs.Calls.{sizeAtHead, shareAtHead, released, readOutcome, streamsNumber, streamsOutcome}
 use Rattle.answers.specs.Rows.{acceptedRow, answerRow, refusalRow, runRow, runsRow}
-use Rattle.yard.specs.Rooms.{readRoom, streamsRoom, buildRoom}
+use Rattle.call_rows.specs.Rooms.{readRoom, streamsRoom, buildRoom}
+
+-- number i of the line's numbers, the first being number 0
+abbrev pub at : List ℕ → ℕ → ℕ
+at n i = getD n i 0
 
 -- what Open for a downlink tells: the share that the head now holds, or the refusal
 unfoldable pub shareRow : Outcome → ℕ → List ℕ

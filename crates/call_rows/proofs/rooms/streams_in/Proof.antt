@@ -1,9 +1,9 @@
--- `yard::rooms::streams_in` meets its contract: the call of each form.
+-- `call_rows::rooms::streams_in` meets its contract: the call of each form.
 -- Assumes nothing.
 use borrow.Author.Needs.{needs}
 use Rattle.packing.specs.Store.{placesIn}
-use Rattle.yard.proofs.rooms.streams_in.Statement.{statement}
-use Rattle.yard.proofs.rooms.streams_in.Tie as tie
+use Rattle.call_rows.proofs.rooms.streams_in.Statement.{statement}
+use Rattle.call_rows.proofs.rooms.streams_in.Tie as tie
 
 streams-packed-requires : tie.Need-streams-packed-requires
 streams-packed-requires c κs = search needs

@@ -1,10 +1,10 @@
--- `yard::put_three` meets its contract: three parts of the runs.
+-- `call_rows::put_three` meets its contract: three parts of the runs.
 -- Assumes nothing.
 use native.Mathlib.Omega.{arith}
 use Rattle.laws.proofs.Parts.{front-count}
 use borrow.Author.Needs.{needs}
-use Rattle.yard.proofs.put_three.Statement.{statement}
-use Rattle.yard.proofs.put_three.Tie as tie
+use Rattle.call_rows.proofs.put_three.Statement.{statement}
+use Rattle.call_rows.proofs.put_three.Tie as tie
 
 add-two : tie.Need-add-two
 add-two c = search needs

@@ -1,4 +1,4 @@
--- `yard::put_read` meets its contract: the answer decides.
+-- `call_rows::put_read` meets its contract: the answer decides.
 -- Assumes nothing.
 use mathlib.Core.Path.{_≡_, sym, _∙_, ap}
 use Prim.Native.Nat.{ℕ, _≤_}
@@ -10,11 +10,11 @@ use Rattle.slots.specs.declared.Head.{Head}
 use Rattle.slots.specs.Calls.{sizeAtHead}
 use Rattle.packing.specs.Store.{placesIn}
 use Rattle.answers.specs.Rows.{runRow}
-use Rattle.yard.specs.Rows.{readRow}
-use Rattle.yard.proofs.Wrote.{read-refused, read-row}
+use Rattle.call_rows.specs.Rows.{readRow}
+use Rattle.call_rows.proofs.Wrote.{read-refused, read-row}
 use borrow.Author.Needs.{needs}
-use Rattle.yard.proofs.put_read.Statement.{statement}
-use Rattle.yard.proofs.put_read.Tie as tie
+use Rattle.call_rows.proofs.put_read.Statement.{statement}
+use Rattle.call_rows.proofs.put_read.Tie as tie
 
 block-room-requires : tie.Need-block-room-requires
 block-room-requires c κs = search needs
