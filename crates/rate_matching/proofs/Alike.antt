@@ -16,12 +16,10 @@ use Rattle.laws.proofs.AreBits.{zero-bits}
 use Rattle.laws.proofs.Keep.{keep-ext}
 use Rattle.turbo.specs.Streams.{NULL, withoutFiller, stream0, stream1, stream2}
 use Rattle.turbo.proofs.Streams.{length-withoutFiller, filler-null, past-filler, length-stream0, length-stream1, stream0-null, stream1-null, stream0-bit, stream1-bit, stream2-bits}
-use Rattle.rate_matching.specs.declared.Held.{Held}
-use Rattle.rate_matching.specs.declared.Held.the-variants.{Bit, Dummy}
 use Rattle.rate_matching.specs.SubBlocks.{rows}
 use Rattle.rate_matching.specs.Circle.{circle, circleLength}
 use Rattle.rate_matching.specs.Walk.{onCircle, isBit, holdsBit, round, turn, turnAfterTurn, sentPlaces}
-use Rattle.rate_matching.specs.Places.{heldAt, streamOf, entryOf}
+use Rattle.rate_matching.specs.Places.{Held, Bit, Dummy, heldAt, streamOf, entryOf}
 use Rattle.rate_matching.specs.Shape.{blank}
 use Rattle.rate_matching.proofs.Circle.{length-circle, circle-holds}
 

@@ -1,34 +1,38 @@
 -- The circle cut at N_cb, clause 5.1.4.1.2: for every accepted N_cb the start is the head of a unit before it, the cut shortens one unit and nothing else, and the units from the start on, round to it, are one turn.
 -- Assumes nothing.
 use mathlib.Core.Path.{_≡_, refl, sym, _∙_, ap, ap₂, subst}
-use mathlib.Core.Bool.{Bool, true, false}
+use mathlib.Core.Bool.{Bool, true, false, cond}
 use mathlib.Core.List.{List, [], _++_, map, map-append}
 use Prim.Native.Nat.{ℕ, zero, suc, _+_, _-_, _*_, _/_, _%_, _≤_, _<_, min}
 use native.Mathlib.Nat.{mod-lt, div-add-mod', mul-le-mul-left}
 use native.Mathlib.Decide.{decLt}
 use native.Mathlib.Omega.{arith}
-use lib.ListN.{length, getD, take, length-append, length-map, getD-replicate, List·getD-append}
+use lib.Dec.{ltb}
+use borrow.Author.Tests.{ltb-true, ltb-false}
+use lib.ListN.{length, getD, take, length-take, length-append, length-map, getD-replicate, List·getD-append}
 use lib.Seq.{length-take-le, getD-append-add, getD-take, take-at, take-all}
 use Rattle.laws.specs.Lists.{tab, tabFrom, keep}
 use Rattle.laws.proofs.Tab.{length-tabFrom, getD-tabFrom, map-tab, tab-ext}
-use Rattle.laws.proofs.Keep.{keep-ext}
+use Rattle.laws.proofs.Keep.{keep-ext, length-keep}
 use Rattle.rate_matching.proofs.Kept.{keep-from}
+use Rattle.rate_matching.specs.declared.Unit.{Unit}
 use Rattle.rate_matching.specs.Columns.{column}
 use Rattle.rate_matching.specs.SubBlocks.{rows, dummies, rowsBefore}
 use Rattle.rate_matching.specs.Circle.{circle, circleLength, Cut, startIn}
 use Rattle.turbo.specs.Streams.{withoutFiller}
 use Rattle.turbo.proofs.Streams.{past-filler}
-use Rattle.rate_matching.specs.Places.{placeNumber, placeOf, streamOf, entryOf, InStreams}
+use Rattle.rate_matching.specs.Places.{longest, circlePlace, placeNumber, placeOf, streamOf, entryOf, InStreams}
 use Rattle.rate_matching.specs.Walk.{onCircle, holdsBit, isBit, itself, turn, turnAfterTurn, sentPlaces}
 use Rattle.rate_matching.specs.Shape.{blank, shape, bitPlaces, second, pairPlaces, lastPlace}
-use Rattle.rate_matching.specs.Units.{pairBits, unitsFrom, unitStart, unitOf, startUnit, wholeUnits, restPlaces, bitsBefore, restBits}
+use Rattle.rate_matching.specs.Units.{unitsFrom, unitStart, unitOf, startUnit, wholeUnits, restPlaces, unitBits, unitWithin, pairUnit, noUnit, aloneCount, bitsBefore}
 use Rattle.rate_matching.proofs.Columns.{column-rule}
 use Rattle.rate_matching.proofs.Places.{dummies-add, place-lt, held-place}
 use Rattle.rate_matching.proofs.Walk.{getD-map, turn-pos, turn-lt}
 use Rattle.rate_matching.proofs.Circle.{circle-holds, eighths, start-below}
 use Rattle.rate_matching.proofs.ShapeTurn.{bitPlaces-none, turn-parts, blanks, stream, length-shape}
 use Rattle.rate_matching.proofs.ShapeColumns.{bitPlaces-split, pair-places}
-use Rattle.rate_matching.proofs.Units.{some-dummies, pair-bits, low-start, high-start, high-next, starts-rise, unit-last, unit-of, units-are}
+use Rattle.rate_matching.proofs.UnitPlaces.{unit-there, unit-none, unit-high, unit-bits, units-are}
+use Rattle.rate_matching.proofs.Units.{some-dummies, low-start, high-start, high-next, starts-rise, unit-last, unit-of}
 
 -- ---- where the cut lies
 
@@ -166,9 +170,17 @@ module _ (e f last : ℕ) (alone : e ≤ f) (after : 2 * f ≤ last) where
 
 -- ---- the unit that is cut
 
-none-before : (D F p : ℕ) → bitsBefore D F p 0 ≡ 0
-unfolding bitsBefore
-none-before D F p = omega arith
+-- a unit without places has none before it
+none-before : (n : ℕ) → bitsBefore noUnit (circlePlace n) ≡ 0
+unfolding bitsBefore noUnit aloneCount
+none-before n = go (ltb 0 n) refl
+  where
+    go : (t : Bool) → ltb 0 n ≡ t → cond {A = ℕ} t (1 / 2 + (min 0 n - 0)) ((n + 1 - 0) / 2) ≡ 0
+    go true z = omega arith
+    go false z = omega (arith, ltb-false 0 n z)
+
+further : (j a b n : ℕ) → min (j + a) (j + b) - (j + n) ≡ min a b - n
+further j a b n = omega arith
 
 module _ (D F : ℕ) (some : D % 8 ≡ 4) (few : F < D) (c : ℕ) (h : c < 32) where
   abbrev R : ℕ
@@ -204,8 +216,29 @@ module _ (D F : ℕ) (some : D % 8 ≡ 4) (few : F < D) (c : ℕ) (h : c < 32) w
       record { alone = omega arith; after = omega (arith, small, sum); most = omega arith; less = λ q l. omega (arith, small) }
 
   -- how many bits its first q places have
-  pub rest-count : (q : ℕ) → q < 2 * R → length (bitPlaces (shape D F) j (j + q)) ≡ bitsBefore D F p q
-  unfolding bitsBefore
+  counted-is : (q : ℕ) → counted e f last (ordered .alone) (ordered .after) q ≡ bitsBefore (pairUnit D F c) (circlePlace (j + q))
+  unfolding bitsBefore pairUnit aloneCount second
+  counted-is q = go (ltb (j + 2 * f) (j + q)) refl
+    where
+      alone : e ≤ f
+      alone = ordered .alone
+
+      go : (t : Bool) → ltb (j + 2 * f) (j + q) ≡ t
+          → min f (q / 2) - e + (min last q - 2 * f)
+          ≡ cond t ((j + 2 * f + 1 - (j + (2 * e + 1))) / 2 + (min (j + last) (j + q) - (j + 2 * f))) ((j + q + 1 - (j + (2 * e + 1))) / 2)
+      go true t =
+          let past : 2 * f < q = omega (arith, ltb-true (j + 2 * f) (j + q) t) in
+          let rows-past : min f (q / 2) ≡ f = omega arith in
+          let count : (j + 2 * f + 1 - (j + (2 * e + 1))) / 2 ≡ f - e = omega arith in
+          let both : min (j + last) (j + q) - (j + 2 * f) ≡ min last q - 2 * f = further j last q (2 * f) in
+          rw (rows-past, count, both)
+      go false t =
+          let before : q ≤ 2 * f = omega (arith, ltb-false (j + 2 * f) (j + q) t) in
+          let rows-past : min f (q / 2) ≡ q / 2 = omega arith in
+          let none : min last q - 2 * f ≡ 0 = omega arith in
+          rw (rows-past, none) (omega arith)
+
+  pub rest-count : (q : ℕ) → q < 2 * R → length (bitPlaces (shape D F) j (j + q)) ≡ bitsBefore (pairUnit D F c) (circlePlace (j + q))
   rest-count q l =
       count-below (j + q) (counted e f last (ordered .alone) (ordered .after) q) xs ys all told
       (λ i g. within-stretch (shape D F) j (j + q) i g .1)
@@ -213,6 +246,7 @@ module _ (D F : ℕ) (some : D % 8 ≡ 4) (few : F < D) (c : ℕ) (h : c < 32) w
       (rw size (few-counted e f last (ordered .alone) (ordered .after) q))
       (λ i g. rw (entry i (omega (arith, few-counted e f last (ordered .alone) (ordered .after) q, size))) (omega (arith, first-below e f last (ordered .alone) (ordered .after) q i g)))
       (λ i g k. rw (entry i k) (omega (arith, next-from e f last (ordered .alone) (ordered .after) q i g (rw size at k) (ordered .less q l))))
+      ∙ counted-is q
     where
       xs : List ℕ
       xs = bitPlaces (shape D F) j (j + q)
@@ -232,25 +266,6 @@ module _ (D F : ℕ) (some : D % 8 ≡ 4) (few : F < D) (c : ℕ) (h : c < 32) w
       entry : (i : ℕ) → i < length all → getD all i 0 ≡ j + getD (pairPlaces e f last) i 0
       entry i g = getD-map (λ (k : ℕ). j + k) (pairPlaces e f last) i (omega (arith, length-map (pairPlaces e f last) (λ (k : ℕ). j + k)))
 
-  -- and which they are
-  module _ (d0 d1 d2 : List ℕ) (l0 : length d0 ≡ D) (l1 : length d1 ≡ D) (l2 : length d2 ≡ D) where
-    pub rest-bits : (q : ℕ) → q < 2 * R → map (onCircle (circle d0 d1 d2)) (bitPlaces (shape D F) j (j + q)) ≡ take (bitsBefore D F p q) (pairBits D d1 d2 F p)
-    rest-bits q l =
-        sym (take-at (map w xs) (map w ys) (bitsBefore D F p q) (length-map xs w ∙ rest-count q l))
-        ∙ ap (take (bitsBefore D F p q)) (sym (map-append w xs ys) ∙ ap (map w) (sym split) ∙ pair-bits D F d0 d1 d2 l0 l1 l2 some few c h)
-      where
-        w : ℕ → ℕ
-        w = onCircle (circle d0 d1 d2)
-
-        xs : List ℕ
-        xs = bitPlaces (shape D F) j (j + q)
-
-        ys : List ℕ
-        ys = bitPlaces (shape D F) (j + q) (j + 2 * R)
-
-        split : bitPlaces (shape D F) j (j + 2 * R) ≡ xs ++ ys
-        split = bitPlaces-split (shape D F) j (j + 2 * R) (j + q) (omega arith) (omega arith)
-
 -- ---- the turn of a circle that is cut
 
 -- before the cut a place holds what it held
@@ -269,7 +284,64 @@ turn-cut w n k0 h l =
     turn-parts (take n w) k0
     ∙ ap₂ _++_ (ap (bitPlaces (take n w) k0) (length-take-le n w h) ∙ bitPlaces-cut w n k0 n (omega arith)) (bitPlaces-cut w n 0 k0 l)
 
-module _ (D F : ℕ) (d0 d1 d2 : List ℕ) (l0 : length d0 ≡ D) (l1 : length d1 ≡ D) (l2 : length d2 ≡ D) (some : D % 8 ≡ 4) (few : F < D) where
+-- the unit that is cut, and how many of its bits lie before the cut
+module _ (D F : ℕ) (some : D % 8 ≡ 4) (few : F < D) (most : D ≤ longest) {Ncb : ℕ} (cut : Cut Ncb (rows D)) where
+  abbrev pub restBits : ℕ
+  restBits = bitsBefore (unitWithin D F (wholeUnits Ncb (rows D))) (circlePlace Ncb)
+
+  abbrev shortened : List ℕ
+  shortened = bitPlaces (shape D F) (unitStart (rows D) (wholeUnits Ncb (rows D))) Ncb
+
+  module _ (l : wholeUnits Ncb (rows D) < 64) where
+    abbrev c : ℕ
+    c = wholeUnits Ncb (rows D) - 32
+
+    start : unitStart (rows D) (wholeUnits Ncb (rows D)) ≡ 32 * rows D + c * (2 * rows D)
+    start = high-start (rows D) (wholeUnits Ncb (rows D)) (whole-least cut)
+
+    here : 32 * rows D + c * (2 * rows D) + restPlaces Ncb (rows D) ≡ Ncb
+    here = ap (λ (n : ℕ). n + restPlaces Ncb (rows D)) (sym start) ∙ cut-place cut
+
+    pub cut-unit : unitWithin D F (wholeUnits Ncb (rows D)) ≡ pairUnit D F c
+    cut-unit = unit-there most few l ∙ unit-high D F (whole-least cut)
+
+    counts : bitsBefore (pairUnit D F c) (circlePlace (32 * rows D + c * (2 * rows D) + restPlaces Ncb (rows D))) ≡ restBits
+    counts = ap₂ (λ (U : Unit) (n : ℕ). bitsBefore U (circlePlace n)) (sym cut-unit) here
+
+  no-rest : 64 ≤ wholeUnits Ncb (rows D) → restPlaces Ncb (rows D) ≡ 0
+  no-rest l = elim (decLt 0 (restPlaces Ncb (rows D))) [ yes h ↦ absurd (omega (arith, rest-before cut h)) | no h ↦ omega arith ]
+
+  none-cut : 64 ≤ wholeUnits Ncb (rows D) → restBits ≡ 0
+  none-cut l = ap (λ (U : Unit). bitsBefore U (circlePlace Ncb)) (unit-none D F l) ∙ none-before Ncb
+
+  pub shortened-count : length shortened ≡ restBits
+  shortened-count = elim (decLt (wholeUnits Ncb (rows D)) 64) [
+    | yes l ↦
+        ap length (ap₂ (bitPlaces (shape D F)) (start l) (sym (here l)))
+        ∙ rest-count D F some few (c l) (omega (arith, whole-least cut)) (restPlaces Ncb (rows D)) (rest-few cut)
+        ∙ counts l
+    | no l ↦
+        ap length (bitPlaces-none (shape D F) (unitStart (rows D) (wholeUnits Ncb (rows D))) Ncb (omega (arith, cut-place cut, no-rest (omega arith))))
+        ∙ sym (none-cut (omega arith))
+  ]
+
+  -- no more than the places
+  pub shortened-few : restBits ≤ restPlaces Ncb (rows D)
+  unfolding bitPlaces
+  shortened-few =
+      omega (
+        arith,
+        sym shortened-count,
+        cut-place cut,
+        length-keep (holdsBit (shape D F)) (tabFrom (unitStart (rows D) (wholeUnits Ncb (rows D))) (Ncb - unitStart (rows D) (wholeUnits Ncb (rows D))) itself),
+        length-tabFrom (unitStart (rows D) (wholeUnits Ncb (rows D))) (Ncb - unitStart (rows D) (wholeUnits Ncb (rows D))) itself,
+      )
+
+  -- so that a unit is cut where one has bits
+  pub some-cut : 0 < restBits → 0 < restPlaces Ncb (rows D)
+  some-cut h = omega (arith, shortened-few)
+
+module _ (D F : ℕ) (d0 d1 d2 : List ℕ) (l0 : length d0 ≡ D) (l1 : length d1 ≡ D) (l2 : length d2 ≡ D) (some : D % 8 ≡ 4) (few : F < D) (most : D ≤ longest) where
   abbrev w : ℕ → ℕ
   w = onCircle (circle d0 d1 d2)
 
@@ -278,33 +350,39 @@ module _ (D F : ℕ) (d0 d1 d2 : List ℕ) (l0 : length d0 ≡ D) (l1 : length d
     whole = wholeUnits Ncb (rows D)
 
     abbrev rest : ℕ
-    rest = restPlaces Ncb (rows D)
+    rest = restBits D F some few most cut
 
     -- the bits of the unit that is cut
-    rest-are : restBits D d1 d2 F whole rest ≡ map w (bitPlaces (shape D F) (unitStart (rows D) whole) Ncb)
-    unfolding restBits
+    rest-are : take rest (unitBits D d0 d1 d2 F whole) ≡ map w (bitPlaces (shape D F) (unitStart (rows D) whole) Ncb)
     rest-are = elim (decLt whole 64) [
       | yes l ↦
-          let c : whole % 32 ≡ whole - 32 = omega (arith, whole-least cut) in
-          let start : unitStart (rows D) whole ≡ 32 * rows D + (whole - 32) * (2 * rows D) = high-start (rows D) whole (whole-least cut) in
-          rw c
-          (sym (rest-bits D F some few (whole - 32) (omega arith) d0 d1 d2 l0 l1 l2 rest (rest-few cut))
-          ∙ ap (map w) (ap₂ (bitPlaces (shape D F)) (sym start) (ap (λ (n : ℕ). n + rest) (sym start) ∙ cut-place cut)))
+          ap (take rest) (sym (unit-bits D F d0 d1 d2 l0 l1 l2 some few most whole l) ∙ ap (map w) (split l) ∙ map-append w (xs l) (ys l))
+          ∙ take-at (map w (xs l)) (map w (ys l)) rest (length-map (xs l) w ∙ shortened-count D F some few most cut)
       | no l ↦
-          let none : rest ≡ 0 = no-rest (omega arith) in
-          rw (none, bitPlaces-none (shape D F) (unitStart (rows D) whole) Ncb (omega (arith, cut-place cut)), none-before D F (column (whole % 32)))
+          ap (λ (n : ℕ). take n (unitBits D d0 d1 d2 F whole)) (none-cut D F some few most cut (omega arith))
+          ∙ ap (map w) (sym (bitPlaces-none (shape D F) (unitStart (rows D) whole) Ncb (omega (arith, cut-place cut, no-rest D F some few most cut (omega arith)))))
     ]
       where
-        no-rest : 64 ≤ whole → rest ≡ 0
-        no-rest l = elim (decLt 0 rest) [ yes h ↦ absurd (omega (arith, rest-before cut h)) | no h ↦ omega arith ]
+        xs : whole < 64 → List ℕ
+        xs l = bitPlaces (shape D F) (unitStart (rows D) whole) Ncb
+
+        ys : whole < 64 → List ℕ
+        ys l = bitPlaces (shape D F) Ncb (unitStart (rows D) (whole + 1))
+
+        split : (l : whole < 64) → bitPlaces (shape D F) (unitStart (rows D) whole) (unitStart (rows D) (whole + 1)) ≡ xs l ++ ys l
+        split l = bitPlaces-split (shape D F) (unitStart (rows D) whole) (unitStart (rows D) (whole + 1)) Ncb (omega (arith, cut-place cut)) (omega (arith, cut-place cut, rest-few cut, high-next (rows D) whole (whole-least cut)))
+
+    -- there are so many
+    pub rest-within : rest ≤ length (unitBits D d0 d1 d2 F whole)
+    rest-within = omega (arith, length-take rest (unitBits D d0 d1 d2 F whole), ap length rest-are, length-map (bitPlaces (shape D F) (unitStart (rows D) whole) Ncb) w, shortened-count D F some few most cut)
 
     -- the whole units from a version's start on, the places of the one that is cut, and the units up to the start
     pub units-turn : (v : ℕ) → v ≤ 3 → {s : ℕ} → s ≡ startUnit Ncb (rows D) v
-        → (unitsFrom D d0 d1 d2 F s (whole - s) ++ restBits D d1 d2 F whole rest) ++ unitsFrom D d0 d1 d2 F 0 (s - 0)
+        → (unitsFrom D d0 d1 d2 F s (whole - s) ++ take rest (unitBits D d0 d1 d2 F whole)) ++ unitsFrom D d0 d1 d2 F 0 (s - 0)
         ≡ map w (turn (take Ncb (shape D F)) (startIn Ncb (rows D) v))
     units-turn v h {s} e =
-        ap₂ _++_ (ap₂ _++_ (units-are D F d0 d1 d2 l0 l1 l2 some few (whole - s) s (omega (arith, below, whole-most cut))) rest-are ∙ sym (map-append w xs ys))
-        (units-are D F d0 d1 d2 l0 l1 l2 some few (s - 0) 0 (omega (arith, below, whole-most cut)))
+        ap₂ _++_ (ap₂ _++_ (units-are D F d0 d1 d2 l0 l1 l2 some few most (whole - s) s (omega (arith, below, whole-most cut))) rest-are ∙ sym (map-append w xs ys))
+        (units-are D F d0 d1 d2 l0 l1 l2 some few most (s - 0) 0 (omega (arith, below, whole-most cut)))
         ∙ sym (map-append w (xs ++ ys) zs)
         ∙ ap (map w) (ap₂ _++_ front back ∙ sym (turn-cut (shape D F) Ncb k0 fits (omega (arith, start-below cut v h))))
       where

@@ -13,6 +13,7 @@ pub mod Coverage
 pub mod Alike
 pub mod ShapeCount
 pub mod Units
+pub mod UnitPlaces
 pub mod Cut
 pub mod MatcherBlock
 pub mod MatcherRing

@@ -9,18 +9,23 @@ use lib.Dec.{eqb, leb, ltb}
 use lib.ListN.{length, take, length-map}
 use borrow.Author.Tests.{eqb-true, leb-true, ltb-true, eq-eqb, le-leb, lt-ltb}
 use Rattle.laws.specs.Lists.{tab, tabFrom}
+use Rattle.rate_matching.specs.declared.Turn.{Turn}
+use Rattle.rate_matching.specs.declared.Unit.{Unit}
 use Rattle.rate_matching.specs.SubBlocks.{rows}
 use Rattle.rate_matching.specs.Circle.{circleLength, circle, Cut, startIn}
 use Rattle.rate_matching.specs.Places.{longest}
 use Rattle.rate_matching.specs.Walk.{onCircle, turn, turnAfterTurn, sentPlaces, selected}
 use Rattle.rate_matching.specs.Shape.{shape}
-use Rattle.rate_matching.specs.Units.{unitsFrom, unitStart, startUnit, wholeUnits, restPlaces, restBits, Fitting, Holds, ringRoom, PutTo}
+use Rattle.rate_matching.specs.Units.{unitWithin, aloneCount, bothCount, bitsOf, unitBits, unitsFrom, unitStart, startUnit, wholeUnits, restPlaces, Reads, Fitting, Holds, ringRoom, PutTo}
+use Rattle.rate_matching.specs.Turns.{unitsOf}
 use Rattle.rate_matching.specs.Matcher.{matchable, sentOf, matchedInto, TurnIn}
 use Rattle.rate_matching.proofs.Walk.{sent-map}
 use Rattle.rate_matching.proofs.Alike.{Filled, shape-filled, same-cut}
 use Rattle.rate_matching.proofs.Units.{low-start, high-next, starts-rise, unit-last}
-use Rattle.rate_matching.proofs.Cut.{cut-place, rest-few, whole-least, rest-before, start-whole, turn-some, sent-whole, units-turn}
+use Rattle.rate_matching.proofs.Cut.{cut-place, whole-least, whole-most, rest-before, start-whole, restBits, shortened-few, rest-within, turn-some, sent-whole, units-turn}
+use Rattle.rate_matching.proofs.UnitPlaces.{unit-reads, unit-few}
 use Rattle.rate_matching.proofs.MatcherRing.{putTo-join, ring-turn, ring-some}
+use Rattle.rate_matching.proofs.MatcherRest.{rest-fits}
 
 -- what the test tells
 pub record Matchable (D D1 D2 F Ncb v : ℕ) : Type 0 where
@@ -117,25 +122,25 @@ module _ {Ncb R v s : ℕ} (cut : Cut Ncb R) (h : v ≤ 3) (e : s ≡ startUnit 
     first-room = record { fits = λ g. omega (arith, parts, cut .most, l .fits g) }
 
     module _ {xs ring₀ ring₁ : List ℕ} {n : ℕ} (p : PutTo most xs (unitStart R (wholeUnits Ncb R) - unitStart R s) ring₀ 0 ring₁ n) where
-      pub rest-room : {k : ℕ} → k ≡ room → 0 < restPlaces Ncb R → Holds R most (n + 2 * R) k
-      rest-room e some =
+      -- the one that is cut as a whole
+      pub rest-room : {k : ℕ} → k ≡ room → 0 < restPlaces Ncb R → n < most → n + 2 * R ≤ k
+      rest-room {k} e some =
           let below : wholeUnits Ncb R + 1 ≤ 64 = omega (arith, rest-before cut some) in
-          rw e record { fits = λ g. omega (arith, p .within, l .fits g, unit-last R, high-next R (wholeUnits Ncb R) (whole-least cut), starts-rise R (wholeUnits Ncb R + 1) 64 below) }
+          rest-fits (rw e record { fits = λ g. omega (arith, p .within, l .fits g, unit-last R, high-next R (wholeUnits Ncb R) (whole-least cut), starts-rise R (wholeUnits Ncb R + 1) 64 below) })
 
-      pub second-room : {ys ring₂ : List ℕ} {m k : ℕ} → PutTo most ys (restPlaces Ncb R) ring₁ n ring₂ m → k ≡ room
+      pub second-room : {ys ring₂ : List ℕ} {m k rest : ℕ} → rest ≤ restPlaces Ncb R → PutTo most ys rest ring₁ n ring₂ m → k ≡ room
           → Holds R most (m + (unitStart R s - unitStart R 0)) k
-      second-room q e = rw e record { fits = λ g. omega (arith, parts, cut .most, p .within, q .within, l .fits g) }
+      second-room few q e = rw e record { fits = λ g. omega (arith, parts, cut .most, p .within, q .within, l .fits g, few) }
 
--- what is asked of the one that is cut
 module _ {D D1 D2 F Ncb v : ℕ} (m : Matchable D D1 D2 F Ncb v) where
-  pub rest-needs : {most n k : ℕ} → n ≤ k → (0 < restPlaces Ncb (rows D) → Holds (rows D) most (n + 2 * rows D) k)
-      → Fitting D1 D1 D2 F × (restPlaces Ncb (rows D) < 2 * rows D1) × (n ≤ k) × (0 < restPlaces Ncb (rows D) → Holds (rows D1) most (n + 2 * rows D1) k)
-  rest-needs l h =
-      rw (m .fits .first)
-      (record { first = refl; second = m .fits .second; some = m .fits .some; most = m .fits .most; filler = m .fits .filler }, rest-few (m .cut), l, h)
-
-  pub rest-told : (d1 d2 : List ℕ) (u q : ℕ) {most size : ℕ} {ring ring′ : List ℕ} {n r : ℕ} → PutTo most (restBits D1 d1 d2 F u q) size ring n ring′ r → PutTo most (restBits D d1 d2 F u q) size ring n ring′ r
-  rest-told d1 d2 u q {most} {size} {ring} {ring′} {n} {r} p = subst (λ (k : ℕ). PutTo most (restBits k d1 d2 F u q) size ring n ring′ r) (m .fits .first) p
+  -- the streams are of one length
+  pub one-length : matchable D D D F Ncb v ≡ true
+  one-length = matchable-is record {
+    fits = record { first = refl; second = refl; some = m .fits .some; most = m .fits .most; filler = m .fits .filler };
+    least = m .least;
+    cut = m .cut;
+    version = m .version;
+  }
 
   pub rows-few : rows D ≤ 193
   unfolding rows
@@ -143,36 +148,104 @@ module _ {D D1 D2 F Ncb v : ℕ} (m : Matchable D D1 D2 F Ncb v) where
 
 -- ---- the stages put together
 
-module _ (d0 d1 d2 : List ℕ) (F Ncb v E : ℕ) (t : matchable (length d0) (length d1) (length d2) F Ncb v ≡ true) {s : ℕ} (e : s ≡ startUnit Ncb (rows (length d0)) v) where
-  m : Matchable (length d0) (length d1) (length d2) F Ncb v
+module _ (d0 d1 d2 : List ℕ) (F Ncb v E : ℕ) (t : matchable (length d0) (length d1) (length d2) F Ncb v ≡ true) {T : Turn} (is : T ≡ unitsOf (length d0) F Ncb v) where
+  abbrev pub m : Matchable (length d0) (length d1) (length d2) F Ncb v
   m = matchable-told t
 
-  some : 0 < length (turn (take Ncb (shape (length d0) F)) (startIn Ncb (rows (length d0)) v))
-  some = turn-some (m .least) (m .fits .filler) (m .cut) (m .version)
+  abbrev pub R : ℕ
+  R = rows (length d0)
 
-  abbrev whole : ℕ
-  whole = wholeUnits Ncb (rows (length d0))
+  -- the turn's three numbers
+  start-is : T .start ≡ startUnit Ncb R v
+  unfolding unitsOf
+  start-is = ap (λ (x : Turn). x .start) is
+
+  whole-is : T .whole ≡ wholeUnits Ncb R
+  unfolding unitsOf
+  whole-is = ap (λ (x : Turn). x .whole) is
 
   abbrev rest : ℕ
-  rest = restPlaces Ncb (rows (length d0))
+  rest = restBits (length d0) F (m .fits .some) (m .fits .filler) (m .fits .most) (m .cut)
 
-  turned : (unitsFrom (length d0) d0 d1 d2 F s (whole - s) ++ restBits (length d0) d1 d2 F whole rest) ++ unitsFrom (length d0) d0 d1 d2 F 0 (s - 0)
-      ≡ map (onCircle (circle d0 d1 d2)) (turn (take Ncb (shape (length d0) F)) (startIn Ncb (rows (length d0)) v))
-  turned = units-turn (length d0) F d0 d1 d2 refl (m .fits .first) (m .fits .second) (m .fits .some) (m .fits .filler) (m .cut) v (m .version) e
+  rest-is : T .rest ≡ rest
+  unfolding unitsOf
+  rest-is = ap (λ (x : Turn). x .rest) is
 
-  module _ {size₁ size₂ size₃ : ℕ} {ring₀ ring₁ ring₂ ring₃ : List ℕ} {n k r : ℕ}
-      (p : PutTo E (unitsFrom (length d0) d0 d1 d2 F s (whole - s)) size₁ ring₀ 0 ring₁ n)
-      (q : PutTo E (restBits (length d0) d1 d2 F whole rest) size₂ ring₁ n ring₂ k)
-      (o : PutTo E (unitsFrom (length d0) d0 d1 d2 F 0 (s - 0)) size₃ ring₂ k ring₃ r) where
-    pub turn-in : 0 < E → TurnIn d0 d1 d2 F Ncb v E ring₃ r
-    unfolding sentOf sentPlaces
-    turn-in h = record {
-      some = ring-some (putTo-join p q) o h (rw turned (rw length-map some));
-      inside = o .inside;
-      told = ring-turn (putTo-join p q) o
-          ∙ ap (λ (l : List ℕ). tab E (turnAfterTurn l)) turned
-          ∙ sym (sent-map (onCircle (circle d0 d1 d2)) (turn (take Ncb (shape (length d0) F)) (startIn Ncb (rows (length d0)) v)) E some);
-    }
+  below : T .start ≤ T .whole
+  below = rw whole-is (start-in (m .cut) (m .version) start-is)
+
+  few : T .whole ≤ 64
+  few = rw whole-is (whole-most (m .cut))
+
+  -- what is asked of the first whole units
+  pub first-needs : {room : ℕ} → Holds R E (circleLength R) room → Fitting (length d0) (length d1) (length d2) F × (T .start ≤ T .whole) × (T .whole ≤ 64) × (0 ≤ room)
+      × Holds R E (0 + (unitStart R (T .whole) - unitStart R (T .start))) room
+  first-needs h = (m .fits, below, few, omega arith, rw whole-is (first-room (m .cut) (m .version) start-is h))
+
+  module _ {xs ring₀ ring₁ : List ℕ} {n : ℕ} (h : Holds R E (circleLength R) (length ring₀)) (l : length ring₁ ≡ length ring₀)
+      (p : PutTo E xs (unitStart R (T .whole) - unitStart R (T .start)) ring₀ 0 ring₁ n) where
+    put-whole : PutTo E xs (unitStart R (wholeUnits Ncb R) - unitStart R (T .start)) ring₀ 0 ring₁ n
+    put-whole = rw whole-is at p
+
+    rest-places : T .rest ≤ restPlaces Ncb R
+    rest-places = rw rest-is (shortened-few (length d0) F (m .fits .some) (m .fits .filler) (m .fits .most) (m .cut))
+
+    -- of the one that is cut
+    module _ {U : Unit} (found : U ≡ unitWithin (length d0) F (T .whole)) where
+      rest-inside : T .rest ≤ length (bitsOf d0 d1 d2 U)
+      unfolding unitBits
+      rest-inside = rw (rest-is, found, whole-is) (rest-within (length d0) F d0 d1 d2 refl (m .fits .first) (m .fits .second) (m .fits .some) (m .fits .filler) (m .fits .most) (m .cut))
+
+      rest-fills : 0 < T .rest → n < E → n + (aloneCount U + bothCount U) ≤ length ring₁
+      rest-fills some g =
+          let places : 0 < restPlaces Ncb R = omega (arith, rest-places) in
+          let low : T .whole < 64 = rw whole-is (rest-before (m .cut) places) in
+          let high : 32 ≤ T .whole = rw whole-is (whole-least (m .cut)) in
+          omega (arith, rest-room (m .cut) (m .version) start-is h put-whole l places g, unit-few (T .whole) (m .fits .most) (m .fits .filler) found low, high-next R (T .whole) high)
+
+      pub rest-needs : (length d1 ≡ length d0) × (length d2 ≡ length d0) × Reads (length d0) U × (T .rest ≤ length (bitsOf d0 d1 d2 U)) × (n ≤ length ring₁)
+          × (0 < T .rest → n < E → n + (aloneCount U + bothCount U) ≤ length ring₁)
+      rest-needs = (m .fits .first, m .fits .second, unit-reads (T .whole) (m .fits .most) (m .fits .filler) found, rest-inside, p .inside, rest-fills)
+
+      -- of the units up to the start
+      module _ {ring₂ : List ℕ} {k : ℕ} (q : PutTo E (take (T .rest) (bitsOf d0 d1 d2 U)) (T .rest) ring₁ n ring₂ k) where
+        pub last-needs : length ring₂ ≡ length ring₁ → Fitting (length d0) (length d1) (length d2) F × (0 ≤ T .start) × (T .start ≤ 64) × (k ≤ length ring₂)
+            × Holds R E (k + (unitStart R (T .start) - unitStart R 0)) (length ring₂)
+        last-needs g = (m .fits, omega arith, omega (arith, below, few), q .inside, second-room (m .cut) (m .version) start-is h put-whole rest-places q (g ∙ l))
+
+  rest-as : {U : Unit} {ring₁ ring₂ : List ℕ} {n k : ℕ} → U ≡ unitWithin (length d0) F (T .whole) → PutTo E (take (T .rest) (bitsOf d0 d1 d2 U)) (T .rest) ring₁ n ring₂ k
+      → PutTo E (take rest (unitBits (length d0) d0 d1 d2 F (wholeUnits Ncb R))) (T .rest) ring₁ n ring₂ k
+  unfolding unitBits
+  rest-as {U} {ring₁} {ring₂} {n} {k} found q =
+      subst (λ (w : ℕ). PutTo E (take rest (bitsOf d0 d1 d2 (unitWithin (length d0) F w))) (T .rest) ring₁ n ring₂ k) whole-is
+      (subst (λ (x : Unit). PutTo E (take rest (bitsOf d0 d1 d2 x)) (T .rest) ring₁ n ring₂ k) found
+      (subst (λ (r : ℕ). PutTo E (take r (bitsOf d0 d1 d2 U)) (T .rest) ring₁ n ring₂ k) rest-is q))
+
+  some : 0 < length (turn (take Ncb (shape (length d0) F)) (startIn Ncb R v))
+  some = turn-some (m .least) (m .fits .filler) (m .cut) (m .version)
+
+  turned : (unitsFrom (length d0) d0 d1 d2 F (T .start) (wholeUnits Ncb R - T .start) ++ take rest (unitBits (length d0) d0 d1 d2 F (wholeUnits Ncb R))) ++ unitsFrom (length d0) d0 d1 d2 F 0 (T .start - 0)
+      ≡ map (onCircle (circle d0 d1 d2)) (turn (take Ncb (shape (length d0) F)) (startIn Ncb R v))
+  turned = units-turn (length d0) F d0 d1 d2 refl (m .fits .first) (m .fits .second) (m .fits .some) (m .fits .filler) (m .fits .most) (m .cut) v (m .version) start-is
+
+  -- all of them are one turn
+  pub turn-in : {size₁ size₃ : ℕ} {ring₀ ring₁ ring₂ ring₃ : List ℕ} {n k r : ℕ} {U : Unit} → 0 < E → U ≡ unitWithin (length d0) F (T .whole)
+      → PutTo E (unitsFrom (length d0) d0 d1 d2 F (T .start) (T .whole - T .start)) size₁ ring₀ 0 ring₁ n → PutTo E (take (T .rest) (bitsOf d0 d1 d2 U)) (T .rest) ring₁ n ring₂ k
+      → PutTo E (unitsFrom (length d0) d0 d1 d2 F 0 (T .start - 0)) size₃ ring₂ k ring₃ r → TurnIn d0 d1 d2 F Ncb v E ring₃ r
+  unfolding sentOf sentPlaces
+  turn-in {size₁} {ring₀ = ring₀} {ring₁} {ring₂} {n = n} {k} h found p q o = record {
+    some = ring-some both o h (rw turned (rw length-map some));
+    inside = o .inside;
+    told = ring-turn both o
+        ∙ ap (λ (l : List ℕ). tab E (turnAfterTurn l)) turned
+        ∙ sym (sent-map (onCircle (circle d0 d1 d2)) (turn (take Ncb (shape (length d0) F)) (startIn Ncb R v)) E some);
+  }
+    where
+      whole : PutTo E (unitsFrom (length d0) d0 d1 d2 F (T .start) (wholeUnits Ncb R - T .start)) size₁ ring₀ 0 ring₁ n
+      whole = subst (λ (w : ℕ). PutTo E (unitsFrom (length d0) d0 d1 d2 F (T .start) (w - T .start)) size₁ ring₀ 0 ring₁ n) whole-is p
+
+      both : PutTo E (unitsFrom (length d0) d0 d1 d2 F (T .start) (wholeUnits Ncb R - T .start) ++ take rest (unitBits (length d0) d0 d1 d2 F (wholeUnits Ncb R))) (size₁ + T .rest) ring₀ 0 ring₂ k
+      both = putTo-join whole (rest-as found q)
 
 -- the ring repeated
 pub matched-is : (d0 d1 d2 : List ℕ) (F Ncb v : ℕ) (out : List ℕ) → matchable (length d0) (length d1) (length d2) F Ncb v ≡ true

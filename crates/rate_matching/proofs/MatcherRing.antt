@@ -12,7 +12,7 @@ use mir.Val.{Fits}
 use mir.Syntax.{w64}
 use lib.ListN.{length, getD, take, drop, set, length-append, length-set, length-take}
 use lib.Seq.{take-all, take-at, take-append-le, length-take-le, getD-take}
-use lib.Dec.{ltb}
+use lib.Dec.{eqb, ltb}
 use borrow.Author.Tests.{eq-eqb, ne-eqb, lt-ltb, le-ltb, ltb-true, ltb-false}
 use borrow.Rule.Slice.PartMut.{midOf, putMid, same-len-mid}
 use Rattle.laws.specs.Lists.{tab, tabFrom}
@@ -20,22 +20,21 @@ use Rattle.laws.proofs.Parts.{length-mid, put-is, length-put}
 use Rattle.laws.proofs.Tab.{length-tab, tab-ext, tab-rest, rest-more}
 use Rattle.laws.proofs.Writing.{Writing, start, same, push}
 use Rattle.rate_matching.specs.Walk.{turnAfterTurn}
-use Rattle.rate_matching.specs.Columns.{column}
-use Rattle.rate_matching.specs.SubBlocks.{rows, dummies, rowsBefore}
-use Rattle.rate_matching.specs.Shape.{lastPlace}
-use Rattle.rate_matching.specs.Units.{everyRow, pairRow, columnBits, pairBits, unitBits, unitsFrom, unitStart, Laid, Fitting, Holds, Put, PutTo}
-use Rattle.rate_matching.proofs.Columns.{column-rule}
-use Rattle.rate_matching.proofs.Places.{dummies-lt, dummies-add}
-use Rattle.rate_matching.proofs.Units.{some-dummies, low-next, high-next, starts-rise}
+use Rattle.rate_matching.specs.declared.Unit.{Unit}
+use Rattle.rate_matching.specs.SubBlocks.{rows}
+use Rattle.rate_matching.specs.Places.{longest}
+use Rattle.rate_matching.specs.Units.{everyRow, pairRow, unitWithin, aloneCount, bothCount, bitsOf, unitBits, unitsFrom, unitStart, Lies, Reads, Holds, Put, PutTo}
+use Rattle.rate_matching.proofs.UnitPlaces.{unit-few}
+use Rattle.rate_matching.proofs.Units.{low-next, high-next, starts-rise}
 
--- ---- a column: place `at` is row q
+-- ---- a column: row q is so far below the first
 
-pub column-next : (y : List ℕ) (from : ℕ) {part₀ part : List ℕ} {at q : ℕ} → at ≡ from + 32 * q → q < length part → length part ≡ length part₀
+pub column-next : (y : List ℕ) (from : ℕ) {part₀ part : List ℕ} {below q : ℕ} → below ≡ 32 * q → q < length part → length part ≡ length part₀
     → Writing part₀ part q (tabFrom q (length part₀ - q) (everyRow y from)) (tab (length part₀) (everyRow y from))
-    → Writing part₀ (set part q (getD y at 0)) (q + 1) (tabFrom (q + 1) (length part₀ - (q + 1)) (everyRow y from)) (tab (length part₀) (everyRow y from))
+    → Writing part₀ (set part q (getD y (from + below) 0)) (q + 1) (tabFrom (q + 1) (length part₀ - (q + 1)) (everyRow y from)) (tab (length part₀) (everyRow y from))
 unfolding everyRow
-column-next y from {part₀} {part} {at} {q} e h l w =
-    push h (same (rest-more q (length part₀) (everyRow y from) (omega arith) ∙ ap (λ (a : ℕ). getD y a 0 ∷ tabFrom (q + 1) (length part₀ - (q + 1)) (everyRow y from)) (sym e)) w)
+column-next y from {part₀} {part} {below} {q} e h l w =
+    push h (same (rest-more q (length part₀) (everyRow y from) (omega arith) ∙ ap (λ (a : ℕ). getD y (from + a) 0 ∷ tabFrom (q + 1) (length part₀ - (q + 1)) (everyRow y from)) (sym e)) w)
 
 -- ---- two columns by turns: k entries are written, k even
 
@@ -51,25 +50,25 @@ pair-second d1 d2 from k e =
     let i : from + 1 + 32 * ((k + 1) / 2) ≡ from + 16 * k + 1 = omega arith in
     simp (ne-eqb ((k + 1) % 2) 0 (λ z. omega arith)) (ap (λ (n : ℕ). getD d2 n 0) i)
 
-pub record Pairing (d1 d2 : List ℕ) (from : ℕ) (part₀ part : List ℕ) (at k : ℕ) : Type 0 where
+pub record Pairing (d1 d2 : List ℕ) (from : ℕ) (part₀ part : List ℕ) (below k : ℕ) : Type 0 where
   pub even : k % 2 ≡ 0
-  pub place : at ≡ from + 16 * k
+  pub place : below ≡ 16 * k
   pub within : k ≤ length part₀
   pub wrote : Writing part₀ part k (tabFrom k (length part₀ - k) (pairRow d1 d2 from)) (tab (length part₀) (pairRow d1 d2 from))
 
-pub pairing-start : {d1 d2 : List ℕ} {from : ℕ} {part : List ℕ} → Pairing d1 d2 from part part from 0
+pub pairing-start : {d1 d2 : List ℕ} {from : ℕ} {part : List ℕ} → Pairing d1 d2 from part part 0 0
 pairing-start {d1} {d2} {from} {part} = record { even = refl; place = omega arith; within = omega arith; wrote = same (sym (tab-rest (length part) (pairRow d1 d2 from))) start }
 
-module _ {d1 d2 : List ℕ} {from : ℕ} {part₀ part : List ℕ} {at k : ℕ} (p : Pairing d1 d2 from part₀ part at k) where
-  -- `part[k] = d1[at]`
-  pub pair-one : k < length part → Writing part₀ (set part k (getD d1 at 0)) (k + 1) (tabFrom (k + 1) (length part₀ - (k + 1)) (pairRow d1 d2 from)) (tab (length part₀) (pairRow d1 d2 from))
+module _ {d1 d2 : List ℕ} {from : ℕ} {part₀ part : List ℕ} {below k : ℕ} (p : Pairing d1 d2 from part₀ part below k) where
+  -- `part[k] = d1[from.1 + below]`
+  pub pair-one : k < length part → Writing part₀ (set part k (getD d1 (from + below) 0)) (k + 1) (tabFrom (k + 1) (length part₀ - (k + 1)) (pairRow d1 d2 from)) (tab (length part₀) (pairRow d1 d2 from))
   pair-one h = push h (same (rest-more k (length part₀) (pairRow d1 d2 from) (omega (arith, p .wrote .long)) ∙ ap (λ (x : ℕ). x ∷ tabFrom (k + 1) (length part₀ - (k + 1)) (pairRow d1 d2 from)) entry) (p .wrote))
     where
-      entry : pairRow d1 d2 from k ≡ getD d1 at 0
-      entry = pair-first d1 d2 from k (p .even) ∙ ap (λ (n : ℕ). getD d1 n 0) (sym (p .place))
+      entry : pairRow d1 d2 from k ≡ getD d1 (from + below) 0
+      entry = pair-first d1 d2 from k (p .even) ∙ ap (λ (n : ℕ). getD d1 (from + n) 0) (sym (p .place))
 
-  -- `part[k + 1] = d2[at + 1]; at += 32; k += 2` after it
-  pub pair-next : k + 1 < length part → Pairing d1 d2 from part₀ (set (set part k (getD d1 at 0)) (k + 1) (getD d2 (at + 1) 0)) (at + 32) (k + 2)
+  -- `part[k + 1] = d2[from.1 + below + 1]; below += 32; k += 2` after it
+  pub pair-next : k + 1 < length part → Pairing d1 d2 from part₀ (set (set part k (getD d1 (from + below) 0)) (k + 1) (getD d2 (from + below + 1) 0)) (below + 32) (k + 2)
   pair-next h = record {
     even = omega (arith, p .even);
     place = omega (arith, p .place);
@@ -80,8 +79,8 @@ module _ {d1 d2 : List ℕ} {from : ℕ} {part₀ part : List ℕ} {at k : ℕ} 
       two : k + 2 ≡ k + 1 + 1
       two = omega arith
 
-      entry : pairRow d1 d2 from (k + 1) ≡ getD d2 (at + 1) 0
-      entry = pair-second d1 d2 from k (p .even) ∙ ap (λ (n : ℕ). getD d2 (n + 1) 0) (sym (p .place))
+      entry : pairRow d1 d2 from (k + 1) ≡ getD d2 (from + below + 1) 0
+      entry = pair-second d1 d2 from k (p .even) ∙ ap (λ (n : ℕ). getD d2 (from + n + 1) 0) (sym (p .place))
 
 -- ---- a part of the ring
 
@@ -111,153 +110,83 @@ put-join {xs} {ys} {ring₀} {n = n} p q = record {
   told = q .told ∙ ap (λ (l : List ℕ). l ++ ys) (p .told) ∙ append-assoc (take n ring₀) xs ys;
 }
 
--- ---- the rows of a column
-
--- e is the first row of stream 2, f that of a stream with filler
-pub record Rowed (D F p R dm e f : ℕ) : Type 0 where
-  pub some : 0 < dm
-  pub sum : dm + D ≡ 32 * R
-  pub few : R ≤ 193
-  pub alone : e ≤ f
-  pub high : f ≤ R
-  pub last : p / 31 + f ≤ R
-  pub early : dm ≤ p + 1 + 32 * e
-  pub behind : dm ≤ p + 32 * f
-  pub near : p + 32 * f ≤ dm + F + 31
-  pub filler : F < D
-  pub column : p < 32
-
-pub rowed : {D F p e f : ℕ} → Laid D F p → e ≡ rowsBefore (dummies D) (p + 1) → f ≡ rowsBefore (dummies D + F) p → Rowed D F p (rows D) (dummies D) e f
-unfolding rowsBefore
-rowed {D} {F} {p} {e} {f} l a b = record {
-  some = some-dummies D (l .some);
-  sum = dummies-add D;
-  few = rows-few;
-  alone = omega arith;
-  high = omega (arith, dummies-add D, l .filler, l .column);
-  last = omega (arith, dummies-add D, l .filler, l .column);
-  early = omega (arith, l .column);
-  behind = omega (arith, l .column);
-  near = omega (arith, l .column);
-  filler = l .filler;
-  column = l .column;
-}
-  where
-    rows-few : rows D ≤ 193
-    rows-few = omega (arith, dummies-add D, dummies-lt D, l .most)
-
--- what is asked of the streams and of the ring
-module _ {D F p R dm e f : ℕ} (r : Rowed D F p R dm e f) (n : ℕ) (ring : List ℕ) where
-  pub column-asks : n + R ≤ length ring → p + 32 * f - dm + 32 * length (midOf n (n + (R - f) - n) ring) ≤ D + 31
-  column-asks h = let m = length-mid n (n + (R - f)) ring (omega (arith, r .high)) in omega (arith, m, r .sum, r .high, r .behind, r .column)
-
-  pub alone-ends : n + 2 * R ≤ length ring → n + (f - e) ≤ length ring
-  alone-ends h = omega (arith, r .high)
-
-  pub alone-asks : n + 2 * R ≤ length ring → p + 1 + 32 * e - dm + 32 * length (midOf n (n + (f - e) - n) ring) ≤ D + 31
-  alone-asks h = let m = length-mid n (n + (f - e)) ring (alone-ends h) in omega (arith, m, r .alone, r .early, r .near, r .filler)
-
-  module _ (h : n + 2 * R ≤ length ring) where
-    within : n + (f - e) + (2 * R - p / 31 - 2 * f) ≤ length ring
-    within = omega (arith, r .high, r .alone)
-
-    pub pairs-fit : Fits w64 (length ring) → Fits w64 (n + (f - e) + (2 * R - p / 31 - 2 * f))
-    pairs-fit b = let w = within in omega arith
-
-    -- the first part came back
-    module _ (part : List ℕ) (k : length part ≡ length (midOf n (n + (f - e) - n) ring)) where
-      pub pairs-end : n + (f - e) + (2 * R - p / 31 - 2 * f) ≤ length (putMid n (n + (f - e) - n) ring part)
-      pairs-end = rw (same-len-mid n (n + (f - e) - n) ring part k) within
-
-      lent : length (midOf (n + (f - e)) (n + (f - e) + (2 * R - p / 31 - 2 * f) - (n + (f - e))) (putMid n (n + (f - e) - n) ring part)) ≡ 2 * R - p / 31 - 2 * f
-      lent = length-mid (n + (f - e)) (n + (f - e) + (2 * R - p / 31 - 2 * f)) (putMid n (n + (f - e) - n) ring part) pairs-end ∙ add-sub-cancel-left (n + (f - e)) (2 * R - p / 31 - 2 * f)
-
-      pub pairs-ask : {D2 : ℕ} → D2 ≡ D
-          → (p + 32 * f - dm + 32 * ((length (midOf (n + (f - e)) (n + (f - e) + (2 * R - p / 31 - 2 * f) - (n + (f - e))) (putMid n (n + (f - e) - n) ring part)) + 1) / 2) ≤ D + 31)
-          × (p + 32 * f - dm + 32 * (length (midOf (n + (f - e)) (n + (f - e) + (2 * R - p / 31 - 2 * f) - (n + (f - e))) (putMid n (n + (f - e) - n) ring part)) / 2) ≤ D2 + 30)
-      pairs-ask a = rw lent (omega (arith, r .sum, r .high, r .behind, r .column, r .last), omega (arith, a, r .sum, r .high, r .behind, r .column, r .last))
-
-module _ {D F p n e f : ℕ} (ring : List ℕ) (l : Laid D F p) (a : e ≡ rowsBefore (dummies D) (p + 1)) (b : f ≡ rowsBefore (dummies D + F) p) where
-  pub put-column : (d part : List ℕ) → n + rows D ≤ length ring
-      → part ≡ tab (length (midOf n (n + (rows D - f) - n) ring)) (everyRow d (p + 32 * f - dummies D))
-      → Put (columnBits D d F p) ring n (putMid n (n + (rows D - f) - n) ring part) (n + (rows D - f))
-  unfolding columnBits
-  put-column d part h s =
-      subst (λ (g : ℕ). Put (tab (rows D - g) (everyRow d (p + 32 * g - dummies D))) ring n (putMid n (n + (rows D - f) - n) ring part) (n + (rows D - f))) b
-      (put-part n (n + (rows D - f)) ring (rows D - f) (everyRow d (p + 32 * f - dummies D)) refl (omega arith) s)
-
-  -- stream 2 alone, then both by turns
-  pub put-pairs : (d1 d2 part pairs : List ℕ) → n + 2 * rows D ≤ length ring
-      → part ≡ tab (length (midOf n (n + (f - e) - n) ring)) (everyRow d2 (p + 1 + 32 * e - dummies D))
-      → pairs ≡ tab (length (midOf (n + (f - e)) (n + (f - e) + (2 * rows D - p / 31 - 2 * f) - (n + (f - e))) (putMid n (n + (f - e) - n) ring part))) (pairRow d1 d2 (p + 32 * f - dummies D))
-      → Put (pairBits D d1 d2 F p) ring n (putMid (n + (f - e)) (n + (f - e) + (2 * rows D - p / 31 - 2 * f) - (n + (f - e))) (putMid n (n + (f - e) - n) ring part) pairs) (n + (f - e) + (2 * rows D - p / 31 - 2 * f))
-  unfolding pairBits lastPlace
-  put-pairs d1 d2 part pairs h s t =
-      subst (λ (g : ℕ). Put (tab (g - rowsBefore (dummies D) (p + 1)) (everyRow d2 (p + 1 + 32 * rowsBefore (dummies D) (p + 1) - dummies D)) ++ tab (2 * rows D - p / 31 - 2 * g) (pairRow d1 d2 (p + 32 * g - dummies D))) ring n all end) b
-      (subst (λ (g : ℕ). Put (tab (f - g) (everyRow d2 (p + 1 + 32 * g - dummies D)) ++ tab (2 * rows D - p / 31 - 2 * f) (pairRow d1 d2 (p + 32 * f - dummies D))) ring n all end) a
-      (put-join (put-part n mid ring (f - e) (everyRow d2 (p + 1 + 32 * e - dummies D)) refl (omega (arith, r)) s)
-      (put-part mid end (putMid n (mid - n) ring part) (2 * rows D - p / 31 - 2 * f) (pairRow d1 d2 (p + 32 * f - dummies D)) refl long t)))
-    where
-      r : Rowed D F p (rows D) (dummies D) e f
-      r = rowed l a b
-
-      mid : ℕ
-      mid = n + (f - e)
-
-      end : ℕ
-      end = mid + (2 * rows D - p / 31 - 2 * f)
-
-      all : List ℕ
-      all = putMid mid (end - mid) (putMid n (mid - n) ring part) pairs
-
-      counted : length part ≡ mid - n
-      counted = ap length s ∙ length-tab (length (midOf n (mid - n) ring)) (everyRow d2 (p + 1 + 32 * e - dummies D)) ∙ length-mid n mid ring (omega (arith, r))
-
-      long : end ≤ length (putMid n (mid - n) ring part)
-      long = omega (arith, r, length-put n mid ring part (omega (arith, r)) counted)
-
 -- ---- a unit
 
-module _ {D D1 D2 F : ℕ} (g : Fitting D D1 D2 F) (u : ℕ) {p : ℕ} (c : p ≡ column (u % 32)) where
-  pub laid : Laid D F p
-  laid = record { some = g .some; most = g .most; filler = g .filler; column = rw c (column-rule (u % 32) (omega arith) .0) }
+-- a ring with room for all of it
+module _ {U : Unit} (l : Lies U) (n : ℕ) (ring : List ℕ) (room : n + (aloneCount U + bothCount U) ≤ length ring) where
+  abbrev mid : ℕ
+  mid = n + (U .both .0 + 1 - U .alone .0) / 2
 
-  pub column-needs : (n : ℕ) {m : ℕ} → u < 32 → n + (unitStart (rows D) (u + 1) - unitStart (rows D) u) ≤ m → Laid D F p × (n + rows D ≤ m)
-  column-needs n h l = (laid, omega (arith, low-next (rows D) u h))
+  abbrev end : ℕ
+  end = mid + (U .end .0 - U .both .0)
 
-  pub pair-needs : (n : ℕ) {m : ℕ} → 32 ≤ u → n + (unitStart (rows D) (u + 1) - unitStart (rows D) u) ≤ m → Laid D1 F p × (D2 ≡ D1) × (n + 2 * rows D1 ≤ m)
-  pair-needs n h l = rw (g .first) (laid, g .second, omega (arith, high-next (rows D) u h))
+  -- a column of stream 0
+  pub column-lent : length (midOf n (n + (U .end .0 - U .both .0) - n) ring) ≡ bothCount U
+  unfolding bothCount
+  column-lent = length-mid n (n + (U .end .0 - U .both .0)) ring (omega arith) ∙ add-sub-cancel-left n (U .end .0 - U .both .0)
 
-  module _ (d0 d1 d2 : List ℕ) {ring : List ℕ} {n : ℕ} {ring′ : List ℕ} {r : ℕ} where
-    pub unit-column : u < 32 → Put (columnBits D d0 F p) ring n ring′ r → Put (unitBits D d0 d1 d2 F u) ring n ring′ r
-    unfolding unitBits
-    unit-column h q = simp (lt-ltb u 32 h) (subst (λ (k : ℕ). Put (columnBits D d0 F k) ring n ring′ r) c q)
+  pub put-column : (d0 d1 d2 part : List ℕ) → U .first .0 ≡ 0 → part ≡ tab (length (midOf n (n + (U .end .0 - U .both .0) - n) ring)) (everyRow d0 (U .first .1))
+      → Put (bitsOf d0 d1 d2 U) ring n (putMid n (n + (U .end .0 - U .both .0) - n) ring part) (n + (U .end .0 - U .both .0))
+  unfolding bitsOf bothCount
+  put-column d0 d1 d2 part z s =
+      simp (eq-eqb (U .first .0) 0 z)
+      (put-part n (n + (U .end .0 - U .both .0)) ring (U .end .0 - U .both .0) (everyRow d0 (U .first .1)) refl (omega arith) s)
 
-    pub unit-pairs : 32 ≤ u → Put (pairBits D1 d1 d2 F p) ring n ring′ r → Put (unitBits D d0 d1 d2 F u) ring n ring′ r
-    unfolding unitBits
-    unit-pairs h q = simp (le-ltb u 32 h) (subst (λ (k : ℕ). Put (pairBits D d1 d2 F k) ring n ring′ r) c (subst (λ (k : ℕ). Put (pairBits k d1 d2 F p) ring n ring′ r) (g .first) q))
+  -- stream 2 alone
+  pub alone-within : mid ≤ length ring
+  unfolding aloneCount
+  alone-within = omega arith
 
--- ---- how long a unit is
+  pub alone-lent : length (midOf n (mid - n) ring) ≡ aloneCount U
+  unfolding aloneCount
+  alone-lent = length-mid n mid ring alone-within ∙ add-sub-cancel-left n ((U .both .0 + 1 - U .alone .0) / 2)
 
-pub unit-few : (D F u : ℕ) (d0 d1 d2 : List ℕ) → Laid D F (column (u % 32)) → length (unitBits D d0 d1 d2 F u) ≤ unitStart (rows D) (u + 1) - unitStart (rows D) u
-unfolding unitBits columnBits pairBits lastPlace
-unit-few D F u d0 d1 d2 l = go (ltb u 32) refl
+  pub end-within : end ≤ length ring
+  unfolding aloneCount bothCount
+  end-within = omega arith
+
+  -- that part came back
+  module _ (part : List ℕ) (k : length part ≡ length (midOf n (mid - n) ring)) where
+    pub both-within : end ≤ length (putMid n (mid - n) ring part)
+    both-within = rw (same-len-mid n (mid - n) ring part k) end-within
+
+    pub both-lent : length (midOf mid (end - mid) (putMid n (mid - n) ring part)) ≡ bothCount U
+    unfolding bothCount
+    both-lent = length-mid mid end (putMid n (mid - n) ring part) both-within ∙ add-sub-cancel-left mid (U .end .0 - U .both .0)
+
+    pub both-ask : {D D1 D2 : ℕ} → D1 ≡ D → D2 ≡ D → Reads D U → (U .first .0 ≡ 0 → ⊥)
+        → (U .first .1 + 32 * ((length (midOf mid (end - mid) (putMid n (mid - n) ring part)) + 1) / 2) ≤ D1 + 31)
+        × (U .first .1 + 32 * (length (midOf mid (end - mid) (putMid n (mid - n) ring part)) / 2) ≤ D2 + 30)
+    both-ask a b r z = rw (both-lent, a, b) (r .first z, r .second z)
+
+    -- then both by turns
+    pub put-pairs : (d0 d1 d2 pairs : List ℕ) → (U .first .0 ≡ 0 → ⊥) → part ≡ tab (length (midOf n (mid - n) ring)) (everyRow d2 (U .early .1))
+        → pairs ≡ tab (length (midOf mid (end - mid) (putMid n (mid - n) ring part))) (pairRow d1 d2 (U .first .1))
+        → Put (bitsOf d0 d1 d2 U) ring n (putMid mid (end - mid) (putMid n (mid - n) ring part) pairs) end
+    unfolding bitsOf aloneCount bothCount
+    put-pairs d0 d1 d2 pairs z s t =
+        simp (ne-eqb (U .first .0) 0 z)
+        (put-join (put-part n mid ring ((U .both .0 + 1 - U .alone .0) / 2) (everyRow d2 (U .early .1)) refl alone-within s)
+        (put-part mid end (putMid n (mid - n) ring part) (U .end .0 - U .both .0) (pairRow d1 d2 (U .first .1)) refl both-within t))
+
+-- how many bits it has
+length-bits : (d0 d1 d2 : List ℕ) (U : Unit) → length (bitsOf d0 d1 d2 U) ≤ aloneCount U + bothCount U
+unfolding bitsOf
+length-bits d0 d1 d2 U = go (eqb (U .first .0) 0)
   where
-    p : ℕ
-    p = column (u % 32)
+    go : (b : Bool) → length (cond b (tab (bothCount U) (everyRow d0 (U .first .1))) (tab (aloneCount U) (everyRow d2 (U .early .1)) ++ tab (bothCount U) (pairRow d1 d2 (U .first .1)))) ≤ aloneCount U + bothCount U
+    go true = omega (arith, length-tab (bothCount U) (everyRow d0 (U .first .1)))
+    go false = omega (arith, length-append (tab (aloneCount U) (everyRow d2 (U .early .1))) (tab (bothCount U) (pairRow d1 d2 (U .first .1))), length-tab (aloneCount U) (everyRow d2 (U .early .1)), length-tab (bothCount U) (pairRow d1 d2 (U .first .1)))
 
-    e : ℕ
-    e = rowsBefore (dummies D) (p + 1)
+pub unit-long : {D F : ℕ} (d0 d1 d2 : List ℕ) (u : ℕ) → D ≤ longest → F < D → u < 64 → length (unitBits D d0 d1 d2 F u) ≤ unitStart (rows D) (u + 1) - unitStart (rows D) u
+unfolding unitBits
+unit-long {D} {F} d0 d1 d2 u most few l = omega (arith, length-bits d0 d1 d2 (unitWithin D F u), unit-few {D = D} {F = F} u most few refl l)
 
-    f : ℕ
-    f = rowsBefore (dummies D + F) p
-
-    go : (t : Bool) → ltb u 32 ≡ t → length (cond t (columnBits D d0 F p) (pairBits D d1 d2 F p)) ≤ unitStart (rows D) (u + 1) - unitStart (rows D) u
-    go true t = omega (arith, low-next (rows D) u (ltb-true u 32 t), length-tab (rows D - f) (everyRow d0 (p + 32 * f - dummies D)))
-    go false t =
-        let r : Rowed D F p (rows D) (dummies D) e f = rowed l refl refl in
-        let m : ℕ = 2 * rows D - p / 31 - 2 * f in
-        omega (arith, r .alone, r .high, high-next (rows D) u (ltb-false u 32 t), length-append (tab (f - e) (everyRow d2 (p + 1 + 32 * e - dummies D))) (tab m (pairRow d1 d2 (p + 32 * f - dummies D))), length-tab (f - e) (everyRow d2 (p + 1 + 32 * e - dummies D)), length-tab m (pairRow d1 d2 (p + 32 * f - dummies D)))
+-- as the unit that was found
+pub unit-put : (D F u : ℕ) (d0 d1 d2 : List ℕ) {U : Unit} {ring : List ℕ} {n : ℕ} {ring′ : List ℕ} {r : ℕ} → U ≡ unitWithin D F u → Put (bitsOf d0 d1 d2 U) ring n ring′ r
+    → Put (unitBits D d0 d1 d2 F u) ring n ring′ r
+unfolding unitBits
+unit-put D F u d0 d1 d2 {U} {ring} {n} {ring′} {r} is p = subst (λ (x : Unit). Put (bitsOf d0 d1 d2 x) ring n ring′ r) is p
 
 pub unit-most : (R u : ℕ) → unitStart R (u + 1) - unitStart R u ≤ 2 * R
 unit-most R u = go (ltb u 32) refl

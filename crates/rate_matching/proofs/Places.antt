@@ -11,12 +11,10 @@ use lib.Dec.{ltb, leb, eqb}
 use borrow.Author.Tests.{lt-ltb, le-ltb, eq-eqb, ne-eqb, ltb-true, ltb-false, eqb-true, eqb-false}
 use Rattle.rate_matching.specs.declared.StreamPlace.{StreamPlace}
 use Rattle.rate_matching.specs.declared.CirclePlace.{CirclePlace}
-use Rattle.rate_matching.specs.declared.Held.the-variants.{Bit, Dummy}
-use Rattle.rate_matching.specs.declared.Lies.the-variants.{At, Nowhere}
 use Rattle.rate_matching.specs.Columns.{column}
 use Rattle.rate_matching.specs.SubBlocks.{rows, dummies, readColumns, readPlain, readShifted}
 use Rattle.rate_matching.specs.Circle.{circleLength}
-use Rattle.rate_matching.specs.Places.{heldY, heldByTurns, heldAt, plainPlace, shiftedPlace, placeNumber, placeOf, longest, heldWithin, liesAt, InStreams, OnCircle}
+use Rattle.rate_matching.specs.Places.{Bit, Dummy, heldY, heldByTurns, heldAt, plainPlace, shiftedPlace, placeNumber, placeOf, InStreams, OnCircle}
 use Rattle.rate_matching.proofs.Columns.{column-rule}
 
 -- ---- the rows and the dummies
@@ -259,39 +257,6 @@ places-distinct D p q u w e =
     let b : Bit p ≡ Bit q = sym (held-place D p u) ∙ ap (heldAt D) e ∙ held-place D q w in
     cc
 
--- ---- the mapping functions' answers: a circle place holds a stream place exactly where that stream place lies
-
-nowhere : {j : CirclePlace} → Nowhere ≡ At j → ⊥
-nowhere e = let z : _≡_ {A = ℕ} 0 1 = cc in omega arith
-
-module _ (D : ℕ) (j : CirclePlace) (p : StreamPlace) where
-  held-then-lies : heldWithin D j ≡ Bit p → liesAt D p ≡ At j
-  unfolding heldWithin liesAt
-  held-then-lies e = go (leb D longest) refl (ltb (j .0) (circleLength (rows D))) refl e
-    where
-      go : (a : Bool) → leb D longest ≡ a → (b : Bool) → ltb (j .0) (circleLength (rows D)) ≡ b
-          → cond (a && b) (heldAt D j) Dummy ≡ Bit p → liesAt D p ≡ At j
-      go true t true u e =
-          let w = place-held D j p (ltb-true (j .0) (circleLength (rows D)) u) e in
-          simp (t, lt-ltb (p .0) 3 (w .0 .stream), lt-ltb (p .1) D (w .0 .place), w .1)
-      go true t false u e = absurd (no-bit e)
-      go false t b u e = absurd (no-bit e)
-
-  lies-then-held : liesAt D p ≡ At j → heldWithin D j ≡ Bit p
-  unfolding heldWithin liesAt
-  lies-then-held e = go (leb D longest) refl (ltb (p .0) 3) refl (ltb (p .1) D) refl e
-    where
-      go : (a : Bool) → leb D longest ≡ a → (b : Bool) → ltb (p .0) 3 ≡ b → (d : Bool) → ltb (p .1) D ≡ d
-          → cond (a && (b && d)) (At (placeOf D p)) Nowhere ≡ At j → heldWithin D j ≡ Bit p
-      go true t true u true v e =
-          let w : InStreams D p = record { stream = ltb-true (p .0) 3 u; place = ltb-true (p .1) D v } in
-          let f : placeOf D p ≡ j = cc in
-          let o : OnCircle D j = subst (OnCircle D) f (place-on-circle D p w) in
-          let h : heldAt D j ≡ Bit p = ap (heldAt D) (sym f) ∙ held-place D p w in
-          simp (t, lt-ltb (j .0) (circleLength (rows D)) o, h)
-      go true t true u false v e = absurd (nowhere e)
-      go true t false u d v e = absurd (nowhere e)
-      go false t b u d v e = absurd (nowhere e)
-
-  pub both-ways : (heldWithin D j ≡ Bit p) ↔ (liesAt D p ≡ At j)
-  both-ways = (held-then-lies, lies-then-held)
+-- a circle place holds a stream place exactly where that stream place lies
+pub both-ways : (D : ℕ) (j : CirclePlace) (p : StreamPlace) → OnCircle D j → InStreams D p → (heldAt D j ≡ Bit p) ↔ (placeOf D p ≡ j)
+both-ways D j p o w = (λ e. place-held D j p o e .1, λ e. ap (heldAt D) (sym e) ∙ held-place D p w)

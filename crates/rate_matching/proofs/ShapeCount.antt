@@ -12,12 +12,10 @@ use Rattle.interleaver.proofs.Pigeonhole.{Into, OneToOne, no-more}
 use Rattle.turbo.specs.Streams.{withoutFiller}
 use Rattle.rate_matching.specs.declared.StreamPlace.{StreamPlace}
 use Rattle.rate_matching.specs.declared.CirclePlace.{CirclePlace}
-use Rattle.rate_matching.specs.declared.Held.{Held}
-use Rattle.rate_matching.specs.declared.Held.the-variants.{Bit, Dummy}
 use Rattle.rate_matching.specs.SubBlocks.{rows, dummies}
 use Rattle.rate_matching.specs.Circle.{circleLength, startOf}
 use Rattle.rate_matching.specs.Walk.{isBit, holdsBit, turn, sentPlaces, Among}
-use Rattle.rate_matching.specs.Places.{heldAt, placeNumber, placeOf, streamOf, entryOf, InStreams, circlePlace}
+use Rattle.rate_matching.specs.Places.{Held, Bit, Dummy, heldAt, placeNumber, placeOf, streamOf, entryOf, InStreams, circlePlace}
 use Rattle.rate_matching.specs.Shape.{blank, shape}
 use Rattle.rate_matching.proofs.Places.{dummies-add, place-lt, place-on-circle, held-place, place-held}
 use Rattle.rate_matching.proofs.Circle.{circle-holds, start-lt}

@@ -19,7 +19,7 @@ use Rattle.rate_matching.specs.Circle.{circle, circleLength}
 use Rattle.rate_matching.specs.Walk.{onCircle, itself}
 use Rattle.rate_matching.specs.Places.{streamOf}
 use Rattle.rate_matching.specs.Shape.{shape, bitPlaces, second, pairPlaces, lastPlace}
-use Rattle.rate_matching.specs.Units.{everyRow, pairRow, columnBits, pairBits, unitBits, unitsFrom, unitStart, unitOf}
+use Rattle.rate_matching.specs.Units.{everyRow, pairRow, unitStart, unitOf}
 use Rattle.rate_matching.proofs.Columns.{column-rule}
 use Rattle.rate_matching.proofs.Places.{dummies-add}
 use Rattle.rate_matching.proofs.Circle.{padded-bit, circle-at}
@@ -100,8 +100,8 @@ module _ (D F : ℕ) (d0 d1 d2 : List ℕ) (l0 : length d0 ≡ D) (l1 : length d
   behind : dummies D + F ≤ p + 32 * f
   behind = row-from (dummies D + F) p f (omega arith)
 
-  pub column-bits : map (onCircle (circle d0 d1 d2)) (bitPlaces (shape D F) (c * R) (c * R + R)) ≡ columnBits D d0 F p
-  unfolding columnBits everyRow tab itself
+  pub column-bits : map (onCircle (circle d0 d1 d2)) (bitPlaces (shape D F) (c * R) (c * R + R)) ≡ tab (R - f) (everyRow d0 (p + 32 * f - dummies D))
+  unfolding everyRow tab itself
   column-bits =
       ap (map (onCircle (circle d0 d1 d2))) (column-places D F (omega arith) c h)
       ∙ map-tabFrom (c * R + f) (R - f) itself (onCircle (circle d0 d1 d2))
@@ -130,8 +130,8 @@ module _ (D F : ℕ) (d0 d1 d2 : List ℕ) (l0 : length d0 ≡ D) (l1 : length d
   pair-within : (q : ℕ) → 2 * q + 1 < 2 * R - p / 31 - 2 * f → p + 32 * (f + q) + 1 < 32 * R
   pair-within q l = omega (arith, p-lt, f-most)
 
-  pub pair-bits : map (onCircle (circle d0 d1 d2)) (bitPlaces (shape D F) j (j + 2 * R)) ≡ pairBits D d1 d2 F p
-  unfolding pairBits pairPlaces lastPlace second everyRow pairRow tab itself
+  pub pair-bits : map (onCircle (circle d0 d1 d2)) (bitPlaces (shape D F) j (j + 2 * R)) ≡ tab (f - e) (everyRow d2 (p + 1 + 32 * e - dummies D)) ++ tab (2 * R - p / 31 - 2 * f) (pairRow d1 d2 (p + 32 * f - dummies D))
+  unfolding pairPlaces lastPlace second everyRow pairRow tab itself
   pair-bits =
       ap (map w) (pair-places D F (omega arith) c h few (some-dummies D some))
       ∙ ap (map w) (map-append (λ (k : ℕ). j + k) (tabFrom e (f - e) second) (tabFrom (2 * f) (2 * R - p / 31 - 2 * f) itself))
@@ -230,38 +230,3 @@ unit-of R m = go (ltb m 15) refl
     go : (t : Bool) → ltb m 15 ≡ t → R * (cond t (2 * m + 2) (m + 17) + (cond t (2 * m + 2) (m + 17) - 32)) ≡ R * (2 * m + 2)
     go true z = ap (λ (n : ℕ). R * n) (omega (arith, ltb-true m 15 z))
     go false z = ap (λ (n : ℕ). R * n) (omega (arith, ltb-false m 15 z))
-
-module _ (D F : ℕ) (d0 d1 d2 : List ℕ) (l0 : length d0 ≡ D) (l1 : length d1 ≡ D) (l2 : length d2 ≡ D) (some : D % 8 ≡ 4) (few : F < D) where
-  pub unit-bits : (u : ℕ) → u < 64
-      → map (onCircle (circle d0 d1 d2)) (bitPlaces (shape D F) (unitStart (rows D) u) (unitStart (rows D) (u + 1))) ≡ unitBits D d0 d1 d2 F u
-  unfolding unitBits
-  unit-bits u h = go (ltb u 32) refl
-    where
-      go : (t : Bool) → ltb u 32 ≡ t
-          → map (onCircle (circle d0 d1 d2)) (bitPlaces (shape D F) (unitStart (rows D) u) (unitStart (rows D) (u + 1)))
-          ≡ cond t (columnBits D d0 F (column (u % 32))) (pairBits D d1 d2 F (column (u % 32)))
-      go true t =
-          let l : u < 32 = ltb-true u 32 t in
-          let c : u % 32 ≡ u = omega arith in
-          rw (low-next (rows D) u l, low-start (rows D) u l, c) (column-bits D F d0 d1 d2 l0 l1 l2 some few u l)
-      go false t =
-          let l : 32 ≤ u = ltb-false u 32 t in
-          let c : u % 32 ≡ u - 32 = omega arith in
-          rw (high-next (rows D) u l, high-start (rows D) u l, c) (pair-bits D F d0 d1 d2 l0 l1 l2 some few (u - 32) (omega arith))
-
-  pub units-are : (n u : ℕ) → u + n ≤ 64
-      → unitsFrom D d0 d1 d2 F u n ≡ map (onCircle (circle d0 d1 d2)) (bitPlaces (shape D F) (unitStart (rows D) u) (unitStart (rows D) (u + n)))
-  unfolding unitsFrom
-  units-are zero u h = rw (add-zero u, bitPlaces-none (shape D F) (unitStart (rows D) u) (unitStart (rows D) u) (omega arith))
-  units-are (suc n) u h =
-      ap₂ _++_ (sym (unit-bits u (omega arith))) (units-are n (suc u) (omega arith))
-      ∙ sym (map-append (onCircle (circle d0 d1 d2)) (bitPlaces (shape D F) (unitStart R u) (unitStart R (u + 1))) (bitPlaces (shape D F) (unitStart R (suc u)) (unitStart R (suc u + n))))
-      ∙ ap (map (onCircle (circle d0 d1 d2)))
-      (ap₂ (λ (a b : ℕ). bitPlaces (shape D F) (unitStart R u) (unitStart R (u + 1)) ++ bitPlaces (shape D F) (unitStart R a) (unitStart R b)) (sym (add-one u)) ends
-      ∙ sym (bitPlaces-split (shape D F) (unitStart R u) (unitStart R (u + suc n)) (unitStart R (u + 1)) (starts-rise R u (u + 1) (omega arith)) (starts-rise R (u + 1) (u + suc n) (omega arith))))
-    where
-      R : ℕ
-      R = rows D
-
-      ends : suc u + n ≡ u + suc n
-      ends = omega arith

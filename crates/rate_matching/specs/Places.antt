@@ -9,13 +9,14 @@ use Rattle.laws.specs.Lists.{tab}
 use Rattle.turbo.specs.Streams.{NULL}
 use Rattle.rate_matching.specs.declared.StreamPlace.{StreamPlace}
 use Rattle.rate_matching.specs.declared.CirclePlace.{CirclePlace}
-use Rattle.rate_matching.specs.declared.Held.{Held}
-use Rattle.rate_matching.specs.declared.Held.the-variants.{Bit, Dummy}
-use Rattle.rate_matching.specs.declared.Lies.{Lies}
-use Rattle.rate_matching.specs.declared.Lies.the-variants.{At, Nowhere}
 use Rattle.rate_matching.specs.Columns.{column}
 use Rattle.rate_matching.specs.SubBlocks.{rows, dummies, readPlain, readShifted}
 use Rattle.rate_matching.specs.Circle.{circleLength}
+
+-- what a place on the circle holds: a place of a stream, or a dummy
+pub data Held : Type 0 where
+  Bit : StreamPlace → Held
+  Dummy : Held
 
 -- what y place p of stream s is: a dummy, or the stream's place p − N_D
 unfoldable pub heldY : ℕ → ℕ → ℕ → Held
@@ -63,14 +64,6 @@ firstPlaces D s = map circlePlace (tab 32 (placeNumber D s))
 -- no code block's streams are longer: D = K + 4 for K = 6,144
 abbrev pub longest : ℕ
 longest = 6148
-
--- what a circle place holds; a dummy where streams of D places have no such circle place
-unfoldable pub heldWithin : ℕ → CirclePlace → Held
-heldWithin D j = cond (leb D longest && ltb (j .0) (circleLength (rows D))) (heldAt D j) Dummy
-
--- where a stream place lies; nowhere if streams of D places have no such place
-unfoldable pub liesAt : ℕ → StreamPlace → Lies
-liesAt D p = cond (leb D longest && (ltb (p .0) 3 && ltb (p .1) D)) (At (placeOf D p)) Nowhere
 
 -- where the first 32 places of stream s lie; all at place 0 of the circle if streams of D places have no such places
 unfoldable pub firstsWithin : ℕ → ℕ → List CirclePlace

@@ -1,12 +1,12 @@
 -- One turn of a code block's circle that is cut at N_cb, clause 5.1.4.1.2, by its units: where it starts, and where the cut shortens it.
 -- Assumes nothing.
 use mathlib.Core.Bool.{cond}
-use Prim.Native.Nat.{ℕ, _%_}
+use Prim.Native.Nat.{ℕ}
 use Rattle.rate_matching.specs.declared.Turn.{Turn}
-use Rattle.rate_matching.specs.Columns.{column}
 use Rattle.rate_matching.specs.SubBlocks.{rows}
 use Rattle.rate_matching.specs.Circle.{cutAt}
-use Rattle.rate_matching.specs.Units.{startUnit, wholeUnits, restPlaces, bitsBefore}
+use Rattle.rate_matching.specs.Places.{circlePlace}
+use Rattle.rate_matching.specs.Units.{unitWithin, startUnit, wholeUnits, bitsBefore}
 use Rattle.rate_matching.specs.Matcher.{matchable}
 
 -- the unit at which version v starts, the units before N_cb as a whole, and how many bits of the next one lie before it
@@ -14,7 +14,7 @@ unfoldable pub unitsOf : ℕ → ℕ → ℕ → ℕ → Turn
 unitsOf D F Ncb v = record {
   start = startUnit Ncb (rows D) v;
   whole = wholeUnits Ncb (rows D);
-  rest = bitsBefore D F (column (wholeUnits Ncb (rows D) % 32)) (restPlaces Ncb (rows D));
+  rest = bitsBefore (unitWithin D F (wholeUnits Ncb (rows D))) (circlePlace Ncb);
 }
 
 -- the turn of a code block that has a share `soft` of the soft buffer; all 0 where nothing can be sent

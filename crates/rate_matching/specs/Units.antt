@@ -1,17 +1,75 @@
 -- The circle of clause 5.1.4.1.2 by units: its 32 columns of d(0), then its 32 columns of d(1) and d(2) by turns, and the bits of each, which begin at a known row.
 -- Assumes nothing.
 use mathlib.Core.Path.{_≡_}
-use mathlib.Core.Bool.{cond}
+use mathlib.Core.Bool.{cond, _&&_}
 use mathlib.Core.List.{List, [], _++_}
 use Prim.Native.Nat.{ℕ, zero, suc, _+_, _-_, _*_, _/_, _%_, _≤_, _<_, min}
-use lib.Dec.{ltb, eqb}
+use lib.Dec.{leb, ltb, eqb}
 use lib.ListN.{length, getD, take}
-use Rattle.laws.specs.Lists.{tab}
+use Rattle.laws.specs.Lists.{tab, tabFrom}
+use Rattle.rate_matching.specs.declared.CirclePlace.{CirclePlace}
+use Rattle.rate_matching.specs.declared.Unit.{Unit}
 use Rattle.rate_matching.specs.Columns.{column}
 use Rattle.rate_matching.specs.SubBlocks.{rows, dummies, rowsBefore}
 use Rattle.rate_matching.specs.Circle.{circleLength}
-use Rattle.rate_matching.specs.Shape.{lastPlace}
-use Rattle.rate_matching.specs.Places.{longest}
+use Rattle.rate_matching.specs.Walk.{itself}
+use Rattle.rate_matching.specs.Shape.{second, lastPlace}
+use Rattle.rate_matching.specs.Places.{circlePlace, longest}
+
+-- column c of stream 0 on the circle of streams of D places, the first F of stream 0 absent: its bits begin behind the dummies and the filler
+unfoldable pub columnUnit : ℕ → ℕ → ℕ → Unit
+columnUnit D F c = record {
+  alone = circlePlace (c * rows D + rowsBefore (dummies D + F) (column c));
+  both = circlePlace (c * rows D + rowsBefore (dummies D + F) (column c));
+  end = circlePlace (c * rows D + rows D);
+  early = (0, column c + 32 * rowsBefore (dummies D + F) (column c) - dummies D);
+  first = (0, column c + 32 * rowsBefore (dummies D + F) (column c) - dummies D);
+}
+
+-- column c of streams 1 and 2, the first F of stream 1 absent: stream 2, which has no filler and is read one further, stands alone first; the last place of
+-- column 31 wraps to a dummy
+unfoldable pub pairUnit : ℕ → ℕ → ℕ → Unit
+pairUnit D F c = record {
+  alone = circlePlace (32 * rows D + c * (2 * rows D) + second (rowsBefore (dummies D) (column c + 1)));
+  both = circlePlace (32 * rows D + c * (2 * rows D) + 2 * rowsBefore (dummies D + F) (column c));
+  end = circlePlace (32 * rows D + c * (2 * rows D) + lastPlace (rows D) (column c));
+  early = (2, column c + 1 + 32 * rowsBefore (dummies D) (column c + 1) - dummies D);
+  first = (1, column c + 32 * rowsBefore (dummies D + F) (column c) - dummies D);
+}
+
+-- unit u of the 64
+unfoldable pub unitAt : ℕ → ℕ → ℕ → Unit
+unitAt D F u = cond (ltb u 32) (columnUnit D F u) (pairUnit D F (u - 32))
+
+-- a unit that has no place
+unfoldable pub noUnit : Unit
+noUnit = record { alone = circlePlace 0; both = circlePlace 0; end = circlePlace 0; early = (0, 0); first = (0, 0) }
+
+-- unit u, where streams of D places with F filler bits have it
+unfoldable pub unitWithin : ℕ → ℕ → ℕ → Unit
+unitWithin D F u = cond (leb D longest && ltb F D && ltb u 64) (unitAt D F u) noUnit
+
+-- place k of those where stream 2 stands alone
+unfoldable pub alonePlace : Unit → ℕ → ℕ
+alonePlace U k = U .alone .0 + 2 * k
+
+-- how many they are, and how many places follow, which all hold a bit
+unfoldable pub aloneCount : Unit → ℕ
+aloneCount U = (U .both .0 + 1 - U .alone .0) / 2
+
+unfoldable pub bothCount : Unit → ℕ
+bothCount U = U .end .0 - U .both .0
+
+-- the places of a unit that hold a bit
+unfoldable pub unitPlaces : Unit → List ℕ
+unitPlaces U = tab (aloneCount U) (alonePlace U) ++ tabFrom (U .both .0) (bothCount U) itself
+
+-- how many of them lie before a place
+unfoldable pub bitsBefore : Unit → CirclePlace → ℕ
+bitsBefore U cut =
+    cond (ltb (U .both .0) (cut .0))
+    (aloneCount U + (min (U .end .0) (cut .0) - U .both .0))
+    ((cut .0 + 1 - U .alone .0) / 2)
 
 -- row q of a column that begins at a place
 unfoldable pub everyRow : List ℕ → ℕ → ℕ → ℕ
@@ -21,21 +79,16 @@ everyRow d from q = getD d (from + 32 * q) 0
 unfoldable pub pairRow : List ℕ → List ℕ → ℕ → ℕ → ℕ
 pairRow d1 d2 from k = cond (eqb (k % 2) 0) (everyRow d1 from (k / 2)) (everyRow d2 (from + 1) (k / 2))
 
--- the bits of column p of a stream of D places whose first F are absent: they begin behind the dummies and the filler
-unfoldable pub columnBits : ℕ → List ℕ → ℕ → ℕ → List ℕ
-columnBits D d F p =
-    tab (rows D - rowsBefore (dummies D + F) p) (everyRow d (p + 32 * rowsBefore (dummies D + F) p - dummies D))
+-- the bits of a unit: those of a column of d(0), or those of d(2) alone and then of d(1) and d(2) by turns
+unfoldable pub bitsOf : List ℕ → List ℕ → List ℕ → Unit → List ℕ
+bitsOf d0 d1 d2 U =
+    cond (eqb (U .first .0) 0)
+    (tab (bothCount U) (everyRow d0 (U .first .1)))
+    (tab (aloneCount U) (everyRow d2 (U .early .1)) ++ tab (bothCount U) (pairRow d1 d2 (U .first .1)))
 
--- the bits of column p of d(1), whose first F places are absent, and of d(2), read one further, by turns: d(2) alone first, then both;
--- in column 31 the last place wraps to a dummy
-unfoldable pub pairBits : ℕ → List ℕ → List ℕ → ℕ → ℕ → List ℕ
-pairBits D d1 d2 F p =
-    tab (rowsBefore (dummies D + F) p - rowsBefore (dummies D) (p + 1)) (everyRow d2 (p + 1 + 32 * rowsBefore (dummies D) (p + 1) - dummies D))
-    ++ tab (lastPlace (rows D) p - 2 * rowsBefore (dummies D + F) p) (pairRow d1 d2 (p + 32 * rowsBefore (dummies D + F) p - dummies D))
-
--- the bits of unit u
+-- the bits of unit u of streams of D places with F filler bits
 unfoldable pub unitBits : ℕ → List ℕ → List ℕ → List ℕ → ℕ → ℕ → List ℕ
-unitBits D d0 d1 d2 F u = cond (ltb u 32) (columnBits D d0 F (column (u % 32))) (pairBits D d1 d2 F (column (u % 32)))
+unitBits D d0 d1 d2 F u = bitsOf d0 d1 d2 (unitWithin D F u)
 
 -- the bits of n units from u on
 unfoldable pub unitsFrom : ℕ → List ℕ → List ℕ → List ℕ → ℕ → ℕ → ℕ → List ℕ
@@ -61,24 +114,21 @@ wholeUnits Ncb R = 32 + (Ncb - 32 * R) / (2 * R)
 unfoldable pub restPlaces : ℕ → ℕ → ℕ
 restPlaces Ncb R = (Ncb - 32 * R) % (2 * R)
 
--- how many of the bits of column p of d(1) and d(2) stand at its first q places: those of d(2) alone, then those of both
-unfoldable pub bitsBefore : ℕ → ℕ → ℕ → ℕ → ℕ
-bitsBefore D F p q =
-    min (rowsBefore (dummies D + F) p) (q / 2) - rowsBefore (dummies D) (p + 1)
-    + (min (lastPlace (rows D) p) q - 2 * rowsBefore (dummies D + F) p)
+-- the places of a unit lie in order, on a circle
+pub record Lies (U : Unit) : Type 0 where
+  pub alone : U .alone .0 ≤ U .both .0 + 1
+  pub both : U .both .0 ≤ U .end .0
+  pub end : U .end .0 ≤ 18528
 
--- the bits at the first q places of unit u, one of d(1) and d(2)
-unfoldable pub restBits : ℕ → List ℕ → List ℕ → ℕ → ℕ → ℕ → List ℕ
-restBits D d1 d2 F u q = take (bitsBefore D F (column (u % 32)) q) (pairBits D d1 d2 F (column (u % 32)))
+-- and what it reads lies in streams of D places, row by row
+pub record Reads (D : ℕ) (U : Unit) : Type 0 where
+  pub lies : Lies U
+  pub column : U .first .0 ≡ 0 → U .first .1 + 32 * bothCount U ≤ D + 31
+  pub alone : (U .first .0 ≡ 0 → ⊥) → U .early .1 + 32 * aloneCount U ≤ D + 31
+  pub first : (U .first .0 ≡ 0 → ⊥) → U .first .1 + 32 * ((bothCount U + 1) / 2) ≤ D + 31
+  pub second : (U .first .0 ≡ 0 → ⊥) → U .first .1 + 32 * (bothCount U / 2) ≤ D + 30
 
--- streams of D = K + 4 places, K a multiple of 8, with F filler bits, and a column p of them
-pub record Laid (D F p : ℕ) : Type 0 where
-  pub some : D % 8 ≡ 4
-  pub most : D ≤ longest
-  pub filler : F < D
-  pub column : p < 32
-
--- three streams of one such length
+-- three streams of one length D = K + 4, K a multiple of 8, with F filler bits
 pub record Fitting (D D1 D2 F : ℕ) : Type 0 where
   pub first : D1 ≡ D
   pub second : D2 ≡ D

@@ -5,9 +5,7 @@ mod shortened;
 pub mod table;
 
 pub use mapping::first_places;
-pub use mapping::held_at;
-pub use mapping::place_of;
-pub use mapping::rows_before;
+pub use mapping::unit_at;
 pub use matcher::rate_match;
 pub use matcher::turn_after_turn;
 pub use shortened::turn_of;
@@ -18,16 +16,15 @@ pub struct StreamPlace(pub usize, pub usize);
 // A place on the circle, which runs to 96·R.
 pub struct CirclePlace(pub usize);
 
-// What a place on the circle holds: a place of a stream, or a dummy.
-pub enum Held {
-    Bit(StreamPlace),
-    Dummy,
-}
-
-// Where a place of a stream lies on the circle; nowhere if the streams have no such place.
-pub enum Lies {
-    At(CirclePlace),
-    Nowhere,
+// A unit of the circle: a column of stream 0, or a column of streams 1 and 2 by turns. Every place from `both` to `end` holds a bit, and `both` holds the
+// stream place `first`; row for row the stream place is 32 further. Before it, where stream 1 has dummies and filler, stream 2 stands alone at every
+// second place from `alone` on, which holds the stream place `early`; a column of stream 0 has no such place.
+pub struct Unit {
+    pub alone: CirclePlace,
+    pub both: CirclePlace,
+    pub end: CirclePlace,
+    pub early: StreamPlace,
+    pub first: StreamPlace,
 }
 
 // One turn of a circle by its 64 units, which are the 32 columns of stream 0 and the 32 of streams 1 and 2: from unit `start` to unit `whole`, then the

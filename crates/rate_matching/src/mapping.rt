@@ -1,94 +1,97 @@
-// The mapping functions: which stream place a circle place holds, and where a stream place lies, clauses 5.1.4.1.1 and 5.1.4.1.2.
+// The mapping functions: where a unit of the circle lies and which stream places it holds, and where a stream's first places lie, clauses 5.1.4.1.1 and
+// 5.1.4.1.2.
 use crate::CirclePlace;
-use crate::Held;
-use crate::Lies;
 use crate::StreamPlace;
+use crate::Unit;
 use crate::table::column_at;
 use crate::table::columns;
 ghost use mathlib.Core.Path.{_≡_};
 ghost use Prim.Native.Nat.{_*_, _≤_, _<_};
 ghost use Rattle.rate_matching.specs.Columns.{columnTable};
-ghost use Rattle.rate_matching.specs.SubBlocks.{rows, readPlain, readShifted, rowsBefore};
-ghost use Rattle.rate_matching.specs.Places.{heldY, heldAt, plainPlace, shiftedPlace, placeOf, firstPlaces, heldWithin, liesAt, firstsWithin, InStreams, OnCircle};
+ghost use Rattle.rate_matching.specs.SubBlocks.{rows, rowsBefore};
+ghost use Rattle.rate_matching.specs.Places.{plainPlace, shiftedPlace, placeOf, firstPlaces, firstsWithin, InStreams};
+ghost use Rattle.rate_matching.specs.Units.{columnUnit, pairUnit, unitWithin};
 
 // The largest D: that of K = 6,144.
 pub(crate) const LONGEST: usize = 6148;
 
 // The rows of the matrix, R.
-fn rows_of(d: usize) -> usize
+pub(crate) fn rows_of(d: usize) -> usize
     requires { ⌜ d ≤ 6148 ⌝ }
     ensures { λ r. ⌜ r ≡ rows d ⌝ }
 {
     (d + 31) / 32
 }
 
-// The y place that the plain rule reads at k.
-fn read_plain(rows: usize, k: usize) -> usize
-    requires { ⌜ (rows ≤ 193) × (k < 32 * rows) ⌝ }
-    ensures { λ r. ⌜ r ≡ readPlain rows k ⌝ }
+// How many of the places p, p + 32, p + 64, .. lie before place i: the rows of a column that are above it.
+fn rows_before(i: usize, p: usize) -> usize
+    ensures { λ r. ⌜ r ≡ rowsBefore i p ⌝ }
 {
-    column_at(k / rows) + 32 * (k % rows)
+    if i <= p { 0 } else { (i - p - 1) / 32 + 1 }
 }
 
-// The y place that the shifted rule reads at k.
-fn read_shifted(rows: usize, k: usize) -> usize
-    requires { ⌜ (rows ≤ 193) × (k < 32 * rows) ⌝ }
-    ensures { λ r. ⌜ r ≡ readShifted rows k ⌝ }
-{
-    (read_plain(rows, k) + 1) % (32 * rows)
-}
-
-// What y place y of stream s is.
-fn held_y(d: usize, s: usize, y: usize) -> Held
-    requires { ⌜ d ≤ 6148 ⌝ }
-    ensures { λ r. ⌜ r ≡ heldY d s y ⌝ }
-{
-    let dummies = 32 * rows_of(d) - d;
-    if y < dummies {
-        Held::Dummy
-    } else {
-        Held::Bit(StreamPlace(s, y - dummies))
-    }
-}
-
-// What a place on the circle of streams of d places holds.
-fn held_on_circle(d: usize, place: CirclePlace) -> Held
-    requires { ⌜ (d ≤ 6148) × OnCircle d place ⌝ }
-    ensures { λ r. ⌜ r ≡ heldAt d place ⌝ }
+// Column c of stream 0: its bits begin behind the dummies and the filler.
+fn column_unit(d: usize, filler: usize, c: usize) -> Unit
+    requires { ⌜ (d ≤ 6148) × (filler < d) × (c < 32) ⌝ }
+    ensures { λ r. ⌜ r ≡ columnUnit d filler c ⌝ }
 {
     let rows = rows_of(d);
-    let first = 32 * rows;
-    let at = place.0;
-    if at < first {
-        return held_y(d, 0, read_plain(rows, at));
-    }
-    let q = at - first;
-    if q % 2 == 0 {
-        return held_y(d, 1, read_plain(rows, q / 2));
-    }
-    held_y(d, 2, read_shifted(rows, q / 2))
-}
-
-// What a circle place holds for streams of d places; a dummy where there is no such place.
-pub fn held_at(d: usize, place: CirclePlace) -> Held
-    ensures { λ r. ⌜ r ≡ heldWithin d place ⌝ }
-{
-    if d > LONGEST {
-        return Held::Dummy;
-    }
-    let end = 96 * rows_of(d);
-    if place.0 < end {
-        held_on_circle(d, place)
-    } else {
-        Held::Dummy
+    let dummies = 32 * rows - d;
+    let p = column_at(c);
+    let row = rows_before(dummies + filler, p);
+    let begin = c * rows;
+    let both = CirclePlace(begin + row);
+    let end = CirclePlace(begin + rows);
+    let first = StreamPlace(0, p + 32 * row - dummies);
+    Unit {
+        alone: both,
+        both,
+        end,
+        early: first,
+        first,
     }
 }
 
-// How many of the places u, u + 32, u + 64, .. lie before place i: the rows of a column that are above it.
-pub fn rows_before(i: usize, u: usize) -> usize
-    ensures { λ r. ⌜ r ≡ rowsBefore i u ⌝ }
+// Column c of streams 1 and 2. Stream 2 has no filler and is read one further, so that its bits begin earlier; the last place of column 31 wraps to a dummy.
+fn pair_unit(d: usize, filler: usize, c: usize) -> Unit
+    requires { ⌜ (d ≤ 6148) × (filler < d) × (c < 32) ⌝ }
+    ensures { λ r. ⌜ r ≡ pairUnit d filler c ⌝ }
 {
-    if i <= u { 0 } else { (i - u - 1) / 32 + 1 }
+    let rows = rows_of(d);
+    let dummies = 32 * rows - d;
+    let p = column_at(c);
+    let lone = rows_before(dummies, p + 1);
+    let row = rows_before(dummies + filler, p);
+    let begin = 32 * rows + c * (2 * rows);
+    Unit {
+        alone: CirclePlace(begin + (2 * lone + 1)),
+        both: CirclePlace(begin + 2 * row),
+        end: CirclePlace(begin + (2 * rows - p / 31)),
+        early: StreamPlace(2, p + 1 + 32 * lone - dummies),
+        first: StreamPlace(1, p + 32 * row - dummies),
+    }
+}
+
+// Unit u of the circle of streams of d places, the first `filler` of streams 0 and 1 absent; all at place 0 where there is no such unit.
+pub fn unit_at(d: usize, filler: usize, u: usize) -> Unit
+    ensures { λ r. ⌜ r ≡ unitWithin d filler u ⌝ }
+{
+    let there = (d <= LONGEST) & (filler < d) & (u < 64);
+    if !there {
+        let place = CirclePlace(0);
+        let none = StreamPlace(0, 0);
+        return Unit {
+            alone: place,
+            both: place,
+            end: place,
+            early: none,
+            first: none,
+        };
+    }
+    if u < 32 {
+        return column_unit(d, filler, u);
+    }
+    pair_unit(d, filler, u - 32)
 }
 
 // Where the plain rule reads y place p. The table is lent, since a constant is copied whole wherever it is read.
@@ -124,21 +127,6 @@ fn lies_on_circle(table: &[u8; 32], d: usize, place: StreamPlace) -> CirclePlace
         return CirclePlace(first + 2 * plain_place(table, rows, p));
     }
     CirclePlace(first + 2 * shifted_place(table, rows, p) + 1)
-}
-
-// Where a stream place lies for streams of d places; nowhere if there is no such place.
-pub fn place_of(d: usize, place: StreamPlace) -> Lies
-    ensures { λ r. ⌜ r ≡ liesAt d place ⌝ }
-{
-    if d > LONGEST {
-        return Lies::Nowhere;
-    }
-    if place.0 < 3 && place.1 < d {
-        let table = columns();
-        Lies::At(lies_on_circle(&table, d, place))
-    } else {
-        Lies::Nowhere
-    }
 }
 
 // Where the first 32 places of stream s lie, one in each column; all at place 0 where streams of d places have no such places.

@@ -1,19 +1,20 @@
 // The block's rate matcher, clauses 5.1.4.1.1 and 5.1.4.1.2: where dummies and filler stand is known, so the bits of a turn go column by
 // column straight from the streams into a ring, no further than they are sent, and the ring is copied turn after turn.
+use crate::StreamPlace;
+use crate::Unit;
 use crate::mapping::LONGEST;
-use crate::mapping::rows_before;
-use crate::table::column_at;
-use crate::table::columns;
+use crate::mapping::rows_of;
+use crate::mapping::unit_at;
+use crate::shortened::turn_in;
 ghost use mathlib.Core.Path.{_≡_};
 ghost use mathlib.Core.Bool.{true};
 ghost use Prim.Native.Nat.{_+_, _-_, _*_, _/_, _%_, _^_, _≤_, _<_};
-ghost use lib.ListN.{length};
+ghost use lib.ListN.{length, take};
 ghost use Rattle.laws.specs.Lists.{tab};
 ghost use Rattle.rate_matching.specs.SubBlocks.{rows};
-ghost use Rattle.rate_matching.specs.Circle.{circleLength, Cut};
+ghost use Rattle.rate_matching.specs.Circle.{circleLength};
 ghost use Rattle.rate_matching.specs.Walk.{turnAfterTurn};
-ghost use Rattle.rate_matching.specs.Columns.{column};
-ghost use Rattle.rate_matching.specs.Units.{everyRow, pairRow, columnBits, pairBits, unitBits, unitsFrom, unitStart, startUnit, bitsBefore, restBits, Laid, Fitting, Holds, ringRoom, Put, PutTo};
+ghost use Rattle.rate_matching.specs.Units.{everyRow, pairRow, aloneCount, bothCount, bitsOf, unitsFrom, unitStart, Reads, Fitting, Holds, ringRoom, Put, PutTo};
 ghost use Rattle.rate_matching.specs.Matcher.{matchable, matchedInto, repeatedInto, TurnIn};
 
 // The room for a turn is filled when it is made, so there are three: for the circle of a short block, with R up to 5, or few bits of any block;
@@ -29,87 +30,56 @@ const MANY: usize = 2048;
 
 const FEW: usize = 512;
 
-// One column of a stream: every 32nd entry from place `from` on.
-fn read_column(d: &[u8], from: usize, part: &mut [u8])
-    requires { ⌜ from + 32 * length (now part) ≤ length (now d) + 31 ⌝ }
-    ensures { λ _. ⌜ now (part .exit) ≡ tab (length (now (part .entry))) (everyRow (now (d .entry)) from) ⌝ }
+// One column of a stream: every 32nd entry from a place on.
+fn read_column(d: &[u8], from: StreamPlace, part: &mut [u8])
+    requires { ⌜ from .1 + 32 * length (now part) ≤ length (now d) + 31 ⌝ }
+    ensures { λ _. ⌜ now (part .exit) ≡ tab (length (now (part .entry))) (everyRow (now (d .entry)) (from .1)) ⌝ }
 {
-    let mut at = from;
+    let mut below = 0;
     let mut q = 0;
     while q < part.len() {
-        part[q] = d[at];
-        at += 32;
+        part[q] = d[from.1 + below];
+        below += 32;
         q += 1;
     }
 }
 
 // A column of d(1) and the same column of d(2), one further, by turns.
-fn read_pairs(d1: &[u8], d2: &[u8], from: usize, part: &mut [u8])
-    requires { ⌜ (from + 32 * ((length (now part) + 1) / 2) ≤ length (now d1) + 31) × (from + 32 * (length (now part) / 2) ≤ length (now d2) + 30) ⌝ }
-    ensures { λ _. ⌜ now (part .exit) ≡ tab (length (now (part .entry))) (pairRow (now (d1 .entry)) (now (d2 .entry)) from) ⌝ }
+fn read_pairs(d1: &[u8], d2: &[u8], from: StreamPlace, part: &mut [u8])
+    requires { ⌜ (from .1 + 32 * ((length (now part) + 1) / 2) ≤ length (now d1) + 31) × (from .1 + 32 * (length (now part) / 2) ≤ length (now d2) + 30) ⌝ }
+    ensures { λ _. ⌜ now (part .exit) ≡ tab (length (now (part .entry))) (pairRow (now (d1 .entry)) (now (d2 .entry)) (from .1)) ⌝ }
 {
-    let mut at = from;
+    let mut below = 0;
     let mut k = 0;
     while k + 1 < part.len() {
-        part[k] = d1[at];
-        part[k + 1] = d2[at + 1];
-        at += 32;
+        part[k] = d1[from.1 + below];
+        part[k + 1] = d2[from.1 + below + 1];
+        below += 32;
         k += 2;
     }
     if k < part.len() {
-        part[k] = d1[at];
+        part[k] = d1[from.1 + below];
     }
 }
 
-// Puts the bits of a stream's column p into the ring from its place n on, and tells where they end.
-fn put_column(d: &[u8], filler: usize, p: usize, ring: &mut [u8], n: usize) -> usize
-    requires { ⌜ Laid (length (now d)) filler p × (n + rows (length (now d)) ≤ length (now ring)) ⌝ }
-    ensures { λ r. ⌜ Put (columnBits (length (now (d .entry))) (now (d .entry)) filler p) (now (ring .entry)) n (now (ring .exit)) r ⌝ }
+// Puts the bits of a unit into the ring from its place n on, and tells where they end: a column of d(0), or one of d(2) alone and then of d(1) and d(2) by
+// turns.
+fn put_unit(d0: &[u8], d1: &[u8], d2: &[u8], unit: Unit, ring: &mut [u8], n: usize) -> usize
+    requires { ⌜ (length (now d1) ≡ length (now d0)) × (length (now d2) ≡ length (now d0)) × Reads (length (now d0)) unit
+        × (n + (aloneCount unit + bothCount unit) ≤ length (now ring)) ⌝ }
+    ensures { λ r. ⌜ Put (bitsOf (now (d0 .entry)) (now (d1 .entry)) (now (d2 .entry)) unit) (now (ring .entry)) n (now (ring .exit)) r ⌝ }
 {
-    let rows = (d.len() + 31) / 32;
-    let dummies = 32 * rows - d.len();
-    let first = rows_before(dummies + filler, p);
-    let end = n + (rows - first);
-    read_column(d, p + 32 * first - dummies, &mut ring[n..end]);
-    end
-}
-
-// The same of column p of d(1) and d(2) by turns. In the first rows d(2), which has no filler and is read one further, stands alone;
-// the last place of column 31 wraps to a dummy.
-fn put_pairs(d1: &[u8], d2: &[u8], filler: usize, p: usize, ring: &mut [u8], n: usize) -> usize
-    requires { ⌜ Laid (length (now d1)) filler p × (length (now d2) ≡ length (now d1)) × (n + 2 * rows (length (now d1)) ≤ length (now ring)) ⌝ }
-    ensures { λ r. ⌜ Put (pairBits (length (now (d1 .entry))) (now (d1 .entry)) (now (d2 .entry)) filler p) (now (ring .entry)) n (now (ring .exit)) r ⌝ }
-{
-    let rows = (d1.len() + 31) / 32;
-    let dummies = 32 * rows - d1.len();
-    let early = rows_before(dummies, p + 1);
-    let first = rows_before(dummies + filler, p);
-    let mid = n + (first - early);
-    read_column(d2, p + 1 + 32 * early - dummies, &mut ring[n..mid]);
-    let end = mid + (2 * rows - p / 31 - 2 * first);
-    read_pairs(d1, d2, p + 32 * first - dummies, &mut ring[mid..end]);
-    end
-}
-
-// The circle falls into 64 units: the 32 columns of d(0), then those of d(1) and d(2) by turns. Unit u is made of column p.
-fn put_unit(
-    d0: &[u8],
-    d1: &[u8],
-    d2: &[u8],
-    filler: usize,
-    u: usize,
-    p: usize,
-    ring: &mut [u8],
-    n: usize,
-) -> usize
-    requires { ⌜ Fitting (length (now d0)) (length (now d1)) (length (now d2)) filler × (u < 64) × (p ≡ column (u % 32))
-        × (n + (unitStart (rows (length (now d0))) (u + 1) - unitStart (rows (length (now d0))) u) ≤ length (now ring)) ⌝ }
-    ensures { λ r. ⌜ Put (unitBits (length (now (d0 .entry))) (now (d0 .entry)) (now (d1 .entry)) (now (d2 .entry)) filler u) (now (ring .entry)) n (now (ring .exit)) r ⌝ }
-{
-    if u < 32 {
-        return put_column(d0, filler, p, ring, n);
+    let both = unit.end.0 - unit.both.0;
+    if unit.first.0 == 0 {
+        let end = n + both;
+        read_column(d0, unit.first, &mut ring[n..end]);
+        return end;
     }
-    put_pairs(d1, d2, filler, p, ring, n)
+    let mid = n + (unit.both.0 + 1 - unit.alone.0) / 2;
+    read_column(d2, unit.early, &mut ring[n..mid]);
+    let end = mid + both;
+    read_pairs(d1, d2, unit.first, &mut ring[mid..end]);
+    end
 }
 
 // Puts the bits of the units from `from` to `to` into the ring from its place n on until it holds `most`, and tells where they end.
@@ -131,70 +101,39 @@ fn put_units(
         (unitStart (rows (length (now (d0 .entry)))) to - unitStart (rows (length (now (d0 .entry)))) from)
         (now (ring .entry)) n (now (ring .exit)) r ⌝ }
 {
-    let p = columns();
     let mut end = n;
     let mut u = from;
     while (u < to) & (end < most) {
-        end = put_unit(d0, d1, d2, filler, u, p[u % 32] as usize, ring, end);
+        end = put_unit(d0, d1, d2, unit_at(d0.len(), filler, u), ring, end);
         u += 1;
     }
     end
 }
 
-// The unit that begins at the start of a version, on a circle of `rows` rows that is cut at `ncb`.
-pub(crate) fn start_unit(ncb: usize, rows: usize, version: usize) -> usize
-    requires { ⌜ Cut ncb rows × (rows ≤ 193) × (version ≤ 3) ⌝ }
-    ensures { λ r. ⌜ r ≡ startUnit ncb rows version ⌝ }
-{
-    let m = (ncb + (8 * rows - 1)) / (8 * rows) * version;
-    if m < 15 {
-        return 2 * m + 2;
-    }
-    m + 17
-}
-
-// How many bits stand at the first q places of column p of d(1) and d(2), streams of d places.
-pub(crate) fn bits_before(d: usize, filler: usize, p: usize, q: usize) -> usize
-    requires { ⌜ Laid d filler p × (q < 2 * rows d) ⌝ }
-    ensures { λ r. ⌜ r ≡ bitsBefore d filler p q ⌝ }
-{
-    let rows = (d + 31) / 32;
-    let dummies = 32 * rows - d;
-    let early = rows_before(dummies, p + 1);
-    let first = rows_before(dummies + filler, p);
-    if 2 * first < q {
-        return first - early + (q - 2 * first);
-    }
-    let row = q / 2;
-    if early < row { row - early } else { 0 }
-}
-
-// Puts the bits at the first q places of unit u, one of d(1) and d(2), into the ring from its place n on, unless it holds `most`, and tells where
-// they end. All bits of the unit are put, and those behind the q places left out of account.
+// Puts the first `rest` bits of a unit that the cut shortens into the ring from its place n on, unless it holds `most`, and tells where they end. All bits
+// of the unit are put, and those behind the cut left out of account.
 fn put_rest(
+    d0: &[u8],
     d1: &[u8],
     d2: &[u8],
-    filler: usize,
-    u: usize,
-    q: usize,
+    unit: Unit,
+    rest: usize,
     ring: &mut [u8],
     n: usize,
     most: usize,
 ) -> usize
-    requires { ⌜ Fitting (length (now d1)) (length (now d1)) (length (now d2)) filler × (q < 2 * rows (length (now d1))) × (n ≤ length (now ring))
-        × (0 < q → Holds (rows (length (now d1))) most (n + 2 * rows (length (now d1))) (length (now ring))) ⌝ }
-    ensures { λ r. ⌜ PutTo most (restBits (length (now (d1 .entry))) (now (d1 .entry)) (now (d2 .entry)) filler u q) q (now (ring .entry)) n (now (ring .exit)) r ⌝ }
+    requires { ⌜ (length (now d1) ≡ length (now d0)) × (length (now d2) ≡ length (now d0)) × Reads (length (now d0)) unit
+        × (rest ≤ length (bitsOf (now d0) (now d1) (now d2) unit)) × (n ≤ length (now ring)) × (0 < rest → n < most → n + (aloneCount unit + bothCount unit) ≤ length (now ring)) ⌝ }
+    ensures { λ r. ⌜ PutTo most (take rest (bitsOf (now (d0 .entry)) (now (d1 .entry)) (now (d2 .entry)) unit)) rest (now (ring .entry)) n (now (ring .exit)) r ⌝ }
 {
-    if q == 0 {
+    if rest == 0 {
         return n;
     }
     if most <= n {
         return n;
     }
-    let p = column_at(u % 32);
-    let end = n + bits_before(d1.len(), filler, p, q);
-    put_pairs(d1, d2, filler, p, ring, n);
-    end
+    put_unit(d0, d1, d2, unit, ring, n);
+    n + rest
 }
 
 // Fills `out` with the ring turn after turn; the last turn may be cut short.
@@ -261,7 +200,7 @@ pub(crate) fn matchable(
     if d > LONGEST {
         return false;
     }
-    let rows = (d + 31) / 32;
+    let rows = rows_of(d);
     (d1 == d)
         & (d2 == d)
         & (44 <= d)
@@ -287,13 +226,11 @@ fn put_turn(
         × Holds (rows (length (now d0))) most (circleLength (rows (length (now d0)))) (length (now ring)) × (0 < most) ⌝ }
     ensures { λ r. ⌜ TurnIn (now (d0 .entry)) (now (d1 .entry)) (now (d2 .entry)) filler ncb version most (now (ring .exit)) r ⌝ }
 {
-    let rows = (d0.len() + 31) / 32;
-    let start = start_unit(ncb, rows, version);
-    let pairs = ncb - 32 * rows;
-    let whole = 32 + pairs / (2 * rows);
-    let n = put_units(d0, d1, d2, filler, start, whole, ring, 0, most);
-    let m = put_rest(d1, d2, filler, whole, pairs % (2 * rows), ring, n, most);
-    put_units(d0, d1, d2, filler, 0, start, ring, m, most)
+    let turn = turn_in(d0.len(), filler, ncb, version);
+    let n = put_units(d0, d1, d2, filler, turn.start, turn.whole, ring, 0, most);
+    let cut = unit_at(d0.len(), filler, turn.whole);
+    let m = put_rest(d0, d1, d2, cut, turn.rest, ring, n, most);
+    put_units(d0, d1, d2, filler, 0, turn.start, ring, m, most)
 }
 
 // The places that a ring of streams of `d` places needs for `e` bits: those of the circle, or fewer where the bits end before.
@@ -301,7 +238,7 @@ fn ring_room(d: usize, e: usize) -> usize
     requires { ⌜ (d ≤ 6148) × (e < 2 ^ 63) ⌝ }
     ensures { λ r. ⌜ r ≡ ringRoom (rows d) e ⌝ }
 {
-    let rows = (d + 31) / 32;
+    let rows = rows_of(d);
     let some = e + 2 * rows;
     let all = 96 * rows;
     if some < all { some } else { all }

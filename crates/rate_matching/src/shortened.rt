@@ -1,16 +1,63 @@
 // A circle that is cut at N_cb, clause 5.1.4.1.2: for every N_cb that is accepted a version starts at the head of a unit, and the cut shortens one unit and
 // nothing else.
+use crate::CirclePlace;
 use crate::Turn;
+use crate::Unit;
 use crate::mapping::LONGEST;
-use crate::matcher::bits_before;
+use crate::mapping::rows_of;
+use crate::mapping::unit_at;
 use crate::matcher::matchable;
-use crate::matcher::start_unit;
-use crate::table::column_at;
 ghost use mathlib.Core.Path.{_≡_};
-ghost use Rattle.rate_matching.specs.Turns.{turnOf};
+ghost use mathlib.Core.Bool.{true};
+ghost use Prim.Native.Nat.{_+_, _≤_, _<_};
+ghost use Rattle.rate_matching.specs.Circle.{Cut};
+ghost use Rattle.rate_matching.specs.Units.{startUnit, bitsBefore, Lies};
+ghost use Rattle.rate_matching.specs.Matcher.{matchable};
+ghost use Rattle.rate_matching.specs.Turns.{unitsOf, turnOf};
 
-// The turn of redundancy version `version` for a code block with streams of d places, `filler` of them filler, that has a share `soft` of the soft buffer;
-// all 0 where there is no such code block or version, or its N_cb is below 32·R.
+// The unit that begins at the start of a version, on a circle of `rows` rows that is cut at `ncb`.
+fn start_unit(ncb: usize, rows: usize, version: usize) -> usize
+    requires { ⌜ Cut ncb rows × (rows ≤ 193) × (version ≤ 3) ⌝ }
+    ensures { λ r. ⌜ r ≡ startUnit ncb rows version ⌝ }
+{
+    let m = (ncb + (8 * rows - 1)) / (8 * rows) * version;
+    if m < 15 {
+        return 2 * m + 2;
+    }
+    m + 17
+}
+
+// How many bits of a unit lie before the place where the circle is cut.
+fn bits_before(unit: Unit, cut: CirclePlace) -> usize
+    requires { ⌜ Lies unit ⌝ }
+    ensures { λ r. ⌜ r ≡ bitsBefore unit cut ⌝ }
+{
+    if unit.both.0 < cut.0 {
+        let alone = (unit.both.0 + 1 - unit.alone.0) / 2;
+        if unit.end.0 < cut.0 {
+            return alone + (unit.end.0 - unit.both.0);
+        }
+        return alone + (cut.0 - unit.both.0);
+    }
+    if unit.alone.0 < cut.0 {
+        return (cut.0 + 1 - unit.alone.0) / 2;
+    }
+    0
+}
+
+// The turn of redundancy version `version` on a circle that is cut at `ncb`, of a code block with streams of d places, `filler` of them filler.
+pub(crate) fn turn_in(d: usize, filler: usize, ncb: usize, version: usize) -> Turn
+    requires { ⌜ matchable d d d filler ncb version ≡ true ⌝ }
+    ensures { λ r. ⌜ r ≡ unitsOf d filler ncb version ⌝ }
+{
+    let rows = rows_of(d);
+    let start = start_unit(ncb, rows, version);
+    let whole = 32 + (ncb - 32 * rows) / (2 * rows);
+    let rest = bits_before(unit_at(d, filler, whole), CirclePlace(ncb));
+    Turn { start, whole, rest }
+}
+
+// The same for a code block that has a share `soft` of the soft buffer; all 0 where there is no such code block or version, or its N_cb is below 32·R.
 pub fn turn_of(d: usize, filler: usize, soft: usize, version: usize) -> Turn
     ensures { λ r. ⌜ r ≡ turnOf d filler soft version ⌝ }
 {
@@ -22,15 +69,10 @@ pub fn turn_of(d: usize, filler: usize, soft: usize, version: usize) -> Turn
     if d > LONGEST {
         return none;
     }
-    let rows = (d + 31) / 32;
-    let all = 96 * rows;
+    let all = 96 * rows_of(d);
     let ncb = if soft < all { soft } else { all };
     if !matchable(d, d, d, filler, ncb, version) {
         return none;
     }
-    let start = start_unit(ncb, rows, version);
-    let pairs = ncb - 32 * rows;
-    let whole = 32 + pairs / (2 * rows);
-    let rest = bits_before(d, filler, column_at(whole % 32), pairs % (2 * rows));
-    Turn { start, whole, rest }
+    turn_in(d, filler, ncb, version)
 }

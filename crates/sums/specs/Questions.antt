@@ -10,11 +10,9 @@ use Rattle.interleaver.specs.Place.{secondPlace}
 use Rattle.segmentation.specs.Segmentation.{blocks, sizeOf, filler, firstRow}
 use Rattle.segmentation.specs.CodeBlocks.{withCheck}
 use Rattle.turbo.specs.Encoder.{start, parities}
-use Rattle.rate_matching.specs.declared.Held.{Held}
-use Rattle.rate_matching.specs.declared.Held.the-variants.{Bit, Dummy}
 use Rattle.rate_matching.specs.Circle.{startOf}
 use Rattle.rate_matching.specs.Walk.{sentPlaces}
-use Rattle.rate_matching.specs.Places.{heldAt}
+use Rattle.rate_matching.specs.Places.{Held, Bit, Dummy, heldAt}
 use Rattle.codeword.specs.Codeword.{blockCircle, blockRows}
 
 pub data Question : Type 0 where

@@ -1,66 +1,39 @@
--- `matcher::put_rest` meets its contract: no place, enough bits, or the whole unit, of which those at the first places count.
+-- `matcher::put_rest` meets its contract: no bit, enough bits, or the whole unit, of which the first count.
 -- Assumes nothing.
-use mathlib.Core.Path.{_∙_, ap, subst}
-use Prim.Native.Nat.{ℕ, _+_, _*_, _≤_}
+use Prim.Native.Nat.{_+_, _≤_}
 use native.Mathlib.Omega.{arith}
 use lib.ListN.{length}
-use Rattle.rate_matching.specs.SubBlocks.{rows}
-use Rattle.rate_matching.specs.Units.{pairBits, bitsBefore, Laid, Put}
-use Rattle.rate_matching.proofs.MatcherRing.{laid}
-use Rattle.rate_matching.proofs.MatcherRest.{count-few, rest-none, rest-enough, rest-fits, rest-put}
+use Rattle.rate_matching.specs.Units.{aloneCount, bothCount}
+use Rattle.rate_matching.proofs.MatcherRest.{rest-none, rest-enough, rest-put}
 use borrow.Author.Needs.{needs}
 use Rattle.rate_matching.proofs.matcher.put_rest.Statement.{statement}
 use Rattle.rate_matching.proofs.matcher.put_rest.Tie as tie
 
+-- past both tests: the function's entry, and room for the whole unit
+abbrev entry : tie.Else2 → tie.Start
+entry c = c .before .before .before .before .before .before
+
+room : (c : tie.Else2) → let e = entry c .args in e .n + (aloneCount (e .unit) + bothCount (e .unit)) ≤ length (e .ring .now)
+room c = entry c .pre .5 (omega (arith, c .before .if1 .left)) (c .if2 .left)
+
 returns : tie.Need-returns
-returns c = let s = c .before .before .before .before in rest-none _ _ _ _ _ (s .pre .2) (c .if1 .taken)
+returns c = rest-none _ (c .before .before .before .before .before .pre .4) (c .if1 .taken)
 
 returns-2 : tie.Need-returns-2
-returns-2 c = let s = c .before .before .before .before .before in rest-enough _ (s .pre .2) (c .if2 .taken)
+returns-2 c = rest-enough _ (c .before .before .before .before .before .before .pre .4) (c .if2 .taken)
 
-column-at-requires : tie.Need-column-at-requires
-column-at-requires c κs = search needs
+put-unit-requires : tie.Need-put-unit-requires
+put-unit-requires c κs = let e = c .before in let s = entry e in (s .pre .0, s .pre .1, s .pre .2, room e)
 
--- past both tests: the column, and room for the whole unit
-column-laid : (c : tie.After-column-at) → Laid (length (c .before .before .before .before .before .before .args .d1 .now)) (c .before .before .before .before .before .before .args .filler) (c .column-at .result)
-column-laid c = laid (c .before .before .before .before .before .before .pre .0) _ (c .column-at .ensures)
-
-unit-room : (c : tie.After-column-at) → c .before .before .before .before .before .before .args .n + 2 * rows (length (c .before .before .before .before .before .before .args .d1 .now)) ≤ length (c .before .before .before .before .before .before .args .ring .now)
-unit-room c =
-    let s = c .before .before .before .before .before .before in
-    rest-fits (s .pre .3 (omega (arith, c .before .before .if1 .left))) (c .before .if2 .left)
-
-bits-before-requires : tie.Need-bits-before-requires
-bits-before-requires c κs = (column-laid c, c .before .before .before .before .before .before .pre .1)
-
-add-end : tie.Need-add-end
-add-end c = let s = c .before .before .before .before .before .before .before in omega (arith, c .bits-before .ensures, count-few (length (s .args .d1 .now)) (s .args .filler) (c .before .column-at .result) (s .args .q), s .pre .1, unit-room (c .before))
-
-put-pairs-requires : tie.Need-put-pairs-requires
-put-pairs-requires c κs = (column-laid (c .before .before), c .before .before .before .before .before .before .before .before .pre .0 .second, unit-room (c .before .before))
+add-result : tie.Need-add-result
+add-result c = let put = c .before .before in let s = entry (put .before .before) in omega (arith, rest-put {most = s .args .most} (s .pre .4) (s .pre .3) (put .put-unit .ensures) .inside, put .put-unit .kept .1 .1 .1 .1 .0)
 
 same-length : tie.Need-same-length
 same-length c = search needs
 
 returns-3 : tie.Need-returns-3
-returns-3 c =
-    let put = c .before .before .put-pairs in
-    let counted = c .before .before .before .before in
-    let found = counted .before in
-    let s = found .before .before .before .before .before .before in
-    let put-at = subst (λ (p : ℕ). Put (pairBits (length (s .args .d1 .now)) (s .args .d1 .now) (s .args .d2 .now) (s .args .filler) p) (s .args .ring .now) (s .args .n) (put .last .1 .1 .1 .1 .0) (put .result)) (found .column-at .ensures) (put .ensures) in
-    rest-put _ _ _ _ _ (unit-room found) (put .kept .1 .1 .1 .1 .0) (s .pre .1) put-at
-    (ap (λ (b : ℕ). s .args .n + b) (counted .bits-before .ensures ∙ ap (λ (p : ℕ). bitsBefore (length (s .args .d1 .now)) (s .args .filler) p (s .args .q)) (found .column-at .ensures)))
+returns-3 c = let put = c .before .before in let s = entry (put .before .before) in rest-put (s .pre .4) (s .pre .3) (put .put-unit .ensures)
 
 pub put-rest-spec : {M : Type 1} → statement M
 put-rest-spec =
-    tie.close
-    (tie.spec
-    returns
-    returns-2
-    column-at-requires
-    bits-before-requires
-    add-end
-    put-pairs-requires
-    same-length
-    returns-3)
+    tie.close (tie.spec returns returns-2 put-unit-requires add-result same-length returns-3)

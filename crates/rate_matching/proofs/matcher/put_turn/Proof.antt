@@ -1,113 +1,58 @@
 -- `matcher::put_turn` meets its contract: the whole units from the start on, the one that is cut and those before the start are one turn.
 -- Assumes nothing.
-use mathlib.Core.Path.{_∙_}
-use native.Mathlib.Omega.{arith}
-use lib.ListN.{length}
-use Rattle.rate_matching.specs.SubBlocks.{rows}
-use Rattle.rate_matching.specs.Units.{wholeUnits, restPlaces}
-use Rattle.rate_matching.proofs.Cut.{whole-most}
-use Rattle.rate_matching.proofs.MatcherBlock.{Matchable, matchable-told, rows-few, start-in, first-room, rest-room, second-room, rest-needs, rest-told, turn-in}
+use Rattle.rate_matching.proofs.MatcherBlock.{matchable-told, one-length, first-needs, rest-needs, last-needs, turn-in}
 use borrow.Author.Needs.{needs}
 use Rattle.rate_matching.proofs.matcher.put_turn.Statement.{statement}
 use Rattle.rate_matching.proofs.matcher.put_turn.Tie as tie
 
--- what the test tells
-told : (s : tie.Start) → Matchable (length (s .args .d0 .now)) (length (s .args .d1 .now)) (length (s .args .d2 .now)) (s .args .filler) (s .args .ncb) (s .args .version)
-told s = matchable-told (s .pre .0)
+-- with the turn: the function's entry; with the unit that is cut: the whole units put, and the turn
+abbrev entry : tie.After-turn-in → tie.Start
+entry c = c .before .before .before .before .before
 
--- the function's entry, when all parts of the turn are put
-abbrev entry : tie.After-put-units2 → tie.Start
-entry c = c .before .before .before .before .before .before .before .before .before .before .before .before .before .before .before
+abbrev units : tie.After-unit-at → tie.After-put-units
+units c = c .before .before .before
 
-add-rows : tie.Need-add-rows
-add-rows c = search needs
+abbrev turned : tie.After-unit-at → tie.After-turn-in
+turned c = units c .before .before
 
-start-unit-requires : tie.Need-start-unit-requires
-unfolding rows
-start-unit-requires c κs = let m = told (c .before .before .before .before) in (m .cut, rows-few m, m .version)
-
-mul-pairs : tie.Need-mul-pairs
-mul-pairs c = search needs
-
-sub-pairs : tie.Need-sub-pairs
-unfolding rows
-sub-pairs c = told (c .before .before .before .before .before) .cut .least
-
-mul-whole : tie.Need-mul-whole
-mul-whole c = search needs
-
-div-whole : tie.Need-div-whole
-unfolding rows
-div-whole c = let m = told (c .before .before .before .before .before) in omega (arith, m .cut .some)
-
-add-whole : tie.Need-add-whole
-unfolding rows wholeUnits
-add-whole c = let m = told (c .before .before .before .before .before) in omega (arith, whole-most (m .cut))
+turn-in-requires : tie.Need-turn-in-requires
+turn-in-requires c κs = one-length (matchable-told (c .before .before .before .before .pre .0))
 
 put-units-requires : tie.Need-put-units-requires
-unfolding rows wholeUnits
-put-units-requires c κs =
-    let s = c .before .before .before .before .before .before in
-    let m = told s in
-    let e = c .before .start-unit .ensures in
-    (m .fits, start-in (m .cut) (m .version) e, whole-most (m .cut), omega arith, first-room (m .cut) (m .version) e (s .pre .1))
+put-units-requires c κs = let t = c .before in let s = entry t in first-needs (s .args .d0 .now) (s .args .d1 .now) (s .args .d2 .now) _ (s .args .ncb) (s .args .version) _ (s .pre .0) (t .turn-in .ensures) (s .pre .1)
 
-mul-put-rest : tie.Need-mul-put-rest
-mul-put-rest c = search needs
-
-rem-put-rest : tie.Need-rem-put-rest
-unfolding rows
-rem-put-rest c = let m = told (c .before .before .before .before .before .before .before .before .before) in omega (arith, m .cut .some)
+unit-at-requires : tie.Need-unit-at-requires
+unit-at-requires c κs = search needs
 
 put-rest-requires : tie.Need-put-rest-requires
-unfolding rows wholeUnits restPlaces
-put-rest-requires c κs =
-    let s = c .before .before .before .before .before .before .before .before .before .before in
-    let m = told s in
-    let e = c .before .before .before .before .before .start-unit .ensures in
-    let g = c .before .before .before .put-units in
-    rest-needs m (g .ensures .inside) (rest-room (m .cut) (m .version) e (s .pre .1) (g .ensures) (g .kept .1 .1 .1 .1 .1 .1 .0))
+put-rest-requires c κs = let u = c .before in let s = entry (turned u) in let g = units u in rest-needs _ _ _ _ _ _ _ (s .pre .0) (turned u .turn-in .ensures) (s .pre .1) (g .put-units .kept .1 .1 .1 .1 .1 .1 .0) (g .put-units .ensures) (u .unit-at .ensures)
 
 put-units-requires-2 : tie.Need-put-units-requires-2
-unfolding rows wholeUnits restPlaces
 put-units-requires-2 c κs =
-    let s = c .before .before .before .before .before .before .before .before .before .before .before .before .before .before in
-    let m = told s in
-    let e = c .before .before .before .before .before .before .before .before .before .start-unit .ensures in
-    let g = c .before .before .before .before .before .before .before .put-units in
-    let k = c .before .before .before .put-rest in (
-      m .fits,
-      omega arith,
-      omega (arith, start-in (m .cut) (m .version) e, whole-most (m .cut)),
-      k .ensures .inside,
-      second-room (m .cut) (m .version) e (s .pre .1) (g .ensures) (k .ensures) (k .kept .1 .1 .1 .1 .1 .0 ∙ g .kept .1 .1 .1 .1 .1 .1 .0),
-    )
+    let r = c .before .before .before in
+    let u = r .before .before in
+    let s = entry (turned u) in
+    let g = units u in
+    last-needs _ _ _ _ _ _ _ (s .pre .0) (turned u .turn-in .ensures) (s .pre .1) (g .put-units .kept .1 .1 .1 .1 .1 .1 .0) (g .put-units .ensures) (u .unit-at .ensures) (r .put-rest .ensures) (r .put-rest .kept .1 .1 .1 .1 .1 .0)
 
 same-length : tie.Need-same-length
 same-length c = search needs
 
 returns : tie.Need-returns
-unfolding rows wholeUnits restPlaces
 returns c =
-    let both = c .before .before in
-    let s = entry both in
-    turn-in _ _ _ _ _ _ _ (s .pre .0) (both .before .before .before .before .before .before .before .before .before .before .start-unit .ensures)
-    (both .before .before .before .before .before .before .before .before .put-units .ensures) (rest-told (told s) _ _ _ _ (both .before .before .before .before .put-rest .ensures)) (both .put-units2 .ensures) (s .pre .2)
+    let o = c .before .before in
+    let r = o .before .before .before .before in
+    let u = r .before .before in
+    let s = entry (turned u) in
+    turn-in _ _ _ _ _ _ _ (s .pre .0) (turned u .turn-in .ensures) (s .pre .2) (u .unit-at .ensures) (units u .put-units .ensures) (r .put-rest .ensures) (o .put-units2 .ensures)
 
 pub put-turn-spec : {M : Type 1} → statement M
 put-turn-spec =
     tie.close
     (tie.spec
-    add-rows
-    start-unit-requires
-    mul-pairs
-    sub-pairs
-    mul-whole
-    div-whole
-    add-whole
+    turn-in-requires
     put-units-requires
-    mul-put-rest
-    rem-put-rest
+    unit-at-requires
     put-rest-requires
     put-units-requires-2
     same-length

@@ -1,62 +1,61 @@
 -- `matcher::put_units` meets its contract: unit after unit, until there are enough bits or no more units.
 -- Assumes nothing.
-use mathlib.Core.Path.{_≡_, refl}
-use Prim.Native.Nat.{_-_, _%_}
+use Prim.Native.Nat.{_-_, _<_}
 use native.Mathlib.Omega.{arith}
 use lib.ListN.{length}
-use borrow.Author.Needs.{needs}
-use Rattle.rate_matching.specs.Columns.{columnTable}
-use Rattle.rate_matching.proofs.Columns.{table-at, table-below}
-use Rattle.rate_matching.proofs.MatcherRing.{laid, unit-few, Filling, filling-start, filling-goes, filling-room, filling-next, filling-ends}
+use Rattle.rate_matching.proofs.UnitPlaces.{unit-reads, unit-few}
+use Rattle.rate_matching.proofs.MatcherRing.{unit-long, unit-put, Filling, filling-start, filling-goes, filling-room, filling-next, filling-ends}
 use Rattle.rate_matching.proofs.matcher.put_units.Statement.{statement}
 use Rattle.rate_matching.proofs.matcher.put_units.Tie as tie
 
 abbrev Inv-loop : tie.InvT-loop
-Inv-loop d0 d1 d2 filler from to ring₀ n most p end₀ u₀ ring end u = (p ≡ columnTable) × Filling (length d0) d0 d1 d2 filler from to ring₀ n ring end u
+Inv-loop d0 d1 d2 filler from to ring₀ n most end₀ u₀ ring end u = Filling (length d0) d0 d1 d2 filler from to ring₀ n ring end u
 
 abbrev μ-loop : tie.MeasureT-loop
-μ-loop d0 d1 d2 filler from to ring₀ n most p end₀ u₀ ring end u = to - u
+μ-loop d0 d1 d2 filler from to ring₀ n most end₀ u₀ ring end u = to - u
 
-columns-requires : tie.Need-columns-requires Inv-loop μ-loop
-columns-requires c κs = search needs
+-- in the loop: the function's entry, what the loop's test tells, and the unit that was found
+abbrev entry : tie.In-loop Inv-loop μ-loop → tie.Start Inv-loop μ-loop
+entry c = c .before .before .before .before .before .before
+
+goes : (c : tie.In-loop Inv-loop μ-loop) → (c .before .loop .u < entry c .args .to) × (c .before .loop .end < entry c .args .most)
+goes c = filling-goes (c .before .loop .inv) _ (c .loop-test .taken)
+
+below : (c : tie.In-loop Inv-loop μ-loop) → c .before .loop .u < 64
+below c = omega (arith, goes c .0, entry c .pre .2)
 
 loop-holds : tie.Need-loop-holds Inv-loop μ-loop
-loop-holds c = let s = c .before .before .before .before .before in (c .columns .ensures, filling-start (s .pre .1) (s .pre .3))
+loop-holds c = let s = c .before .before .before .before in filling-start (s .pre .1) (s .pre .3)
 
-array-read-put-unit : tie.Need-array-read-put-unit Inv-loop μ-loop
-array-read-put-unit c = omega arith
-
-cast-put-unit : tie.Need-cast-put-unit Inv-loop μ-loop
-cast-put-unit c = omega (arith, table-below (c .before .loop .u % 32) (c .before .loop .inv .0) (omega arith))
+unit-at-requires : tie.Need-unit-at-requires Inv-loop μ-loop
+unit-at-requires c κs = tt
 
 put-unit-requires : tie.Need-put-unit-requires Inv-loop μ-loop
 put-unit-requires c κs =
-    let l = c .before .before .loop in
-    let s = c .before .before .before .before .before .before .before .before in
-    let h = filling-goes (l .inv .1) _ (c .before .loop-test .taken) in
-    (s .pre .0, omega (arith, h .0, s .pre .2), table-at _ (l .inv .0), filling-room (l .inv .1) (h .0) (h .1) (s .pre .4))
+    let l = c .before .before in
+    let f = entry l .pre .0 in
+    let found = c .before .unit-at .ensures in
+    (f .first, f .second, unit-reads _ (f .most) (f .filler) found, omega (arith, unit-few _ (f .most) (f .filler) found (below l), filling-room (l .before .loop .inv) (goes l .0) (goes l .1) (entry l .pre .4)))
 
 add-u : tie.Need-add-u Inv-loop μ-loop
-add-u c = let h = filling-goes (c .before .before .before .before .before .loop .inv .1) _ (c .before .before .before .before .loop-test .taken) in omega (arith, h .0)
+add-u c = omega (arith, below (c .before .before .before .before .before))
 
 loop-less : tie.Need-loop-less Inv-loop μ-loop
-loop-less c = let h = filling-goes (c .before .before .before .before .before .loop .inv .1) _ (c .before .before .before .before .loop-test .taken) in omega (arith, h .0)
+loop-less c = omega (arith, goes (c .before .before .before .before .before) .0)
 
 loop-again : tie.Need-loop-again Inv-loop μ-loop
 loop-again c =
-    let l = c .before .before .before .before .before .loop in
-    let s = c .before .before .before .before .before .before .before .before .before .before .before in
-    let h = filling-goes (l .inv .1) _ (c .before .before .before .before .loop-test .taken) in (
-      l .inv .0,
-      filling-next (l .inv .1) (h .0) (unit-few _ _ (l .u) _ _ _ (laid (s .pre .0) _ refl)) (filling-room (l .inv .1) (h .0) (h .1) (s .pre .4))
-          (c .before .before .put-unit .kept .1 .1 .1 .1 .1 .1 .0) (c .before .before .put-unit .ensures),
-    )
+    let put = c .before .before in
+    let l = put .before .before .before in
+    let f = entry l .pre .0 in
+    filling-next (l .before .loop .inv) (goes l .0) (unit-long _ _ _ _ (f .most) (f .filler) (below l)) (filling-room (l .before .loop .inv) (goes l .0) (goes l .1) (entry l .pre .4))
+    (put .put-unit .kept .1 .1 .1 .1 .0) (unit-put _ _ _ _ _ _ (put .before .before .unit-at .ensures) (put .put-unit .ensures))
 
 same-length : tie.Need-same-length Inv-loop μ-loop
-same-length c = c .before .loop .inv .1 .long
+same-length c = c .before .loop .inv .long
 
 returns : tie.Need-returns Inv-loop μ-loop
-returns c = filling-ends (c .before .loop .inv .1) _ (c .loop-test .left)
+returns c = filling-ends (c .before .loop .inv) _ (c .loop-test .left)
 
 pub put-units-spec : {M : Type 1} → statement M
 put-units-spec =
@@ -64,10 +63,8 @@ put-units-spec =
     (tie.spec
     Inv-loop
     μ-loop
-    columns-requires
     loop-holds
-    array-read-put-unit
-    cast-put-unit
+    unit-at-requires
     put-unit-requires
     add-u
     loop-less

@@ -13,15 +13,18 @@ use Rattle.rate_matching.proofs.matcher.read_column.Statement.{statemen
 use Rattle.rate_matching.proofs.matcher.read_column.Tie as tie
 
 abbrev Inv-loop : tie.InvT-loop
-Inv-loop y from part₀ at₀ q₀ part at q =
-    (at ≡ from + 32 * q) × (q ≤ length part₀)
-    × Writing part₀ part q (tabFrom q (length part₀ - q) (everyRow y from)) (tab (length part₀) (everyRow y from))
+Inv-loop d from part₀ below₀ q₀ part below q =
+    (below ≡ 32 * q) × (q ≤ length part₀)
+    × Writing part₀ part q (tabFrom q (length part₀ - q) (everyRow d (from .1))) (tab (length part₀) (everyRow d (from .1)))
 
 abbrev μ-loop : tie.MeasureT-loop
-μ-loop y from part₀ at₀ q₀ part at q = length part₀ - q
+μ-loop d from part₀ below₀ q₀ part below q = length part₀ - q
 
 loop-holds : tie.Need-loop-holds Inv-loop μ-loop
 loop-holds c = (omega arith, omega arith, same (sym (tab-rest _ _)) start)
+
+add-part : tie.Need-add-part Inv-loop μ-loop
+add-part c = omega arith
 
 shared-slice-read-part : tie.Need-shared-slice-read-part Inv-loop μ-loop
 shared-slice-read-part c = omega arith
@@ -29,8 +32,8 @@ shared-slice-read-part c = omega arith
 slice-write-part : tie.Need-slice-write-part Inv-loop μ-loop
 slice-write-part c = omega arith
 
-add-at : tie.Need-add-at Inv-loop μ-loop
-add-at c = omega arith
+add-below : tie.Need-add-below Inv-loop μ-loop
+add-below c = omega arith
 
 add-q : tie.Need-add-q Inv-loop μ-loop
 add-q c = omega arith
@@ -39,7 +42,7 @@ loop-less : tie.Need-loop-less Inv-loop μ-loop
 loop-less c = omega arith
 
 loop-again : tie.Need-loop-again Inv-loop μ-loop
-loop-again c = (omega arith, omega arith, column-next _ _ (c .before .before .loop .inv .0) (omega arith) (omega arith) (c .before .before .loop .inv .2))
+loop-again c = let l = c .before .before .before .loop in (omega (arith, l .inv .0), omega arith, column-next _ _ (l .inv .0) (omega arith) (omega arith) (l .inv .2))
 
 same-length : tie.Need-same-length Inv-loop μ-loop
 same-length c = c .before .loop .inv .2 .long
@@ -54,9 +57,10 @@ read-column-spec =
     Inv-loop
     μ-loop
     loop-holds
+    add-part
     shared-slice-read-part
     slice-write-part
-    add-at
+    add-below
     add-q
     loop-less
     loop-again

@@ -11,10 +11,10 @@ use Rattle.rate_matching.proofs.matcher.read_pairs.Statement.{statement
 use Rattle.rate_matching.proofs.matcher.read_pairs.Tie as tie
 
 abbrev Inv-loop : tie.InvT-loop
-Inv-loop d1 d2 from part₀ at₀ k₀ part at k = Pairing d1 d2 from part₀ part at k
+Inv-loop d1 d2 from part₀ below₀ k₀ part below k = Pairing d1 d2 (from .1) part₀ part below k
 
 abbrev μ-loop : tie.MeasureT-loop
-μ-loop d1 d2 from part₀ at₀ k₀ part at k = length part₀ - k
+μ-loop d1 d2 from part₀ below₀ k₀ part below k = length part₀ - k
 
 loop-holds : tie.Need-loop-holds Inv-loop μ-loop
 loop-holds c = pairing-start
@@ -22,26 +22,32 @@ loop-holds c = pairing-start
 add-loop : tie.Need-add-loop Inv-loop μ-loop
 add-loop c = omega arith
 
+add-part : tie.Need-add-part Inv-loop μ-loop
+add-part c = omega arith
+
 shared-slice-read-part : tie.Need-shared-slice-read-part Inv-loop μ-loop
 shared-slice-read-part c = omega arith
 
 slice-write-part : tie.Need-slice-write-part Inv-loop μ-loop
 slice-write-part c = omega arith
 
-add-part : tie.Need-add-part Inv-loop μ-loop
-add-part c = omega arith
+add-part-2 : tie.Need-add-part-2 Inv-loop μ-loop
+add-part-2 c = omega arith
+
+add-part-3 : tie.Need-add-part-3 Inv-loop μ-loop
+add-part-3 c = omega arith
 
 shared-slice-read-part-2 : tie.Need-shared-slice-read-part-2 Inv-loop μ-loop
 shared-slice-read-part-2 c = omega arith
 
-add-part-2 : tie.Need-add-part-2 Inv-loop μ-loop
-add-part-2 c = omega arith
+add-part-4 : tie.Need-add-part-4 Inv-loop μ-loop
+add-part-4 c = omega arith
 
 slice-write-part-2 : tie.Need-slice-write-part-2 Inv-loop μ-loop
 slice-write-part-2 c = simp length-set (omega arith)
 
-add-at : tie.Need-add-at Inv-loop μ-loop
-add-at c = omega arith
+add-below : tie.Need-add-below Inv-loop μ-loop
+add-below c = omega arith
 
 add-k : tie.Need-add-k Inv-loop μ-loop
 add-k c = omega arith
@@ -50,7 +56,10 @@ loop-less : tie.Need-loop-less Inv-loop μ-loop
 loop-less c = omega arith
 
 loop-again : tie.Need-loop-again Inv-loop μ-loop
-loop-again c = pair-next (c .before .before .before .loop .inv) (omega arith)
+loop-again c = pair-next (c .before .before .before .before .before .loop .inv) (omega arith)
+
+add-part-5 : tie.Need-add-part-5 Inv-loop μ-loop
+add-part-5 c = omega arith
 
 shared-slice-read-part-3 : tie.Need-shared-slice-read-part-3 Inv-loop μ-loop
 shared-slice-read-part-3 c = omega arith
@@ -59,10 +68,10 @@ slice-write-part-3 : tie.Need-slice-write-part-3 Inv-loop μ-loop
 slice-write-part-3 c = omega arith
 
 same-length : tie.Need-same-length Inv-loop μ-loop
-same-length c = length-set (c .before .before .before .loop .part) (c .before .before .before .loop .k) _ ∙ c .before .before .before .loop .inv .wrote .long
+same-length c = let l = c .before .before .before .before .loop in length-set (l .part) (l .k) _ ∙ l .inv .wrote .long
 
 returns : tie.Need-returns Inv-loop μ-loop
-returns c = finish-all (simp length-set (omega arith)) (rest-none _ _ _ (omega (arith, c .before .before .before .loop .inv .wrote .long))) (pair-one (c .before .before .before .loop .inv) (omega arith))
+returns c = let l = c .before .before .before .before .loop in finish-all (simp length-set (omega arith)) (rest-none _ _ _ (omega (arith, l .inv .wrote .long))) (pair-one (l .inv) (omega arith))
 
 same-length-2 : tie.Need-same-length-2 Inv-loop μ-loop
 same-length-2 c = c .before .before .loop .inv .wrote .long
@@ -78,16 +87,19 @@ read-pairs-spec =
     μ-loop
     loop-holds
     add-loop
+    add-part
     shared-slice-read-part
     slice-write-part
-    add-part
-    shared-slice-read-part-2
     add-part-2
+    add-part-3
+    shared-slice-read-part-2
+    add-part-4
     slice-write-part-2
-    add-at
+    add-below
     add-k
     loop-less
     loop-again
+    add-part-5
     shared-slice-read-part-3
     slice-write-part-3
     same-length

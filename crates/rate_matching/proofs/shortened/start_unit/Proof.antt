@@ -1,4 +1,4 @@
--- `matcher::start_unit` meets its contract: it is the definition, case by case; the numbers are small.
+-- `shortened::start_unit` meets its contract: it is the definition, case by case; the numbers are small.
 -- Assumes nothing.
 use Prim.Native.Nat.{_*_, _≤_}
 use native.Mathlib.Nat.{mul-le-mul-left}
@@ -8,8 +8,8 @@ use Rattle.rate_matching.specs.Circle.{circleLength}
 use Rattle.rate_matching.specs.Units.{unitOf, startUnit}
 use Rattle.rate_matching.proofs.Circle.{eighths, eighths-told}
 use borrow.Author.Needs.{needs}
-use Rattle.rate_matching.proofs.matcher.start_unit.Statement.{statement}
-use Rattle.rate_matching.proofs.matcher.start_unit.Tie as tie
+use Rattle.rate_matching.proofs.shortened.start_unit.Statement.{statement}
+use Rattle.rate_matching.proofs.shortened.start_unit.Tie as tie
 
 -- ⌈N_cb / 8R⌉·v is small
 few : (c : tie.Start) → eighths (c .args .ncb) (c .args .rows) * c .args .version ≤ 36

@@ -1,0 +1,90 @@
+-- `mapping::column_unit` meets its contract: the rows found are those of the definition (`UnitPlaces`).
+-- Assumes nothing.
+use mathlib.Core.Path.{refl}
+use Prim.Native.Nat.{_+_, _-_, _*_, _<_}
+use native.Mathlib.Nat.{mul-le-mul-right}
+use native.Mathlib.Omega.{arith}
+use Rattle.rate_matching.specs.SubBlocks.{rows, dummies, rowsBefore}
+use Rattle.rate_matching.specs.Units.{columnUnit}
+use Rattle.rate_matching.proofs.Columns.{column-rule}
+use Rattle.rate_matching.proofs.UnitPlaces.{Rowed, rowed}
+use borrow.Author.Needs.{needs}
+use Rattle.rate_matching.proofs.mapping.column_unit.Statement.{statement}
+use Rattle.rate_matching.proofs.mapping.column_unit.Tie as tie
+
+-- the rows that were found, and the function's entry
+abbrev entry : tie.After-rows-before → tie.Start
+entry c = c .before .before .before
+
+found : (c : tie.After-rows-before) → let e = entry c .args in
+    let R = c .before .before .rows-of .result in
+    let p = c .before .column-at .result in
+    Rowed (e .d) (e .filler) p R (32 * R - e .d) (rowsBefore (32 * R - e .d) (p + 1)) (c .rows-before .result)
+found c =
+    let s = entry c in
+    let low : c .before .column-at .result < 32 = rw (c .before .column-at .ensures) (column-rule (s .args .c) (s .pre .2) .0) in
+    rowed (s .pre .0) (s .pre .1) low (c .before .before .rows-of .ensures) refl refl (c .rows-before .ensures)
+
+rows-of-requires : tie.Need-rows-of-requires
+rows-of-requires c κs = search needs
+
+mul-dummies : tie.Need-mul-dummies
+unfolding rows
+mul-dummies c = omega arith
+
+sub-dummies : tie.Need-sub-dummies
+unfolding rows
+sub-dummies c = omega arith
+
+column-at-requires : tie.Need-column-at-requires
+column-at-requires c κs = search needs
+
+add-rows-before : tie.Need-add-rows-before
+unfolding rows
+add-rows-before c = omega arith
+
+rows-before-requires : tie.Need-rows-before-requires
+rows-before-requires c κs = search needs
+
+mul-begin : tie.Need-mul-begin
+unfolding rows
+mul-begin c = let r = found c in omega (arith, r .few, mul-le-mul-right (c .before .before .rows-of .result) (entry c .pre .2))
+
+add-t12 : tie.Need-add-t12
+unfolding rows
+add-t12 c = let r = found c in omega (arith, r .few, r .high, mul-le-mul-right (c .before .before .rows-of .result) (entry c .pre .2))
+
+add-t12-2 : tie.Need-add-t12-2
+unfolding rows
+add-t12-2 c = let r = found c in omega (arith, r .few, r .high, mul-le-mul-right (c .before .before .rows-of .result) (entry c .pre .2))
+
+mul-t12 : tie.Need-mul-t12
+mul-t12 c = let r = found c in omega (arith, r .few, r .high)
+
+add-t13 : tie.Need-add-t13
+add-t13 c = let r = found c in omega (arith, r .few, r .high, r .column)
+
+sub-t14 : tie.Need-sub-t14
+sub-t14 c = found c .behind
+
+returns : tie.Need-returns
+unfolding columnUnit dummies
+returns c = simp (c .rows-before .ensures, c .before .column-at .ensures, c .before .before .rows-of .ensures)
+
+pub column-unit-spec : {M : Type 1} → statement M
+column-unit-spec =
+    tie.close
+    (tie.spec
+    rows-of-requires
+    mul-dummies
+    sub-dummies
+    column-at-requires
+    add-rows-before
+    rows-before-requires
+    mul-begin
+    add-t12
+    add-t12-2
+    mul-t12
+    add-t13
+    sub-t14
+    returns)

@@ -1,0 +1,148 @@
+-- `mapping::pair_unit` meets its contract: the rows found are those of the definition (`UnitPlaces`).
+-- Assumes nothing.
+use mathlib.Core.Path.{refl}
+use Prim.Native.Nat.{_-_, _*_, _<_}
+use native.Mathlib.Nat.{mul-le-mul-right}
+use native.Mathlib.Omega.{arith}
+use Rattle.rate_matching.specs.SubBlocks.{rows, dummies}
+use Rattle.rate_matching.specs.Shape.{second, lastPlace}
+use Rattle.rate_matching.specs.Units.{pairUnit}
+use Rattle.rate_matching.proofs.Columns.{column-rule}
+use Rattle.rate_matching.proofs.UnitPlaces.{Rowed, rowed}
+use borrow.Author.Needs.{needs}
+use Rattle.rate_matching.proofs.mapping.pair_unit.Statement.{statement}
+use Rattle.rate_matching.proofs.mapping.pair_unit.Tie as tie
+
+-- the rows that were found, and the function's entry
+abbrev entry : tie.After-rows-before2 → tie.Start
+entry c = c .before .before .before .before
+
+found : (c : tie.After-rows-before2) → let e = entry c .args in
+    let R = c .before .before .before .rows-of .result in
+    Rowed (e .d) (e .filler) (c .before .before .column-at .result) R (32 * R - e .d) (c .before .rows-before .result) (c .rows-before2 .result)
+found c =
+    let s = entry c in
+    let low : c .before .before .column-at .result < 32 = rw (c .before .before .column-at .ensures) (column-rule (s .args .c) (s .pre .2) .0) in
+    rowed (s .pre .0) (s .pre .1) low (c .before .before .before .rows-of .ensures) refl (c .before .rows-before .ensures) (c .rows-before2 .ensures)
+
+rows-of-requires : tie.Need-rows-of-requires
+rows-of-requires c κs = search needs
+
+mul-dummies : tie.Need-mul-dummies
+unfolding rows
+mul-dummies c = omega arith
+
+sub-dummies : tie.Need-sub-dummies
+unfolding rows
+sub-dummies c = omega arith
+
+column-at-requires : tie.Need-column-at-requires
+column-at-requires c κs = search needs
+
+add-rows-before : tie.Need-add-rows-before
+unfolding rows
+add-rows-before c = omega (arith, column-rule (c .before .before .args .c) (c .before .before .pre .2) .0)
+
+rows-before-requires : tie.Need-rows-before-requires
+rows-before-requires c κs = search needs
+
+add-rows-before-2 : tie.Need-add-rows-before-2
+unfolding rows
+add-rows-before-2 c = omega arith
+
+rows-before-requires-2 : tie.Need-rows-before-requires-2
+rows-before-requires-2 c κs = search needs
+
+mul-begin : tie.Need-mul-begin
+mul-begin c = let r = found c in omega (arith, r .few, r .high, r .alone, r .column, mul-le-mul-right (2 * c .before .before .before .rows-of .result) (entry c .pre .2))
+
+mul-begin-2 : tie.Need-mul-begin-2
+mul-begin-2 c = let r = found c in omega (arith, r .few, r .high, r .alone, r .column, mul-le-mul-right (2 * c .before .before .before .rows-of .result) (entry c .pre .2))
+
+mul-begin-3 : tie.Need-mul-begin-3
+mul-begin-3 c = let r = found c in omega (arith, r .few, r .high, r .alone, r .column, mul-le-mul-right (2 * c .before .before .before .rows-of .result) (entry c .pre .2))
+
+add-begin : tie.Need-add-begin
+add-begin c = let r = found c in omega (arith, r .few, r .high, r .alone, r .column, mul-le-mul-right (2 * c .before .before .before .rows-of .result) (entry c .pre .2))
+
+mul-t10 : tie.Need-mul-t10
+mul-t10 c = let r = found c in omega (arith, r .few, r .high, r .alone, r .column, mul-le-mul-right (2 * c .before .before .before .rows-of .result) (entry c .pre .2))
+
+add-t12 : tie.Need-add-t12
+add-t12 c = let r = found c in omega (arith, r .few, r .high, r .alone, r .column, mul-le-mul-right (2 * c .before .before .before .rows-of .result) (entry c .pre .2))
+
+add-t11 : tie.Need-add-t11
+add-t11 c = let r = found c in omega (arith, r .few, r .high, r .alone, r .column, mul-le-mul-right (2 * c .before .before .before .rows-of .result) (entry c .pre .2))
+
+mul-t14 : tie.Need-mul-t14
+mul-t14 c = let r = found c in omega (arith, r .few, r .high, r .alone, r .column, mul-le-mul-right (2 * c .before .before .before .rows-of .result) (entry c .pre .2))
+
+add-t15 : tie.Need-add-t15
+add-t15 c = let r = found c in omega (arith, r .few, r .high, r .alone, r .column, mul-le-mul-right (2 * c .before .before .before .rows-of .result) (entry c .pre .2))
+
+mul-t17 : tie.Need-mul-t17
+mul-t17 c = let r = found c in omega (arith, r .few, r .high, r .alone, r .column, mul-le-mul-right (2 * c .before .before .before .rows-of .result) (entry c .pre .2))
+
+sub-t19 : tie.Need-sub-t19
+sub-t19 c = let r = found c in omega (arith, r .last)
+
+add-t20 : tie.Need-add-t20
+add-t20 c = let r = found c in omega (arith, r .few, r .high, r .alone, r .column, mul-le-mul-right (2 * c .before .before .before .rows-of .result) (entry c .pre .2))
+
+add-t22 : tie.Need-add-t22
+add-t22 c = let r = found c in omega (arith, r .few, r .high, r .alone, r .column, mul-le-mul-right (2 * c .before .before .before .rows-of .result) (entry c .pre .2))
+
+mul-t23 : tie.Need-mul-t23
+mul-t23 c = let r = found c in omega (arith, r .few, r .high, r .alone, r .column, mul-le-mul-right (2 * c .before .before .before .rows-of .result) (entry c .pre .2))
+
+add-t24 : tie.Need-add-t24
+add-t24 c = let r = found c in omega (arith, r .few, r .high, r .alone, r .column, mul-le-mul-right (2 * c .before .before .before .rows-of .result) (entry c .pre .2))
+
+sub-t25 : tie.Need-sub-t25
+sub-t25 c = found c .early
+
+mul-t27 : tie.Need-mul-t27
+mul-t27 c = let r = found c in omega (arith, r .few, r .high, r .alone, r .column, mul-le-mul-right (2 * c .before .before .before .rows-of .result) (entry c .pre .2))
+
+add-t28 : tie.Need-add-t28
+add-t28 c = let r = found c in omega (arith, r .few, r .high, r .alone, r .column, mul-le-mul-right (2 * c .before .before .before .rows-of .result) (entry c .pre .2))
+
+sub-t29 : tie.Need-sub-t29
+sub-t29 c = found c .behind
+
+returns : tie.Need-returns
+unfolding pairUnit dummies second lastPlace
+returns c = simp (c .rows-before2 .ensures, c .before .rows-before .ensures, c .before .before .column-at .ensures, c .before .before .before .rows-of .ensures)
+
+pub pair-unit-spec : {M : Type 1} → statement M
+pair-unit-spec =
+    tie.close
+    (tie.spec
+    rows-of-requires
+    mul-dummies
+    sub-dummies
+    column-at-requires
+    add-rows-before
+    rows-before-requires
+    add-rows-before-2
+    rows-before-requires-2
+    mul-begin
+    mul-begin-2
+    mul-begin-3
+    add-begin
+    mul-t10
+    add-t12
+    add-t11
+    mul-t14
+    add-t15
+    mul-t17
+    sub-t19
+    add-t20
+    add-t22
+    mul-t23
+    add-t24
+    sub-t25
+    mul-t27
+    add-t28
+    sub-t29
+    returns)

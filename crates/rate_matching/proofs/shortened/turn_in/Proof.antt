@@ -1,0 +1,69 @@
+-- `shortened::turn_in` meets its contract: the numbers are the definition's.
+-- Assumes nothing.
+use Prim.Native.Nat.{_*_, _≤_}
+use native.Mathlib.Omega.{arith}
+use Rattle.rate_matching.specs.Units.{wholeUnits}
+use Rattle.rate_matching.specs.Turns.{unitsOf}
+use Rattle.rate_matching.proofs.Cut.{whole-most}
+use Rattle.rate_matching.proofs.UnitPlaces.{unit-reads}
+use Rattle.rate_matching.proofs.MatcherBlock.{Matchable, matchable-told, rows-few}
+use borrow.Author.Needs.{needs}
+use Rattle.rate_matching.proofs.shortened.turn_in.Statement.{statement}
+use Rattle.rate_matching.proofs.shortened.turn_in.Tie as tie
+
+-- what the test tells, of the rows too
+told : (c : tie.Start) → let e = c .args in Matchable (e .d) (e .d) (e .d) (e .filler) (e .ncb) (e .version)
+told c = matchable-told (c .pre)
+
+few : (c : tie.After-start-unit) → c .before .rows-of .result ≤ 193
+few c = rw (c .before .rows-of .ensures) (rows-few (told (c .before .before)))
+
+least : (c : tie.After-start-unit) → (1 ≤ c .before .rows-of .result) × (32 * c .before .rows-of .result ≤ c .before .before .args .ncb)
+least c = let m = told (c .before .before) in rw (c .before .rows-of .ensures) (m .cut .some, m .cut .least)
+
+rows-of-requires : tie.Need-rows-of-requires
+rows-of-requires c κs = told c .fits .most
+
+start-unit-requires : tie.Need-start-unit-requires
+start-unit-requires c κs = let m = told (c .before) in rw (c .rows-of .ensures) (m .cut, rows-few m, m .version)
+
+mul-whole : tie.Need-mul-whole
+mul-whole c = omega (arith, few c)
+
+sub-whole : tie.Need-sub-whole
+sub-whole c = omega (arith, least c)
+
+mul-whole-2 : tie.Need-mul-whole-2
+mul-whole-2 c = omega (arith, few c)
+
+div-whole : tie.Need-div-whole
+div-whole c = omega (arith, least c, few c)
+
+add-whole : tie.Need-add-whole
+unfolding wholeUnits
+add-whole c = let m = told (c .before .before) in rw (c .before .rows-of .ensures) (omega (arith, whole-most (m .cut)))
+
+unit-at-requires : tie.Need-unit-at-requires
+unit-at-requires c κs = search needs
+
+bits-before-requires : tie.Need-bits-before-requires
+bits-before-requires c κs = let m = told (c .before .before .before) in unit-reads _ (m .fits .most) (m .fits .filler) (c .unit-at .ensures) .lies
+
+returns : tie.Need-returns
+unfolding unitsOf wholeUnits
+returns c = simp (c .bits-before .ensures, c .before .unit-at .ensures, c .before .before .start-unit .ensures, c .before .before .before .rows-of .ensures)
+
+pub turn-in-spec : {M : Type 1} → statement M
+turn-in-spec =
+    tie.close
+    (tie.spec
+    rows-of-requires
+    start-unit-requires
+    mul-whole
+    sub-whole
+    mul-whole-2
+    div-whole
+    add-whole
+    unit-at-requires
+    bits-before-requires
+    returns)
