@@ -1,15 +1,16 @@
 -- What an accepted Receive of 01 may go on: the slot's room lies in the store and has the block's code blocks; and what it is to answer and to store.
 -- Assumes nothing.
-use mathlib.Core.Path.{_≡_, sym, _∙_, ap}
+use mathlib.Core.Path.{_≡_, refl, sym, _∙_, ap}
 use mathlib.Core.Bool.{true, false}
-use mathlib.Core.List.{List}
+use mathlib.Core.List.{List, _++_}
 use Prim.Native.Nat.{ℕ, _+_, _-_, _*_, _≤_}
-use native.Mathlib.Nat.{mul-le-mul}
+use native.Mathlib.Nat.{mul-le-mul, mul-le-mul-right}
 use native.Mathlib.Omega.{arith}
-use lib.ListN.{length}
-use borrow.Author.Tests.{ltb-false, le-leb}
+use lib.ListN.{length, take, drop, take-append-drop}
+use borrow.Author.Tests.{ltb-false, le-ltb, le-leb}
 use borrow.Rule.Slice.PartMut.{midOf, putMid}
 use Rattle.laws.specs.Bits.{AreBits}
+use Rattle.laws.proofs.Parts.{length-mid}
 use Rattle.segmentation.specs.Segmentation.{blocks}
 use Rattle.segmentation.specs.Sizes.{badSize}
 use Rattle.segmentation.proofs.Segmentation.{good-size}
@@ -27,9 +28,12 @@ use Rattle.slots.specs.Calls.{sizeAtHead, shareAtHead, receiveNumber, receiveSt
 use Rattle.slots.proofs.Acceptance.{receives}
 use Rattle.slots.proofs.Accepted.{good, room-within}
 use Rattle.slots.proofs.Buffers.{Wide}
+use Rattle.slots.proofs.RoomLaws.{AllPlaces}
+use Rattle.slots.proofs.PlaceBounds.{sent-below}
 use Rattle.reading.specs.Room.{roomFits}
+use Rattle.reading.proofs.Lent.{mid-put, lacking-lent}
 use Rattle.reception.specs.inner.Parts.{Accepted}
-use Rattle.reception.proofs.Slot.{room-accepts, room-received, room-lacking}
+use Rattle.reception.proofs.Behind.{received-behind}
 
 -- the room after the bits are put is as long, so the places can be counted
 pub fits-still : {A soft Q N v n m : ℕ} {bits : List ℕ} → Accepted A soft Q N v bits n → m ≡ n → roomFits A m ≡ true
@@ -75,12 +79,16 @@ roomBytes state = state .blocks * perBlock
 abbrev pub roomFrom : State → ℕ → ℕ
 roomFrom state slot = slot * roomBytes state
 
+-- how much is lent, as the slice's two ends say it
+abbrev pub lentLength : State → ℕ → ℕ
+lentLength state slot = roomFrom state slot + roomBytes state - roomFrom state slot
+
 abbrev pub lent : State → ℕ → List ℕ → List ℕ
-lent state slot store = midOf (roomFrom state slot) (roomFrom state slot + roomBytes state - roomFrom state slot) store
+lent state slot store = midOf (roomFrom state slot) (lentLength state slot) store
 
 -- the store when the room is back
 abbrev pub putBack : State → ℕ → List ℕ → List ℕ → List ℕ
-putBack state slot store room = putMid (roomFrom state slot) (roomFrom state slot + roomBytes state - roomFrom state slot) store room
+putBack state slot store room = putMid (roomFrom state slot) (lentLength state slot) store room
 
 module _ {state : State} {room slot Q N v : ℕ} {bits : List ℕ} (is : Ready state room slot Q N v bits) where
   -- where it lies can be computed
@@ -98,24 +106,43 @@ module _ {state : State} {room slot Q N v : ℕ} {bits : List ℕ} (is : Ready s
 -- ---- a reception of number 0 with `size` for the A of the slot's head and `soft` for its share
 
 module _ {state : State} {slot Q N v : ℕ} {bits : List ℕ} (store : List ℕ) {size soft : ℕ} (is : Ready state (length store) slot Q N v bits) (sized : size ≡ sizeAtHead state slot) (shared : soft ≡ shareAtHead state slot) where
+  abbrev A : ℕ
+  A = sizeAtHead state slot
+
+  abbrev share : ℕ
+  share = shareAtHead state slot
+
+  lent-long : length (lent state slot store) ≡ lentLength state slot
+  lent-long = length-mid (roomFrom state slot) (roomFrom state slot + roomBytes state) store (room-in is)
+
+  enough : blocks (A + 24) * perBlock ≤ length (lent state slot store)
+  enough = omega (arith, lent-long, mul-le-mul-right perBlock (is .fits))
+
   pub room-ready : Accepted size soft Q N v bits (length (lent state slot store))
-  unfolding roomStart roomLength
-  room-ready = rw (sized, shared) (room-accepts (shareAtHead state slot) (state .blocks) slot (sizeAtHead state slot) Q N v bits store (is .size) (is .wide) (is .fits) (is .version) (is .within) (is .allocation) (is .given))
+  room-ready = rw (sized, shared) (record { size = is .size; wide = is .wide; allocation = is .allocation; version = is .version; given = is .given; fits = enough })
+
+  places : AllPlaces share (A + 24) Q N v (length bits)
+  unfolding badVersion
+  places r = sent-below A (is .size) (is .wide) Q N v (length bits) r (le-ltb 3 v (is .version))
 
   -- the room came back with the bits in it
   module _ (terminal : ℕ) {number count : ℕ} {last : List ℕ} (told : number ≡ receiveNumber state (length store) slot terminal Q N v bits) (zero : number ≡ 0)
       (kept : length last ≡ length (lent state slot store))
       (put : (last ≡ received agreeing soft size Q N v bits (lent state slot store)) × (count ≡ lacking size last)) where
-    abbrev A : ℕ
-    A = sizeAtHead state slot
+    after : putBack state slot store last ≡ withRoom (state .blocks) slot (received agreeing share A Q N v bits (roomAt (state .blocks) slot store)) store
+    unfolding withRoom roomAt roomStart roomLength
+    after =
+        ap (putBack state slot store) (rw (sized, shared) at (put .0))
+        ∙ ap (λ (l : List ℕ). take (roomFrom state slot) store ++ l)
+        (sym (received-behind agreeing share A Q N v bits places (lent state slot store) _ enough) ∙ ap (received agreeing share A Q N v bits) (take-append-drop (lentLength state slot) (drop (roomFrom state slot) store)))
 
-    after : putBack state slot store last ≡ withRoom (state .blocks) slot (received agreeing (shareAtHead state slot) A Q N v bits (roomAt (state .blocks) slot store)) store
+    counted : count ≡ lacking A (roomAt (state .blocks) slot (withRoom (state .blocks) slot (received agreeing share A Q N v bits (roomAt (state .blocks) slot store)) store))
     unfolding roomStart roomLength
-    after = room-received (shareAtHead state slot) (state .blocks) slot A Q N v bits store (is .size) (is .wide) (is .fits) (is .version) (is .within) (rw (sized, shared) at (put .0))
-
-    counted : count ≡ lacking A (roomAt (state .blocks) slot (withRoom (state .blocks) slot (received agreeing (shareAtHead state slot) A Q N v bits (roomAt (state .blocks) slot store)) store))
-    unfolding roomStart roomLength
-    counted = room-lacking (shareAtHead state slot) (state .blocks) slot A Q N v bits store (is .size) (is .wide) (is .fits) (is .version) (is .within) (rw (sized, shared) at (put .0)) kept (rw sized at (put .1))
+    counted =
+        (rw sized at (put .1))
+        ∙ ap (lacking A) (sym (mid-put (roomFrom state slot) (lentLength state slot) store last (omega (arith, room-in is)) (kept ∙ lent-long)))
+        ∙ lacking-lent (state .blocks) slot A (putBack state slot store last) (is .size) (is .fits) refl refl
+        ∙ ap (λ (l : List ℕ). lacking A (roomAt (state .blocks) slot l)) after
 
     pub stored : putBack state slot store last ≡ receiveStore state slot terminal Q N v bits store
     unfolding receiveStore

@@ -26,10 +26,6 @@ pub first-none : (js list : List ℕ) → putFirst js [] list ≡ list
 unfolding putFirst putAlong agreeing
 first-none js list = refl
 
-first-more : (j b : ℕ) (js bits list : List ℕ) → putFirst (j ∷ js) (b ∷ bits) list ≡ putFirst js bits (putBit list j b)
-unfolding putFirst putAlong agreeing
-first-more j b js bits list = refl
-
 pub length-first : (js bits list : List ℕ) → length (putFirst js bits list) ≡ length list
 unfolding putFirst
 length-first js bits list = length-put agreeing (take (length bits) js) bits list

@@ -4,7 +4,7 @@ pub mod Along
 pub mod Walking
 pub mod Rounds
 pub mod Blocks
-pub mod Slot
+pub mod Behind
 pub mod Accepts
 pub mod Fours
 pub mod FourStore
