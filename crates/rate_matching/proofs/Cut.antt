@@ -308,10 +308,10 @@ module _ (D F : ℕ) (some : D % 8 ≡ 4) (few : F < D) (most : D ≤ longest) {
     counts : bitsBefore (pairUnit D F c) (circlePlace (32 * rows D + c * (2 * rows D) + restPlaces Ncb (rows D))) ≡ restBits
     counts = ap₂ (λ (U : Unit) (n : ℕ). bitsBefore U (circlePlace n)) (sym cut-unit) here
 
-  no-rest : 64 ≤ wholeUnits Ncb (rows D) → restPlaces Ncb (rows D) ≡ 0
+  pub no-rest : 64 ≤ wholeUnits Ncb (rows D) → restPlaces Ncb (rows D) ≡ 0
   no-rest l = elim (decLt 0 (restPlaces Ncb (rows D))) [ yes h ↦ absurd (omega (arith, rest-before cut h)) | no h ↦ omega arith ]
 
-  none-cut : 64 ≤ wholeUnits Ncb (rows D) → restBits ≡ 0
+  pub none-cut : 64 ≤ wholeUnits Ncb (rows D) → restBits ≡ 0
   none-cut l = ap (λ (U : Unit). bitsBefore U (circlePlace Ncb)) (unit-none D F l) ∙ none-before Ncb
 
   pub shortened-count : length shortened ≡ restBits

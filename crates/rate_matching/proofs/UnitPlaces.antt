@@ -16,7 +16,7 @@ use Rattle.rate_matching.specs.declared.CirclePlace.{CirclePlace}
 use Rattle.rate_matching.specs.declared.Unit.{Unit}
 use Rattle.rate_matching.specs.Columns.{column}
 use Rattle.rate_matching.specs.SubBlocks.{rows, dummies, rowsBefore}
-use Rattle.rate_matching.specs.Circle.{circle}
+use Rattle.rate_matching.specs.Circle.{circle, circleLength}
 use Rattle.rate_matching.specs.Places.{longest}
 use Rattle.rate_matching.specs.Walk.{onCircle, itself}
 use Rattle.rate_matching.specs.Shape.{shape, bitPlaces, second, pairPlaces, lastPlace}
@@ -117,6 +117,14 @@ module _ {D F c : ℕ} (most : D ≤ longest) (few : F < D) (h : c < 32) where
     both = omega (arith, column-rowed .last, column-rowed .column);
     end = omega (arith, column-rowed .few, mul-le-mul-right (2 * R) h);
   }
+
+  column-ends : columnUnit D F c .end .0 ≤ circleLength R
+  unfolding columnUnit circleLength
+  column-ends = omega (arith, mul-le-mul-right R h)
+
+  pair-ends : pairUnit D F c .end .0 ≤ circleLength R
+  unfolding pairUnit lastPlace circleLength
+  pair-ends = omega (arith, mul-le-mul-right (2 * R) h)
 
   -- ---- there are so many
 
@@ -236,6 +244,11 @@ module _ {D F : ℕ} (u : ℕ) (most : D ≤ longest) (few : F < D) {U : Unit} (
   pub told-low : u < 32 → U ≡ columnUnit D F u
   told-low h = is ∙ unit-there most few (omega arith) ∙ unit-low D F h
 
+  -- a column of stream 0 has its bits from there on
+  pub column-begins : u < 32 → U .both .0 ≡ u * rows D + rowsBefore (dummies D + F) (column u)
+  unfolding columnUnit
+  column-begins h = ap (λ (x : Unit). x .both .0) (told-low h)
+
   pub told-high : 32 ≤ u → u < 64 → U ≡ pairUnit D F (u - 32)
   told-high h l = is ∙ unit-there most few l ∙ unit-high D F h
 
@@ -247,6 +260,16 @@ module _ {D F : ℕ} (u : ℕ) (most : D ≤ longest) (few : F < D) {U : Unit} (
       go true s b t = let h : u < 32 = ltb-true u 32 s in rw (told-low h) (column-reads most few h)
       go false s true t = let h : 32 ≤ u = ltb-false u 32 s in let l : u < 64 = ltb-true u 64 t in rw (told-high h l) (pair-reads most few (omega arith))
       go false s false t = rw (is ∙ unit-none D F (ltb-false u 64 t)) (none-reads D)
+
+  -- and it ends on the circle
+  pub unit-ends : U .end .0 ≤ circleLength (rows D)
+  unfolding noUnit
+  unit-ends = go (ltb u 32) refl (ltb u 64) refl
+    where
+      go : (a : Bool) → ltb u 32 ≡ a → (b : Bool) → ltb u 64 ≡ b → U .end .0 ≤ circleLength (rows D)
+      go true s b t = let h : u < 32 = ltb-true u 32 s in rw (told-low h) (column-ends most few h)
+      go false s true t = let h : 32 ≤ u = ltb-false u 32 s in let l : u < 64 = ltb-true u 64 t in let c : u - 32 < 32 = omega arith in rw (told-high h l) (pair-ends most few c)
+      go false s false t = rw (is ∙ unit-none D F (ltb-false u 64 t)) (omega arith)
 
   -- it has no more bits than places
   pub unit-few : u < 64 → aloneCount U + bothCount U ≤ unitStart (rows D) (u + 1) - unitStart (rows D) u

@@ -16,11 +16,11 @@ use Rattle.laws.proofs.Tab.{length-tabFrom, getD-tabFrom}
 use Rattle.segmentation.specs.declared.Segments.{Segments}
 use Rattle.segmentation.specs.Segmentation.{blocks, sizeOf, fillerOf}
 use Rattle.segmentation.specs.Sizes.{badSize, segmentsFor}
-use Rattle.rate_matching.specs.Columns.{numberOf, turnedRound, columnTable, column}
+use Rattle.rate_matching.specs.Columns.{numberOf, turnedRound, column}
 use Rattle.rate_matching.specs.SubBlocks.{rows, dummies, rowsBefore}
 use Rattle.rate_matching.specs.Circle.{circleLength}
 use Rattle.rate_matching.specs.Places.{plainPlace, placeNumber}
-use Rattle.rate_matching.proofs.Columns.{column-rule, table-at}
+use Rattle.rate_matching.proofs.Columns.{column-rule}
 use Rattle.slots.specs.State.{perBlock}
 use Rattle.slots.specs.Room.{circleAt}
 use Rattle.slots.specs.Circle.{keptOn, missing, missingOn, sumFrom, lackingOn, heardOn}
@@ -127,66 +127,43 @@ row-is R c t h = rw (same, further, column-rule c h .1) refl
     further : (column c + 32 * t) / 32 ≡ t
     further = omega (arith, column-rule c h .0)
 
--- the columns before c are counted
-pub record Columns (circle : List ℕ) (k f : ℕ) (p : List ℕ) (n j c : ℕ) : Type 0 where
-  pub table : p ≡ columnTable
-  pub place : j ≡ c * rows (k + 4)
-  pub sum : Summing (inPart circle k f) 32 193 c n
+-- the data places of column c lie from `from` to `to`
+module _ (circle : List ℕ) {k f : ℕ} (low : f ≤ k) (w : Stretch (length circle) (k + 4) 0 f (k - f)) {c : ℕ} (h : c < 32) {from to : ℕ}
+    (begins : from ≡ c * rows (k + 4) + rowsBefore (dummies (k + 4) + f) (column c)) (ends : to ≡ c * rows (k + 4) + rowsBefore (dummies (k + 4) + k) (column c)) where
+  abbrev R : ℕ
+  R = rows (k + 4)
 
-module _ {circle : List ℕ} {k f : ℕ} {p : List ℕ} where
-  pub columns-start : p ≡ columnTable → Columns circle k f p 0 0 0
-  columns-start e = record { table = e; place = omega arith; sum = start }
+  abbrev a : ℕ
+  a = rowsBefore (dummies (k + 4) + f) (column c)
 
-  module _ (low : f ≤ k) (w : Stretch (length circle) (k + 4) 0 f (k - f)) {n j c : ℕ} (h : c < 32) (l : Columns circle k f p n j c) where
-    -- the column lies on the circle
-    pub column-ends : j + rows (k + 4) ≤ 6176
-    unfolding rows
-    column-ends = let most : rows (k + 4) ≤ 193 = omega (arith, w .sized .most) in omega (arith, l .place, mul-le-mul-right (rows (k + 4)) h)
+  abbrev b : ℕ
+  b = rowsBefore (dummies (k + 4) + k) (column c)
 
-    column-there : j + rows (k + 4) ≤ 32 * rows (k + 4)
-    column-there = omega (arith, l .place, mul-le-mul-right (rows (k + 4)) h)
+  rows-few : (a ≤ b) × (b ≤ R) × (R ≤ 193)
+  unfolding rowsBefore dummies rows
+  rows-few = (omega arith, omega arith, omega (arith, w .sized .most))
 
-    module _ {a b : ℕ} (from : a ≡ rowsBefore (dummies (k + 4) + f) (getD p c 0)) (to : b ≡ rowsBefore (dummies (k + 4) + k) (getD p c 0)) where
-      -- its data places
-      pub rows-few : (a ≤ b) × (b ≤ rows (k + 4)) × (rows (k + 4) ≤ 193)
-      unfolding rowsBefore dummies rows
-      rows-few = (omega arith, omega arith, omega (arith, w .sized .most))
+  -- on the circle
+  pub column-there : (from ≤ to) × (to ≤ length circle) × (to ≤ from + 193)
+  unfolding reachOf
+  column-there = (omega (arith, begins, ends, rows-few), omega (arith, ends, rows-few, mul-le-mul-right R h, w .room), omega (arith, begins, ends, rows-few))
 
-      pub column-within : j + b ≤ length circle
-      unfolding reachOf
-      column-within = omega (arith, column-there, rows-few, w .room)
+  -- and are counted
+  module _ {x : ℕ} (s : x ≡ sumFrom (missingAt circle) from (to - from)) where
+    pub column-few : x ≤ 193
+    column-few = omega (arith, s, missing-few circle from (to - from), column-there)
 
-      pub column-lent : length (midOf (j + a) (j + b - (j + a)) circle) ≤ 255
-      column-lent = omega (arith, length-mid (j + a) (j + b) circle column-within, rows-few)
-
-      module _ {x : ℕ} (s : x ≡ sumFrom (missingAt (midOf (j + a) (j + b - (j + a)) circle)) 0 (length (midOf (j + a) (j + b - (j + a)) circle))) where
-        few : sumFrom (missingAt circle) (j + a) (j + b - (j + a)) ≤ j + b - (j + a)
-        few = missing-few circle (j + a) (j + b - (j + a))
-
-        pub column-few : x ≤ 193
-        column-few = omega (arith, s ∙ part-count circle (j + a) (j + b) column-within, few, rows-few)
-
-        column-is : x ≡ inPart circle k f c
-        unfolding inPart missingY missingAt
-        column-is =
-            s
-            ∙ part-count circle (j + a) (j + b) column-within
-            ∙ ap (sumFrom (missingAt circle) (j + a)) count
-            ∙ sumFrom-shift j a (b - a) (missingAt circle)
-            ∙ sumFrom-ext (λ (t : ℕ). missingAt circle (j + t)) (λ (t : ℕ). missingY circle (rows (k + 4)) (column c + 32 * t)) a (b - a)
-            (λ t low high. ap (λ (i : ℕ). missing (getD circle i 0)) (ap (λ (i : ℕ). i + t) (l .place) ∙ sym (row-is (rows (k + 4)) c t h)))
-            ∙ ap₂ (λ (i e : ℕ). sumFrom (λ (t : ℕ). missingY circle (rows (k + 4)) (column c + 32 * t)) i (e - i))
-            (from ∙ ap (rowsBefore (dummies (k + 4) + f)) (table-at c (l .table)))
-            (to ∙ ap (rowsBefore (dummies (k + 4) + k)) (table-at c (l .table)))
-          where
-            count : j + b - (j + a) ≡ b - a
-            count = omega arith
-
-        pub columns-next : Columns circle k f p (n + x) (j + rows (k + 4)) (c + 1)
-        columns-next = record { table = l .table; place = omega (arith, l .place); sum = next h column-is column-few (l .sum) }
-
-  pub columns-finish : {n j c : ℕ} → f ≤ k → 32 ≤ c → Columns circle k f p n j c → n ≡ lackingOn circle k f
-  columns-finish low h w = finish h (w .sum) ∙ parts-sum circle k f low
+    pub column-is : x ≡ inPart circle k f c
+    unfolding inPart missingY missingAt
+    column-is =
+        s
+        ∙ ap₂ (sumFrom (missingAt circle)) begins count
+        ∙ sumFrom-shift (c * R) a (b - a) (missingAt circle)
+        ∙ sumFrom-ext (λ (t : ℕ). missingAt circle (c * R + t)) (λ (t : ℕ). missingY circle R (column c + 32 * t)) a (b - a)
+        (λ t low high. ap (λ (i : ℕ). missing (getD circle i 0)) (sym (row-is R c t h)))
+      where
+        count : to - from ≡ b - a
+        count = omega (arith, begins, ends)
 
 -- ---- a circle by itself
 

@@ -1,8 +1,7 @@
 // What the circle of one code block keeps: the bytes of a stream, and how many of them lack a bit.
 use rate_matching::CirclePlace;
 use rate_matching::first_places;
-use rate_matching::rows_before;
-use rate_matching::table::columns;
+use rate_matching::unit_at;
 ghost use mathlib.Core.Path.{_≡_};
 ghost use mathlib.Core.Bool.{cond};
 ghost use mathlib.Core.List.{_++_};
@@ -101,24 +100,29 @@ pub(crate) fn read_stream(circle: &[u8], d: usize, s: usize, from: usize, out: &
     gather(circle, first_places(d, s), step, from, out);
 }
 
-// How many data places of a code block of size k lack a bit, the first f being filler: column by column, since a column's lie side by side.
+// How many places of the circle from `from` to `to` have heard no bit. The byte of a place has its number.
+fn count_places(circle: &[u8], from: CirclePlace, to: CirclePlace) -> usize
+    requires { ⌜ (from .0 ≤ to .0) × (to .0 ≤ length (now circle)) × (to .0 ≤ from .0 + 255) ⌝ }
+    ensures { λ r. ⌜ r ≡ sumFrom (missingAt (now (circle .entry))) (from .0) (to .0 - from .0) ⌝ }
+{
+    let start = from.0;
+    let end = to.0;
+    count_few(&circle[start..end]) as usize
+}
+
+// How many data places of a code block of size k lack a bit, the first f being filler: column by column, since a column's lie side by side. The tail bits
+// behind them begin where the bits would if all k were filler.
 pub(crate) fn lacking_on(circle: &[u8], k: usize, f: usize) -> usize
     requires { ⌜ (f ≤ k) × Stretch (length (now circle)) (k + 4) 0 f (k - f) ⌝ }
     ensures { λ r. ⌜ r ≡ lackingOn (now (circle .entry)) k f ⌝ }
 {
-    let p = columns();
     let d = k + 4;
-    let rows = (d + 31) / 32;
-    let dummies = 32 * rows - d;
     let mut n = 0;
-    let mut j = 0;
     let mut c = 0;
     while c < 32 {
-        let u = p[c] as usize;
-        let from = j + rows_before(dummies + f, u);
-        let to = j + rows_before(dummies + k, u);
-        n += count_few(&circle[from..to]) as usize;
-        j += rows;
+        let data = unit_at(d, f, c);
+        let tail = unit_at(d, k, c);
+        n += count_places(circle, data.both, tail.both);
         c += 1;
     }
     n

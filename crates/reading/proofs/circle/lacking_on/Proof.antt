@@ -1,119 +1,68 @@
 -- `circle::lacking_on` meets its contract: the columns passed are added up (`Lacking`).
 -- Assumes nothing.
-use mathlib.Core.Path.{refl}
-use Prim.Native.Nat.{_+_, _-_, _≤_}
+use mathlib.Core.Path.{_≡_, _∙_}
+use Prim.Native.Nat.{_+_, _-_, _*_, _≤_, _<_}
 use native.Mathlib.Omega.{arith}
 use lib.ListN.{length}
-use Rattle.rate_matching.specs.SubBlocks.{rows, dummies}
-use Rattle.rate_matching.proofs.Columns.{table-below}
-use Rattle.reading.proofs.Lacking.{Columns, columns-start, column-ends, rows-few, column-within, column-lent, column-few, columns-next, columns-finish}
+use Rattle.rate_matching.specs.Columns.{column}
+use Rattle.rate_matching.specs.SubBlocks.{rows, dummies, rowsBefore}
+use Rattle.rate_matching.proofs.UnitPlaces.{column-begins}
+use Rattle.reading.proofs.Sums.{Summing, start, next, finish}
+use Rattle.reading.proofs.Lacking.{inPart, parts-sum, column-there, column-few, column-is}
 use Rattle.reading.proofs.circle.lacking_on.Statement.{statement}
 use Rattle.reading.proofs.circle.lacking_on.Tie as tie
 
+
+
 abbrev Inv-loop : tie.InvT-loop
-Inv-loop circle k f p d R N n₀ j₀ c₀ n j c = Columns circle k f p n j c
+Inv-loop circle k f d n₀ c₀ n c = Summing (inPart circle k f) 32 193 c n
 
 abbrev μ-loop : tie.MeasureT-loop
-μ-loop circle k f p d R N n₀ j₀ c₀ n j c = 32 - c
+μ-loop circle k f d n₀ c₀ n c = 32 - c
 
--- where the rows of a column are known: the column's place, and what is counted of it
-ends : (c : tie.In-loop Inv-loop μ-loop) → c .before .loop .j + rows (c .before .before .before .before .args .k + 4) ≤ 6176
-ends c = let e = c .before .before .before .before in column-ends (e .pre .0) (e .pre .1) (omega arith) (c .before .loop .inv)
+-- with both units: the function's entry, where the column's data places lie, and what is counted of them
+abbrev entry : tie.After-unit-at2 Inv-loop μ-loop → tie.Start Inv-loop μ-loop
+entry c = c .before .before .before .before .before
 
-few : (c : tie.After-rows-before2 Inv-loop μ-loop) →
-    (c .before .rows-before .result ≤ c .rows-before2 .result) × (c .rows-before2 .result ≤ rows (c .before .before .before .before .before .before .args .k + 4)) × (rows (c .before .before .before .before .before .before .args .k + 4) ≤ 193)
-unfolding rows dummies
-few c =
-    let l = c .before .before .before in
-    let e = l .before .before .before in
-    rows-few (e .pre .0) (e .pre .1) (omega arith) (l .loop .inv) (c .before .rows-before .ensures) (c .rows-before2 .ensures)
+low : (c : tie.After-unit-at2 Inv-loop μ-loop) → c .before .before .before .loop .c < 32
+low c = omega (arith, c .before .before .loop-test .taken)
 
-within : (c : tie.After-rows-before2 Inv-loop μ-loop) → c .before .before .before .loop .j + c .rows-before2 .result ≤ length (c .before .before .before .before .before .before .args .circle .now)
-unfolding rows dummies
-within c =
-    let l = c .before .before .before in
-    let e = l .before .before .before in
-    column-within (e .pre .0) (e .pre .1) (omega arith) (l .loop .inv) (c .before .rows-before .ensures) (c .rows-before2 .ensures)
+begins : (c : tie.After-unit-at2 Inv-loop μ-loop) → let k = entry c .args .k in let u = c .before .before .before .loop .c in
+    c .before .unit-at .result .both .0 ≡ u * rows (k + 4) + rowsBefore (dummies (k + 4) + entry c .args .f) (column u)
+begins c = let s = entry c in column-begins _ (s .pre .1 .sized .most) (omega (arith, s .pre .0)) (c .before .unit-at .ensures) (low c)
 
-columns-requires : tie.Need-columns-requires Inv-loop μ-loop
-columns-requires c κs = tt
+ends : (c : tie.After-unit-at2 Inv-loop μ-loop) → let k = entry c .args .k in let u = c .before .before .before .loop .c in
+    c .unit-at2 .result .both .0 ≡ u * rows (k + 4) + rowsBefore (dummies (k + 4) + k) (column u)
+ends c = let s = entry c in column-begins _ (s .pre .1 .sized .most) (omega arith) (c .unit-at2 .ensures) (low c)
+
+there : (c : tie.After-unit-at2 Inv-loop μ-loop) → let from = c .before .unit-at .result .both .0 in let to = c .unit-at2 .result .both .0 in
+    (from ≤ to) × (to ≤ length (entry c .args .circle .now)) × (to ≤ from + 193)
+there c = let s = entry c in column-there (s .args .circle .now) (s .pre .0) (s .pre .1) (low c) (begins c) (ends c)
+
+counted : (c : tie.After-count-places Inv-loop μ-loop) → (c .count-places .result ≤ 193)
+    × (c .count-places .result ≡ inPart (entry (c .before) .args .circle .now) (entry (c .before) .args .k) (entry (c .before) .args .f) (c .before .before .before .before .loop .c))
+counted c =
+    let u = c .before in
+    let s = entry u in
+    (column-few _ (s .pre .0) (s .pre .1) (low u) (begins u) (ends u) (c .count-places .ensures), column-is _ (s .pre .0) (s .pre .1) (low u) (begins u) (ends u) (c .count-places .ensures))
 
 add-d : tie.Need-add-d Inv-loop μ-loop
-add-d c = omega arith
-
-add-rows : tie.Need-add-rows Inv-loop μ-loop
-add-rows c = omega arith
-
-mul-dummies : tie.Need-mul-dummies Inv-loop μ-loop
-mul-dummies c = omega arith
-
-sub-dummies : tie.Need-sub-dummies Inv-loop μ-loop
-sub-dummies c = omega arith
+add-d c = omega (arith, c .before .pre .1 .sized .most)
 
 loop-holds : tie.Need-loop-holds Inv-loop μ-loop
-loop-holds c = columns-start (c .columns .ensures)
+loop-holds c = start
 
-array-read-u : tie.Need-array-read-u Inv-loop μ-loop
-array-read-u c = omega arith
+unit-at-requires : tie.Need-unit-at-requires Inv-loop μ-loop
+unit-at-requires c κs = tt
 
-cast-u : tie.Need-cast-u Inv-loop μ-loop
-cast-u c = omega (arith, table-below (c .before .loop .c) (c .before .loop .inv .table) (omega arith))
+unit-at-requires-2 : tie.Need-unit-at-requires-2 Inv-loop μ-loop
+unit-at-requires-2 c κs = tt
 
-add-rows-before : tie.Need-add-rows-before Inv-loop μ-loop
-add-rows-before c = omega (arith, c .before .before .before .before .pre .1 .sized .most)
-
-rows-before-requires : tie.Need-rows-before-requires Inv-loop μ-loop
-rows-before-requires c κs = tt
-
-add-from : tie.Need-add-from Inv-loop μ-loop
-unfolding rows dummies
-add-from c =
-    let l = c .before .before in
-    let e = l .before .before .before in
-    omega (arith, ends (c .before), rows-few (e .pre .0) (e .pre .1) (omega arith) (l .loop .inv) (c .rows-before .ensures) refl)
-
-add-rows-before-2 : tie.Need-add-rows-before-2 Inv-loop μ-loop
-add-rows-before-2 c = omega (arith, c .before .before .before .before .before .pre .1 .sized .most)
-
-rows-before-requires-2 : tie.Need-rows-before-requires-2 Inv-loop μ-loop
-rows-before-requires-2 c κs = tt
-
-add-to : tie.Need-add-to Inv-loop μ-loop
-add-to c = omega (arith, few c, ends (c .before .before))
-
-sub-count-few : tie.Need-sub-count-few Inv-loop μ-loop
-sub-count-few c = omega (arith, few c)
-
-part-count-few-start : tie.Need-part-count-few-start Inv-loop μ-loop
-part-count-few-start c = omega (arith, within c, few c)
-
-part-count-few-end : tie.Need-part-count-few-end Inv-loop μ-loop
-part-count-few-end c = omega (arith, within c)
-
-count-few-requires : tie.Need-count-few-requires Inv-loop μ-loop
-unfolding rows dummies
-count-few-requires c κs =
-    let l = c .before .before .before .before in
-    let e = l .before .before .before in
-    column-lent (e .pre .0) (e .pre .1) (omega arith) (l .loop .inv) (c .before .before .rows-before .ensures) (c .before .rows-before2 .ensures)
-
--- the column's count
-counted : (c : tie.After-count-few Inv-loop μ-loop) → c .count-few .result ≤ 193
-unfolding rows dummies
-counted c =
-    let l = c .before .before .before .before .before in
-    let e = l .before .before .before in
-    column-few (e .pre .0) (e .pre .1) (omega arith) (l .loop .inv) (c .before .before .before .rows-before .ensures) (c .before .before .rows-before2 .ensures) (c .count-few .ensures)
-
-cast-n : tie.Need-cast-n Inv-loop μ-loop
-cast-n c = omega (arith, counted c)
+count-places-requires : tie.Need-count-places-requires Inv-loop μ-loop
+count-places-requires c κs = let t = there c in (t .0, t .1, omega (arith, t .2))
 
 add-n : tie.Need-add-n Inv-loop μ-loop
-add-n c = omega (arith, counted c, c .before .before .before .before .before .loop .inv .sum .few)
-
-add-j : tie.Need-add-j Inv-loop μ-loop
-unfolding rows
-add-j c = omega (arith, ends (c .before .before .before .before))
+add-n c = omega (arith, counted c .0, c .before .before .before .before .loop .inv .few)
 
 add-c : tie.Need-add-c Inv-loop μ-loop
 add-c c = omega arith
@@ -122,14 +71,10 @@ loop-less : tie.Need-loop-less Inv-loop μ-loop
 loop-less c = omega arith
 
 loop-again : tie.Need-loop-again Inv-loop μ-loop
-unfolding rows dummies
-loop-again c =
-    let l = c .before .before .before .before .before in
-    let e = l .before .before .before in
-    columns-next (e .pre .0) (e .pre .1) (omega arith) (l .loop .inv) (c .before .before .before .rows-before .ensures) (c .before .before .rows-before2 .ensures) (c .count-few .ensures)
+loop-again c = next (omega arith) (counted c .1) (counted c .0) (c .before .before .before .before .loop .inv)
 
 returns : tie.Need-returns Inv-loop μ-loop
-returns c = columns-finish (c .before .before .before .before .pre .0) (omega arith) (c .before .loop .inv)
+returns c = let s = c .before .before .before in finish (omega arith) (c .before .loop .inv) ∙ parts-sum _ _ _ (s .pre .0)
 
 pub lacking-on-spec : {M : Type 1} → statement M
 lacking-on-spec =
@@ -137,27 +82,12 @@ lacking-on-spec =
     (tie.spec
     Inv-loop
     μ-loop
-    columns-requires
     add-d
-    add-rows
-    mul-dummies
-    sub-dummies
     loop-holds
-    array-read-u
-    cast-u
-    add-rows-before
-    rows-before-requires
-    add-from
-    add-rows-before-2
-    rows-before-requires-2
-    add-to
-    sub-count-few
-    part-count-few-start
-    part-count-few-end
-    count-few-requires
-    cast-n
+    unit-at-requires
+    unit-at-requires-2
+    count-places-requires
     add-n
-    add-j
     add-c
     loop-less
     loop-again
