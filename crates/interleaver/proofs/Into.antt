@@ -1,14 +1,16 @@
 -- What interleaving writes where all fits, entry by entry, and that the walk by counters, and that by fours, writes the same.
 -- Assumes nothing.
-use mathlib.Core.Path.{_≡_, _∙_, sym, ap}
+use mathlib.Core.Path.{_≡_, refl, _∙_, sym, ap}
+use mathlib.Core.Bool.{Bool, true, false, _&&_, and-eq-true-iff}
 use mathlib.Core.List.{List}
 use Prim.Native.Nat.{ℕ, _<_}
 use native.Mathlib.Omega.{arith}
+use lib.Dec.{eqb, ltb}
 use lib.ListN.{length, getD}
-use borrow.Author.Tests.{lt-ltb, eq-eqb}
+use borrow.Author.Tests.{lt-ltb, ltb-true, eq-eqb, ne-eqb, eqb-true}
 use Rattle.laws.specs.Bits.{AreBits}
 use Rattle.laws.proofs.Tab.{length-tab, getD-tab}
-use Rattle.interleaver.specs.Table.{rowCount, sizeAt, f1At, f2At}
+use Rattle.interleaver.specs.Table.{rowCount, sizeAt, f1At, f2At, hasSize}
 use Rattle.interleaver.specs.Place.{secondPlace, secondBit, interleaved}
 use Rattle.interleaver.specs.Into.{fitsRow, interleavedInto, bitBy, bitsBy, Walkable}
 use Rattle.interleaver.specs.inner.Quarters.{Quartered, Countable}
@@ -26,6 +28,33 @@ getD-interleaved row c i h = getD-tab (sizeAt row) (secondBit row c) i 0 h
 pub into-fits : (row : ℕ) (c out : List ℕ) → row < rowCount → length c ≡ sizeAt row → length out ≡ sizeAt row → interleavedInto row c out ≡ interleaved row c
 unfolding interleavedInto fitsRow
 into-fits row c out h hc ho = simp (lt-ltb _ _ h, eq-eqb _ _ hc, eq-eqb _ _ ho)
+
+-- the test of the size, and then that of the room
+fits-is : (row : ℕ) (c out : List ℕ) → fitsRow row c out ≡ (hasSize row (length c) && eqb (length out) (sizeAt row))
+unfolding fitsRow hasSize
+fits-is row c out = go (ltb row rowCount)
+  where
+    go : (t : Bool) → (t && (eqb (length c) (sizeAt row) && eqb (length out) (sizeAt row))) ≡ ((t && eqb (length c) (sizeAt row)) && eqb (length out) (sizeAt row))
+    go true = refl
+    go false = refl
+
+-- what the test of the size says
+pub sized : {row K : ℕ} → hasSize row K ≡ true → (row < rowCount) × (K ≡ sizeAt row)
+unfolding hasSize
+sized {row} {K} e = let both = and-eq-true-iff _ _ .0 e in (ltb-true row rowCount (both .0), eqb-true K (sizeAt row) (both .1))
+
+pub has-size : {row K : ℕ} → row < rowCount → K ≡ sizeAt row → hasSize row K ≡ true
+unfolding hasSize
+has-size {row} {K} h e = simp (lt-ltb row rowCount h, eq-eqb K (sizeAt row) e)
+
+-- out stays as it was where the size is another one, or the room
+pub into-unsized : (row : ℕ) (c out : List ℕ) → hasSize row (length c) ≡ false → interleavedInto row c out ≡ out
+unfolding interleavedInto
+into-unsized row c out e = rw (fits-is row c out, e)
+
+pub into-no-room : (row : ℕ) (c out : List ℕ) → hasSize row (length c) ≡ true → (length out ≡ length c → ⊥) → interleavedInto row c out ≡ out
+unfolding interleavedInto
+into-no-room row c out e other = rw (fits-is row c out, e, ne-eqb (length out) (sizeAt row) (λ f. other (f ∙ sym (sized e .1))))
 
 -- K, f1 and f2 are those of a row of the table, and both lists have K entries
 pub record OfRow (row K f1 f2 : ℕ) (c out : List ℕ) : Type 0 where

@@ -1,10 +1,11 @@
 -- Table 5.1.3-3 of clause 5.1.3.2.3: the 188 block sizes K with the parameters f1 and f2 of the turbo code internal interleaver.
 -- Assumes nothing.
-use mathlib.Core.Bool.{cond}
+use mathlib.Core.Bool.{Bool, cond, _&&_}
 use mathlib.Core.List.{List, [], _∷_}
 use Prim.Native.Nat.{ℕ, suc}
-use lib.Dec.{leb}
+use lib.Dec.{eqb, leb, ltb}
 use lib.ListN.{getD}
+use Rattle.interleaver.specs.declared.table.Found.{Found}
 
 -- the block sizes K, row by row
 unfoldable pub sizeTable : List ℕ
@@ -80,6 +81,10 @@ f1At row = getD f1Table row 0
 unfoldable pub f2At : ℕ → ℕ
 f2At row = getD f2Table row 0
 
+-- the table has such a row, and K is its size
+unfoldable pub hasSize : ℕ → ℕ → Bool
+hasSize row K = ltb row rowCount && eqb K (sizeAt row)
+
 -- the first entry that is at least `least`, counted from 0; how many there are where none is
 unfoldable pub firstAtLeast : ℕ → List ℕ → ℕ
 firstAtLeast least [] = 0
@@ -88,3 +93,7 @@ firstAtLeast least (k ∷ ks) = cond (leb least k) 0 (suc (firstAtLeast least ks
 -- the first row whose K is at least `least`
 unfoldable pub rowFor : ℕ → ℕ
 rowFor least = firstAtLeast least sizeTable
+
+-- the same with that K; 0 where there is none
+unfoldable pub foundFor : ℕ → Found
+foundFor least = record { row = rowFor least; size = sizeAt (rowFor least) }

@@ -1,1 +1,2 @@
 pub mod Quarters
+pub mod Search

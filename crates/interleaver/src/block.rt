@@ -10,11 +10,8 @@ ghost use Rattle.interleaver.specs.Into.{interleavedInto, bitsBy, Walkab
 pub fn interleave(row: usize, c: &[u8], out: &mut [u8])
     ensures { λ r. ⌜ now (out .exit) ≡ interleavedInto row (now (c .entry)) (now (out .entry)) ⌝ }
 {
-    if row >= table::ROWS {
-        return;
-    }
-    let k = table::size_at(row);
-    if c.len() != k {
+    let k = c.len();
+    if !table::has_size(row, k) {
         return;
     }
     if out.len() != k {

@@ -1,22 +1,18 @@
 // Table 5.1.3-3: the block sizes K and the parameters f1 and f2 of the turbo code internal interleaver, row by row.
 ghost use mathlib.Core.Path.{_≡_};
-ghost use lib.ListN.{getD};
-ghost use Rattle.interleaver.specs.Table.{sizeAt, f1At, f2At, firstAtLeast, rowFor};
+ghost use Prim.Native.Nat.{_≤_};
+ghost use lib.ListN.{length, getD};
+ghost use Rattle.interleaver.specs.Table.{sizeAt, f1At, f2At, hasSize, foundFor};
+ghost use Rattle.interleaver.specs.inner.Search.{foundIn, belowOne, countBelow};
 
 // How many rows the table has.
 pub const ROWS: usize = 188;
 
-// The block sizes K of the first 32 rows, to 288, and of the rows after them. A constant is copied whole wherever it is read, and the
-// short code blocks are to copy little.
-const K_SHORT: [u16; 32] = [
-    40,
-    48,
-    56,
-    64,
-    72,
-    80,
-    88,
-    96,
+// The block sizes K of the first 8 rows, to 96, and of the rows after them. A constant is copied whole wherever it is read; a search in 8 entries is
+// made of comparisons with numbers alone, so that the shortest code blocks copy none.
+const K_SHORT: [u16; 8] = [40, 48, 56, 64, 72, 80, 88, 96];
+
+const K_LONG: [u16; 180] = [
     104,
     112,
     120,
@@ -41,9 +37,6 @@ const K_SHORT: [u16; 32] = [
     272,
     280,
     288,
-];
-
-const K_LONG: [u16; 156] = [
     296,
     304,
     312,
@@ -203,15 +196,9 @@ const K_LONG: [u16; 156] = [
 ];
 
 // The parameters f1 in the same way.
-const F1_SHORT: [u16; 32] = [
-    3,
-    7,
-    19,
-    7,
-    7,
-    11,
-    5,
-    11,
+const F1_SHORT: [u16; 8] = [3, 7, 19, 7, 7, 11, 5, 11];
+
+const F1_LONG: [u16; 180] = [
     7,
     41,
     103,
@@ -236,9 +223,6 @@ const F1_SHORT: [u16; 32] = [
     33,
     103,
     19,
-];
-
-const F1_LONG: [u16; 156] = [
     19,
     37,
     19,
@@ -398,15 +382,9 @@ const F1_LONG: [u16; 156] = [
 ];
 
 // The parameters f2 in the same way.
-const F2_SHORT: [u16; 32] = [
-    10,
-    12,
-    42,
-    16,
-    18,
-    20,
-    22,
-    24,
+const F2_SHORT: [u16; 8] = [10, 12, 42, 16, 18, 20, 22, 24];
+
+const F2_LONG: [u16; 180] = [
     26,
     84,
     90,
@@ -431,9 +409,6 @@ const F2_SHORT: [u16; 32] = [
     68,
     210,
     36,
-];
-
-const F2_LONG: [u16; 156] = [
     74,
     76,
     78,
@@ -592,66 +567,113 @@ const F2_LONG: [u16; 156] = [
     480,
 ];
 
+// A row that was searched for, counted from 0, and its K.
+pub struct Found {
+    pub row: usize,
+    pub size: usize,
+}
+
 // K of a row; 0 past the table.
 pub fn size_at(row: usize) -> usize
     ensures { λ r. ⌜ r ≡ sizeAt row ⌝ }
 {
-    if row < 32 {
+    if row < 8 {
         let column = K_SHORT;
         return entry(&column, row);
     }
     let column = K_LONG;
-    entry(&column, row - 32)
+    entry(&column, row - 8)
 }
 
-// The first row whose K is at least `least`; the number of rows where there is none.
-pub fn row_for(least: usize) -> usize
-    ensures { λ r. ⌜ r ≡ rowFor least ⌝ }
+// Whether the table has such a row, and K is its size. For the short sizes it is asked which row has K, as that is found without a copy.
+pub fn has_size(row: usize, k: usize) -> bool
+    ensures { λ r. ⌜ r ≡ hasSize row k ⌝ }
 {
-    if least <= 288 {
+    if k <= 96 {
+        let column = K_SHORT;
+        let found = first_at_least(&column, k);
+        return (found.row == row) & (found.size == k);
+    }
+    (row < ROWS) & (k == size_at(row))
+}
+
+// The first row whose K is at least `least`; the number of rows, and 0, where there is none.
+pub fn row_for(least: usize) -> Found
+    ensures { λ r. ⌜ r ≡ foundFor least ⌝ }
+{
+    if least <= 96 {
         let column = K_SHORT;
         return first_at_least(&column, least);
     }
+    if least > 6144 {
+        return Found { row: ROWS, size: 0 };
+    }
     let column = K_LONG;
-    32 + first_at_least(&column, least)
+    let row = count_below(&column, least as u16);
+    Found {
+        row: row + 8,
+        size: entry(&column, row),
+    }
 }
 
-// The first entry of a column that is at least `least`; its length where none is.
-fn first_at_least(column: &[u16], least: usize) -> usize
-    ensures { λ r. ⌜ r ≡ firstAtLeast least (now (column .entry)) ⌝ }
+// The first entry of a column that is at least `least`; its length, and 0, where none is.
+fn first_at_least(column: &[u16], least: usize) -> Found
+    ensures { λ r. ⌜ r ≡ foundIn least (now (column .entry)) ⌝ }
 {
     let mut row = 0;
     while row < column.len() {
-        if least <= column[row] as usize {
-            return row;
+        let size = column[row] as usize;
+        if least <= size {
+            return Found { row, size };
         }
         row += 1;
     }
-    row
+    Found { row, size: 0 }
+}
+
+// How many entries of a column are below `least`: where they rise, the first that is not. Every entry is looked at, so that the loop runs many at a time.
+fn count_below(column: &[u16], least: u16) -> usize
+    requires { ⌜ length (now column) ≤ 188 ⌝ }
+    ensures { λ r. ⌜ r ≡ countBelow least (now (column .entry)) ⌝ }
+{
+    let mut n: u16 = 0;
+    let mut i = 0;
+    while i < column.len() {
+        n += below(column[i], least);
+        i += 1;
+    }
+    n as usize
+}
+
+// 1 where an entry is below `least`.
+fn below(entry: u16, least: u16) -> u16
+    ensures { λ r. ⌜ r ≡ belowOne least entry ⌝ }
+{
+    (entry < least) as u16
 }
 
 // f1 of a row; 0 past the table.
 pub fn f1_at(row: usize) -> usize
     ensures { λ r. ⌜ r ≡ f1At row ⌝ }
 {
-    if row < 32 {
+    if row < 8 {
         let column = F1_SHORT;
         return entry(&column, row);
     }
     let column = F1_LONG;
-    entry(&column, row - 32)
+    entry(&column, row - 8)
 }
 
 // f2 of a row; 0 past the table.
 pub fn f2_at(row: usize) -> usize
     ensures { λ r. ⌜ r ≡ f2At row ⌝ }
 {
-    if row < 32 {
+    if row < 8 {
         let column = F2_SHORT;
         return entry(&column, row);
     }
     let column = F2_LONG;
-    entry(&column, row - 32)
+    entry(&column, row - 8)
 }
 
 // The entry of a column at a row; 0 past its end.

@@ -10,7 +10,8 @@ use native.Mathlib.Omega.{arith}
 use lib.Dec.{leb}
 use lib.ListN.{length, getD}
 use borrow.Author.Tests.{le-leb, lt-leb, leb-true, leb-false}
-use Rattle.interleaver.specs.Table.{sizeTable, sizeAt, rowCount, firstAtLeast, rowFor}
+use Rattle.interleaver.specs.declared.table.Found.{Found}
+use Rattle.interleaver.specs.Table.{sizeTable, sizeAt, rowCount, firstAtLeast, rowFor, foundFor}
 use Rattle.segmentation.specs.Segmentation.{firstRow}
 
 -- ---- the row that is found
@@ -93,7 +94,7 @@ unfolding sizeTable
 all-rows = refl
 
 -- the row found for one code block is that for C
-pub found-for : (C need row : ℕ) → 0 < C → row ≡ rowFor ((need + (C - 1)) / C) → row ≡ firstRow C need 0 rowCount
+found-for : (C need row : ℕ) → 0 < C → row ≡ rowFor ((need + (C - 1)) / C) → row ≡ firstRow C need 0 rowCount
 unfolding rowFor sizeAt
 found-for C need row some e =
     e
@@ -101,3 +102,14 @@ found-for C need row some e =
     ∙ sym (search-table ((need + (C - 1)) / C) sizeTable 0 (λ j l. ap sizeAt (zero-add j)))
     ∙ ap (firstRow 1 ((need + (C - 1)) / C) 0) all-rows
     ∙ sym (firstRow-alike C need 0 rowCount some)
+
+-- the same with its K
+pub found-told : (C need : ℕ) {r : Found} → 0 < C → r ≡ foundFor ((need + (C - 1)) / C) → (r .row ≡ firstRow C need 0 rowCount) × (r .size ≡ sizeAt (r .row))
+unfolding foundFor
+found-told C need some e = (found-for C need _ some (ap (λ (r : Found). r .row) e), ap (λ (r : Found). r .size) e ∙ ap sizeAt (sym (ap (λ (r : Found). r .row) e)))
+
+pub found-one : (need : ℕ) {r : Found} → r ≡ foundFor need → (r .row ≡ firstRow 1 need 0 rowCount) × (r .size ≡ sizeAt (r .row))
+found-one need e = found-told 1 need (omega arith) (e ∙ ap foundFor (sym alone))
+  where
+    alone : (need + (1 - 1)) / 1 ≡ need
+    alone = omega arith

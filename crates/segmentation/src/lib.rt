@@ -1,9 +1,12 @@
 // Code block segmentation of clause 5.1.2.
 pub mod block;
 
+use interleaver::table::Found;
+use interleaver::table::row_for;
+use interleaver::table::size_at;
 ghost use mathlib.Core.Path.{_≡_};
 ghost use Prim.Native.Nat.{_+_, _*_, _≤_, _<_};
-ghost use Rattle.interleaver.specs.Table.{rowCount};
+ghost use Rattle.interleaver.specs.Table.{rowCount, sizeAt};
 ghost use Rattle.segmentation.specs.Segmentation.{firstRow};
 ghost use Rattle.segmentation.specs.Sizes.{badSize, segmentsOf, segmentsFor, sizesAnswer};
 
@@ -102,8 +105,8 @@ fn single(b: usize) -> Segments
     requires { ⌜ b ≤ 6144 ⌝ }
     ensures { λ r. ⌜ r ≡ segmentsOf b ⌝ }
 {
-    let row = first_row(1, b);
-    let long = interleaver::table::size_at(row);
+    let found = row_for(b);
+    let long = found.size;
     Segments {
         blocks: 1,
         longs: 1,
@@ -111,7 +114,7 @@ fn single(b: usize) -> Segments
         shorts: 0,
         short: 0,
         filler: long - b,
-        row,
+        row: found.row,
     }
 }
 
@@ -123,10 +126,11 @@ fn several(b: usize) -> Segments
     // the ceiling of b / (Z - L)
     let blocks = (b + 6119) / 6120;
     let need = b + blocks * 24;
-    let row = first_row(blocks, need);
-    let long = interleaver::table::size_at(row);
+    let found = first_row(blocks, need);
+    let row = found.row;
+    let long = found.size;
     // 40 is too small for K+ here, so there is a row before
-    let short = interleaver::table::size_at(row - 1);
+    let short = size_at(row - 1);
     let shorts = (blocks * long - need) / (long - short);
     let longs = blocks - shorts;
     Segments {
@@ -141,10 +145,10 @@ fn several(b: usize) -> Segments
 }
 
 // The first row of the table with blocks·K ≥ need.
-fn first_row(blocks: usize, need: usize) -> usize
+fn first_row(blocks: usize, need: usize) -> Found
     requires { ⌜ (0 < blocks) × (blocks ≤ 5) × (need ≤ blocks * 6144) ⌝ }
-    ensures { λ r. ⌜ r ≡ firstRow blocks need 0 rowCount ⌝ }
+    ensures { λ r. ⌜ (r .row ≡ firstRow blocks need 0 rowCount) × (r .size ≡ sizeAt (r .row)) ⌝ }
 {
     // blocks·K ≥ need says the same as K ≥ the ceiling of need / blocks
-    interleaver::table::row_for((need + (blocks - 1)) / blocks)
+    row_for((need + (blocks - 1)) / blocks)
 }

@@ -44,12 +44,11 @@ pub struct Tails {
 fn is_encodable(row: usize, filler: usize, n0: usize, n1: usize, n2: usize) -> bool
     ensures { λ r. ⌜ r ≡ encodable row filler n0 n1 n2 ⌝ }
 {
-    if row >= table::ROWS {
+    if n0 < 4 {
         return false;
     }
-    let k = table::size_at(row);
-    let n = k + 4;
-    (filler <= k) & (n0 == n) & (n1 == n) & (n2 == n)
+    let k = n0 - 4;
+    table::has_size(row, k) & (filler <= k) & (n1 == n0) & (n2 == n0)
 }
 
 // The tail from the registers after the last bit. The input is the feedback, so a zero enters at each of the three steps.

@@ -1,7 +1,7 @@
 -- `first_row` meets its contract: the ceiling of need / blocks is the least K that serves.
 -- Assumes nothing.
 use borrow.Author.Needs.{needs}
-use Rattle.segmentation.proofs.FirstRow.{found-for}
+use Rattle.segmentation.proofs.FirstRow.{found-told}
 use Rattle.segmentation.proofs.first_row.Statement.{statement}
 use Rattle.segmentation.proofs.first_row.Tie as tie
 
@@ -18,7 +18,7 @@ row-for-requires : tie.Need-row-for-requires
 row-for-requires c κs = search needs
 
 returns : tie.Need-returns
-returns c = found-for _ _ _ (c .before .pre .0) (c .row-for .ensures)
+returns c = found-told _ _ (c .before .pre .0) (c .row-for .ensures)
 
 pub first-row-spec : {M : Type 1} → statement M
 first-row-spec =

@@ -20,20 +20,16 @@ add-need c = search needs
 first-row-requires : tie.Need-first-row-requires
 first-row-requires c κs = search needs
 
+sub-size-at : tie.Need-sub-size-at
+sub-size-at c = row-positive (c .before .pre .0) (c .before .pre .1) (c .first-row .ensures .0) (c .first-row .ensures .1)
+
 size-at-requires : tie.Need-size-at-requires
 size-at-requires c κs = search needs
 
-sub-size-at : tie.Need-sub-size-at
-sub-size-at c =
-    row-positive (c .before .before .pre .0) (c .before .before .pre .1) (c .before .first-row .ensures) (c .size-at .ensures)
-
-size-at-requires-2 : tie.Need-size-at-requires-2
-size-at-requires-2 c κs = search needs
-
 -- at the sums
-here : (c : tie.After-size-at2) → Sums (blocksBy (c .before .before .before .args .b)) (needBy (c .before .before .before .args .b))
-    (c .before .size-at .result) (c .size-at2 .result) (shortsBy (c .before .before .before .args .b) (c .before .size-at .result) (c .size-at2 .result))
-here c = sums (c .before .before .before .pre .0) (c .before .before .before .pre .1) (c .before .before .first-row .ensures) (c .before .size-at .ensures) (c .size-at2 .ensures)
+here : (c : tie.After-size-at) → Sums (blocksBy (c .before .before .args .b)) (needBy (c .before .before .args .b))
+    (c .before .first-row .result .size) (c .size-at .result) (shortsBy (c .before .before .args .b) (c .before .first-row .result .size) (c .size-at .result))
+here c = sums (c .before .before .pre .0) (c .before .before .pre .1) (c .before .first-row .ensures .0) (c .before .first-row .ensures .1) (c .size-at .ensures)
 
 mul-shorts : tie.Need-mul-shorts
 mul-shorts c = omega (arith, mul-le-mul (here c .few) (here c .most))
@@ -50,21 +46,21 @@ div-shorts c = omega (arith, here c .below)
 sub-longs : tie.Need-sub-longs
 sub-longs c = omega (arith, here c .fewer)
 
-mul-t9 : tie.Need-mul-t9
-mul-t9 c = record { fits = here c .long-part }
+mul-t10 : tie.Need-mul-t10
+mul-t10 c = record { fits = here c .long-part }
 
-mul-t11 : tie.Need-mul-t11
-mul-t11 c = record { fits = here c .short-part }
+mul-t12 : tie.Need-mul-t12
+mul-t12 c = record { fits = here c .short-part }
 
-add-t10 : tie.Need-add-t10
-add-t10 c = record { fits = here c .all }
+add-t11 : tie.Need-add-t11
+add-t11 c = record { fits = here c .all }
 
-sub-t12 : tie.Need-sub-t12
-sub-t12 c = here c .total
+sub-t13 : tie.Need-sub-t13
+sub-t13 c = here c .total
 
 returns : tie.Need-returns
 returns c =
-    worked (c .before .before .before .pre .0) (c .before .before .before .pre .1) (c .before .before .first-row .ensures) (c .before .size-at .ensures) (c .size-at2 .ensures)
+    worked (c .before .before .pre .0) (c .before .before .pre .1) (c .before .first-row .ensures .0) (c .before .first-row .ensures .1) (c .size-at .ensures)
 
 pub several-spec : {M : Type 1} → statement M
 several-spec =
@@ -74,16 +70,15 @@ several-spec =
     mul-need
     add-need
     first-row-requires
-    size-at-requires
     sub-size-at
-    size-at-requires-2
+    size-at-requires
     mul-shorts
     sub-shorts
     sub-shorts-2
     div-shorts
     sub-longs
-    mul-t9
-    mul-t11
-    add-t10
-    sub-t12
+    mul-t10
+    mul-t12
+    add-t11
+    sub-t13
     returns)

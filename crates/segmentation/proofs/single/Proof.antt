@@ -1,22 +1,23 @@
 -- `single` meets its contract: the numbers are those of the segmentation (`Worked`).
 -- Assumes nothing.
-use native.Mathlib.Omega.{arith}
 use Rattle.segmentation.proofs.Worked.{single-serves, single-worked}
+use Rattle.segmentation.proofs.FirstRow.{found-one}
 use borrow.Author.Needs.{needs}
 use Rattle.segmentation.proofs.single.Statement.{statement}
 use Rattle.segmentation.proofs.single.Tie as tie
 
-first-row-requires : tie.Need-first-row-requires
-first-row-requires c κs = search needs
-
-size-at-requires : tie.Need-size-at-requires
-size-at-requires c κs = search needs
+row-for-requires : tie.Need-row-for-requires
+row-for-requires c κs = search needs
 
 sub-t4 : tie.Need-sub-t4
-sub-t4 c = omega (arith, single-serves (c .before .before .pre) (c .before .first-row .ensures) (c .size-at .ensures))
+sub-t4 c =
+    let row = found-one _ (c .row-for .ensures) in
+    single-serves (c .before .pre) (row .0) (row .1)
 
 returns : tie.Need-returns
-returns c = single-worked (c .before .before .pre) (c .before .first-row .ensures) (c .size-at .ensures)
+returns c =
+    let row = found-one _ (c .row-for .ensures) in
+    single-worked (c .before .pre) (row .0) (row .1)
 
 pub single-spec : {M : Type 1} → statement M
-single-spec = tie.close (tie.spec first-row-requires size-at-requires sub-t4 returns)
+single-spec = tie.close (tie.spec row-for-requires sub-t4 returns)

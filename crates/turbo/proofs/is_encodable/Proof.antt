@@ -1,27 +1,19 @@
--- `turbo::is_encodable` meets its contract: no row, or the same tests in the same order.
+-- `turbo::is_encodable` meets its contract: no room for the tail, or the same tests from the size of the room.
 -- Assumes nothing.
-use native.Mathlib.Omega.{arith}
+use mathlib.Core.Path.{sym, _∙_}
 use borrow.Author.Needs.{needs}
-use borrow.Author.Tests.{lt-ltb, le-ltb}
-use Rattle.interleaver.specs.Table.{rowCount}
-use Rattle.interleaver.proofs.Rows.{row-keeps}
-use Rattle.turbo.specs.Encode.{encodable}
+use Rattle.turbo.proofs.Encodable.{by-size, no-tail}
 use Rattle.turbo.proofs.is_encodable.Statement.{statement}
 use Rattle.turbo.proofs.is_encodable.Tie as tie
 
 returns : tie.Need-returns
-unfolding encodable
-returns c = rw (le-ltb _ rowCount (c .if1 .taken))
+returns c = sym (no-tail _ _ _ _ _ (c .if1 .taken))
 
-size-at-requires : tie.Need-size-at-requires
-size-at-requires c κs = search needs
-
-add-n : tie.Need-add-n
-add-n c = omega (arith, c .size-at .ensures, row-keeps _ (c .before .if1 .left) .most)
+has-size-requires : tie.Need-has-size-requires
+has-size-requires c κs = search needs
 
 returns-2 : tie.Need-returns-2
-unfolding encodable
-returns-2 c = rw (lt-ltb _ rowCount (c .before .if1 .left), c .size-at .ensures)
+returns-2 c = rw (c .has-size .ensures) (by-size _ _ _ _ _ (c .before .if1 .left))
 
 pub is-encodable-spec : {M : Type 1} → statement M
-is-encodable-spec = tie.close (tie.spec returns size-at-requires add-n returns-2)
+is-encodable-spec = tie.close (tie.spec returns has-size-requires returns-2)

@@ -1,12 +1,10 @@
--- `table::row_for` meets its contract: the constants are the first 32 sizes of the definition's column, and those after them.
+-- `table::row_for` meets its contract: the constants are the first 8 sizes of the definition's column, and those after them.
 -- Assumes nothing.
 use borrow.Author.Needs.{needs}
-use mathlib.Core.Path.{_∙_, ap}
-use Prim.Native.Nat.{ℕ, _+_}
+use mathlib.Core.Path.{_∙_}
 use native.Mathlib.Omega.{arith}
-use lib.ListN.{drop}
 use Rattle.interleaver.specs.Table.{sizeTable}
-use Rattle.interleaver.proofs.Search.{first-within, rest-few, in-short, in-long}
+use Rattle.interleaver.proofs.Search.{in-short, in-long, in-none, count-few}
 use Rattle.interleaver.proofs.table.row_for.Statement.{statement}
 use Rattle.interleaver.proofs.table.row_for.Tie as tie
 
@@ -20,19 +18,31 @@ returns : tie.Need-returns
 unfolding sizeTable
 returns c = c .first-at-least .ensures ∙ in-short _ (c .before .before .if1 .taken)
 
-slice-aggregate-first-at-least-2 : tie.Need-slice-aggregate-first-at-least-2
-slice-aggregate-first-at-least-2 c = search needs
-
-first-at-least-requires-2 : tie.Need-first-at-least-requires-2
-first-at-least-requires-2 c κs = search needs
-
-add-result : tie.Need-add-result
-unfolding sizeTable
-add-result c = omega (arith, c .first-at-least2 .ensures, first-within (c .before .before .before .args .least) (drop 32 sizeTable), rest-few)
-
 returns-2 : tie.Need-returns-2
+returns-2 c = in-none _ (c .if2 .taken)
+
+slice-aggregate-count-below : tie.Need-slice-aggregate-count-below
+slice-aggregate-count-below c = search needs
+
+cast-count-below : tie.Need-cast-count-below
+cast-count-below c = search needs
+
+count-below-requires : tie.Need-count-below-requires
+count-below-requires c κs = search needs
+
+add-t13 : tie.Need-add-t13
 unfolding sizeTable
-returns-2 c = ap (λ (n : ℕ). 32 + n) (c .first-at-least2 .ensures) ∙ in-long _ (c .before .before .if1 .left)
+add-t13 c = omega (arith, c .count-below .ensures, count-few (c .before .before .before .before .args .least))
+
+slice-aggregate-entry : tie.Need-slice-aggregate-entry
+slice-aggregate-entry c = search needs
+
+entry-requires : tie.Need-entry-requires
+entry-requires c κs = search needs
+
+returns-3 : tie.Need-returns-3
+unfolding sizeTable
+returns-3 c = in-long (c .before .before .before .before .before .if1 .left) (c .before .before .count-below .ensures) (c .entry .ensures)
 
 pub row-for-spec : {M : Type 1} → statement M
 row-for-spec =
@@ -41,7 +51,11 @@ row-for-spec =
     slice-aggregate-first-at-least
     first-at-least-requires
     returns
-    slice-aggregate-first-at-least-2
-    first-at-least-requires-2
-    add-result
-    returns-2)
+    returns-2
+    slice-aggregate-count-below
+    cast-count-below
+    count-below-requires
+    add-t13
+    slice-aggregate-entry
+    entry-requires
+    returns-3)

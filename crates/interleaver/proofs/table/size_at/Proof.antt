@@ -1,4 +1,4 @@
--- `table::size_at` meets its contract: the constants are the first 32 entries of the definition's column, and those after them.
+-- `table::size_at` meets its contract: the constants are the first 8 entries of the definition's column, and those after them.
 -- Assumes nothing.
 use borrow.Author.Needs.{needs}
 use mathlib.Core.Path.{_≡_, _∙_, ap}
@@ -18,7 +18,7 @@ entry-requires c κs = search needs
 
 returns : tie.Need-returns
 unfolding sizeAt sizeTable
-returns c = c .entry .ensures ∙ getD-take 32 sizeTable (c .before .before .before .args .row) 0 (c .before .before .if1 .taken)
+returns c = c .entry .ensures ∙ getD-take 8 sizeTable (c .before .before .before .args .row) 0 (c .before .before .if1 .taken)
 
 slice-aggregate-entry-2 : tie.Need-slice-aggregate-entry-2
 slice-aggregate-entry-2 c = search needs
@@ -30,8 +30,8 @@ returns-2 : tie.Need-returns-2
 unfolding sizeAt sizeTable
 returns-2 c =
     let row = c .before .before .before .args .row in
-    let on : 32 + (row - 32) ≡ row = omega (arith, c .before .before .if1 .left) in
-    c .entry2 .ensures ∙ getD-drop 32 sizeTable (row - 32) 0 ∙ ap (λ (i : ℕ). getD sizeTable i 0) on
+    let on : 8 + (row - 8) ≡ row = omega (arith, c .before .before .if1 .left) in
+    c .entry2 .ensures ∙ getD-drop 8 sizeTable (row - 8) 0 ∙ ap (λ (i : ℕ). getD sizeTable i 0) on
 
 pub size-at-spec : {M : Type 1} → statement M
 size-at-spec =
