@@ -5,9 +5,11 @@ mod numbers;
 mod packed;
 mod state;
 
+use codeword::Grant;
 ghost use mathlib.Core.List.{_++_};
 ghost use mathlib.Core.Path.{_≡_};
 ghost use lib.ListN.{length};
+ghost use Rattle.codeword.specs.Shares.{grant};
 ghost use Rattle.codeword.specs.Build.{buildNumber, buildOutput};
 ghost use Rattle.reports.specs.Calls.{reportBuildNumber, reportBuildOutput, partNumber, partOutput};
 ghost use Rattle.packing.specs.Change.{packNumber, packOutput, unpackNumber, unpackOutput};
@@ -24,10 +26,16 @@ pub extern "C" fn zemrukste_build(
     g: usize,
     out: &mut [u8],
 ) -> u32
-    ensures number { λ r. ⌜ r ≡ buildNumber (now (block .entry)) q n version g (length (now (out .entry))) ⌝ }
-    ensures output { λ r. ⌜ now (out .exit) ≡ buildOutput (now (block .entry)) q n version g (now (out .entry)) ⌝ }
+    ensures number { λ r. ⌜ r ≡ buildNumber (now (block .entry)) (grant q n version g) (length (now (out .entry))) ⌝ }
+    ensures output { λ r. ⌜ now (out .exit) ≡ buildOutput (now (block .entry)) (grant q n version g) (now (out .entry)) ⌝ }
 {
-    codeword::build(block, q, n, version, g, out) as u32
+    let grant = Grant {
+        modulation: q,
+        layers: n,
+        version,
+        bits: g,
+    };
+    codeword::build(block, grant, out) as u32
 }
 
 // Build of a block that lies in two slices, the header's bits before the payload's.
@@ -41,10 +49,16 @@ pub extern "C" fn zemrukste_build_two(
     g: usize,
     out: &mut [u8],
 ) -> u32
-    ensures number { λ r. ⌜ r ≡ buildNumber (now (header .entry) ++ now (payload .entry)) q n version g (length (now (out .entry))) ⌝ }
-    ensures output { λ r. ⌜ now (out .exit) ≡ buildOutput (now (header .entry) ++ now (payload .entry)) q n version g (now (out .entry)) ⌝ }
+    ensures number { λ r. ⌜ r ≡ buildNumber (now (header .entry) ++ now (payload .entry)) (grant q n version g) (length (now (out .entry))) ⌝ }
+    ensures output { λ r. ⌜ now (out .exit) ≡ buildOutput (now (header .entry) ++ now (payload .entry)) (grant q n version g) (now (out .entry)) ⌝ }
 {
-    codeword::build_two(header, payload, q, n, version, g, out) as u32
+    let grant = Grant {
+        modulation: q,
+        layers: n,
+        version,
+        bits: g,
+    };
+    codeword::build_two(header, payload, grant, out) as u32
 }
 
 // Build for a downlink: the same, for a receiver with a limited soft buffer.
@@ -62,22 +76,16 @@ pub extern "C" fn zemrukste_build_down(
     g: usize,
     out: &mut [u8],
 ) -> u32
-    ensures number { λ r. ⌜ r ≡ buildDownNumber (now (block .entry)) release mimo processes soft layers q n version g (length (now (out .entry))) ⌝ }
-    ensures output { λ r. ⌜ now (out .exit) ≡ buildDownOutput (now (block .entry)) release mimo processes soft layers q n version g (now (out .entry)) ⌝ }
+    ensures number { λ r. ⌜ r ≡ buildDownNumber (now (block .entry)) release mimo processes soft layers (grant q n version g) (length (now (out .entry))) ⌝ }
+    ensures output { λ r. ⌜ now (out .exit) ≡ buildDownOutput (now (block .entry)) release mimo processes soft layers (grant q n version g) (now (out .entry)) ⌝ }
 {
-    codeword::build_down(
-        block,
-        release,
-        mimo,
-        processes,
-        soft,
-        layers,
-        q,
-        n,
+    let grant = Grant {
+        modulation: q,
+        layers: n,
         version,
-        g,
-        out,
-    ) as u32
+        bits: g,
+    };
+    codeword::build_down(block, release, mimo, processes, soft, layers, grant, out) as u32
 }
 
 // Sizes: the six numbers as bytes over the front of `out`, or the number of the refusal, which writes nothing.
@@ -110,10 +118,16 @@ pub extern "C" fn zemrukste_report_build(
     g: usize,
     out: &mut [u8],
 ) -> u32
-    ensures number { λ r. ⌜ r ≡ reportBuildNumber (now (report .entry)) control (now (block .entry)) q n version g (length (now (out .entry))) ⌝ }
-    ensures output { λ r. ⌜ now (out .exit) ≡ reportBuildOutput (now (report .entry)) control (now (block .entry)) q n version g (now (out .entry)) ⌝ }
+    ensures number { λ r. ⌜ r ≡ reportBuildNumber (now (report .entry)) control (now (block .entry)) (grant q n version g) (length (now (out .entry))) ⌝ }
+    ensures output { λ r. ⌜ now (out .exit) ≡ reportBuildOutput (now (report .entry)) control (now (block .entry)) (grant q n version g) (now (out .entry)) ⌝ }
 {
-    reports::build(report, control, block, q, n, version, g, out) as u32
+    let grant = Grant {
+        modulation: q,
+        layers: n,
+        version,
+        bits: g,
+    };
+    reports::build(report, control, block, grant, out) as u32
 }
 
 // The report of a received run: 0, or the number of the refusal, which writes nothing.
