@@ -23,6 +23,7 @@ use Rattle.slots.specs.Answers.{isDone, unlessRefused}
 use Rattle.laws.proofs.Tab.{length-tab}
 use Rattle.segmentation.specs.Segmentation.{blocks}
 use Rattle.rate_matching.specs.SoftBuffer.{softShare}
+use Rattle.codeword.specs.declared.Grant.{Grant}
 use Rattle.codeword.specs.Codeword.{codeword, codewordIn}
 use Rattle.codeword.specs.Build.{buildNumber, buildOutput}
 use Rattle.codeword.specs.Downlink.{buildDownNumber, buildDownOutput}
@@ -161,11 +162,11 @@ module _ (state : State) (store : List ℕ) (slot terminal r : ℕ) (out : List 
       ap (λ (n : ℕ). n + 4) (k-is ∙ size-told (headAt state slot .size) r found (open-size state (w .sound) slot (w .below) (w .opened) .0))
 
 -- the codeword that an accepted Build wrote
-pub build-run : (block : List ℕ) (Q N v G : ℕ) (out : List ℕ) {out′ : List ℕ} → buildNumber block Q N v G (length out) ≡ 0
-    → out′ ≡ buildOutput block Q N v G out → length out′ ≡ length out → (G ≤ length out) × (take G out′ ≡ codeword block Q N v G)
+pub build-run : (block : List ℕ) (g : Grant) (out : List ℕ) {out′ : List ℕ} → buildNumber block g (length out) ≡ 0
+    → out′ ≡ buildOutput block g out → length out′ ≡ length out → (g .bits ≤ length out) × (take (g .bits) out′ ≡ codeword block g)
 unfolding buildOutput
-build-run block Q N v G out taken e kept =
-    let fits = accepted-build block Q N v G (length out) taken .1 in (fits, front (codeword block Q N v G) out G fits (rw (eq-eqb _ _ taken) at e) kept)
+build-run block g out taken e kept =
+    let fits = accepted-build block g (length out) taken .1 in (fits, front (codeword block g) out (g .bits) fits (rw (eq-eqb _ _ taken) at e) kept)
 
 -- ---- the rows
 
@@ -203,34 +204,34 @@ streams-row state store slot terminal r out room done wrote d-is =
     rw (d-is, runs .0, runs .1, runs .2, room, streamed-is state (length store) slot terminal r (length out), done)
 
 -- a refused Build's row
-pub build-refused : (block : List ℕ) (Q N v G : ℕ) (out : List ℕ) {number : ℕ} → buildRoom ≡ length out → number ≡ buildNumber block Q N v G (length out)
-    → (number ≡ 0 → ⊥) → refusalRow number ≡ buildRow block Q N v G
+pub build-refused : (block : List ℕ) (g : Grant) (out : List ℕ) {number : ℕ} → buildRoom ≡ length out → number ≡ buildNumber block g (length out)
+    → (number ≡ 0 → ⊥) → refusalRow number ≡ buildRow block g
 unfolding buildRow
-build-refused block Q N v G out room e h = rw (room, ← e, ne-eqb _ 0 h)
+build-refused block g out room e h = rw (room, ← e, ne-eqb _ 0 h)
 
 -- a codeword's row
-pub build-row : (block : List ℕ) (Q N v G : ℕ) (out : List ℕ) {out′ : List ℕ} {number : ℕ} → buildRoom ≡ length out → number ≡ buildNumber block Q N v G (length out)
-    → number ≡ 0 → out′ ≡ buildOutput block Q N v G out → length out′ ≡ length out → (G ≤ length out) × (runRow (take G out′) ≡ buildRow block Q N v G)
+pub build-row : (block : List ℕ) (g : Grant) (out : List ℕ) {out′ : List ℕ} {number : ℕ} → buildRoom ≡ length out → number ≡ buildNumber block g (length out)
+    → number ≡ 0 → out′ ≡ buildOutput block g out → length out′ ≡ length out → (g .bits ≤ length out) × (runRow (take (g .bits) out′) ≡ buildRow block g)
 unfolding buildRow
-build-row block Q N v G out room e z wrote kept =
+build-row block g out room e z wrote kept =
     let taken = sym e ∙ z in
-    let run = build-run block Q N v G out taken wrote kept in
+    let run = build-run block g out taken wrote kept in
     (run .0, rw (run .1, room, eq-eqb _ _ taken))
 
 -- Build for a downlink
-module _ (block : List ℕ) (release kMIMO processes Nsoft layers Q N v G : ℕ) (out : List ℕ) {number : ℕ} (room : buildRoom ≡ length out)
-    (e : number ≡ buildDownNumber block release kMIMO processes Nsoft layers Q N v G (length out)) where
+module _ (block : List ℕ) (release kMIMO processes Nsoft layers : ℕ) (g : Grant) (out : List ℕ) {number : ℕ} (room : buildRoom ≡ length out)
+    (e : number ≡ buildDownNumber block release kMIMO processes Nsoft layers g (length out)) where
   -- a refused one's row
-  pub down-refused : (number ≡ 0 → ⊥) → refusalRow number ≡ buildDownRow block release kMIMO processes Nsoft layers Q N v G
+  pub down-refused : (number ≡ 0 → ⊥) → refusalRow number ≡ buildDownRow block release kMIMO processes Nsoft layers g
   unfolding buildDownRow
   down-refused h = rw (room, ← e, ne-eqb _ 0 h)
 
   -- a codeword's row
-  pub down-row : {out′ : List ℕ} → number ≡ 0 → out′ ≡ buildDownOutput block release kMIMO processes Nsoft layers Q N v G out → length out′ ≡ length out
-      → (G ≤ length out) × (runRow (take G out′) ≡ buildDownRow block release kMIMO processes Nsoft layers Q N v G)
+  pub down-row : {out′ : List ℕ} → number ≡ 0 → out′ ≡ buildDownOutput block release kMIMO processes Nsoft layers g out → length out′ ≡ length out
+      → (g .bits ≤ length out) × (runRow (take (g .bits) out′) ≡ buildDownRow block release kMIMO processes Nsoft layers g)
   unfolding buildDownRow buildDownOutput
   down-row z wrote kept =
       let taken = sym e ∙ z in
-      let fits = accepted-down block release kMIMO processes Nsoft layers Q N v G (length out) taken .1 in
-      let run = front (codewordIn (softShare (blocks (length block + 24)) release kMIMO processes Nsoft layers) block Q N v G) out G fits (rw (eq-eqb _ _ taken) at wrote) kept in
+      let fits = accepted-down block release kMIMO processes Nsoft layers g (length out) taken .1 in
+      let run = front (codewordIn (softShare (blocks (length block + 24)) release kMIMO processes Nsoft layers) block g) out (g .bits) fits (rw (eq-eqb _ _ taken) at wrote) kept in
       (fits, rw (run, room, eq-eqb _ _ taken))

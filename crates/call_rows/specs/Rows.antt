@@ -8,6 +8,7 @@ use lib.ListN.{length, getD}
 use Rattle.laws.specs.Lists.{tab}
 use Rattle.segmentation.specs.Segmentation.{blocks, sizeOf, fillerOf}
 use Rattle.rate_matching.specs.SoftBuffer.{softShare}
+use Rattle.codeword.specs.declared.Grant.{Grant}
 use Rattle.codeword.specs.Codeword.{codeword, codewordIn}
 use Rattle.codeword.specs.Build.{buildNumber}
 use Rattle.codeword.specs.Downlink.{buildDownNumber}
@@ -55,15 +56,15 @@ streamsRow state store slot terminal r =
     (answerRow (streamsOutcome state (length store) slot terminal r streamsRoom .answer))
 
 -- the codeword, or the refusal
-unfoldable pub buildRow : List ℕ → ℕ → ℕ → ℕ → ℕ → List ℕ
-buildRow block Q N v G =
-    cond (eqb (buildNumber block Q N v G buildRoom) 0)
-    (runRow (codeword block Q N v G))
-    (refusalRow (buildNumber block Q N v G buildRoom))
+unfoldable pub buildRow : List ℕ → Grant → List ℕ
+buildRow block g =
+    cond (eqb (buildNumber block g buildRoom) 0)
+    (runRow (codeword block g))
+    (refusalRow (buildNumber block g buildRoom))
 
 -- the codeword for a downlink, or the refusal
-unfoldable pub buildDownRow : List ℕ → ℕ → ℕ → ℕ → ℕ → ℕ → ℕ → ℕ → ℕ → ℕ → List ℕ
-buildDownRow block release kMIMO processes Nsoft layers Q N v G =
-    cond (eqb (buildDownNumber block release kMIMO processes Nsoft layers Q N v G buildRoom) 0)
-    (runRow (codewordIn (softShare (blocks (length block + 24)) release kMIMO processes Nsoft layers) block Q N v G))
-    (refusalRow (buildDownNumber block release kMIMO processes Nsoft layers Q N v G buildRoom))
+unfoldable pub buildDownRow : List ℕ → ℕ → ℕ → ℕ → ℕ → ℕ → Grant → List ℕ
+buildDownRow block release kMIMO processes Nsoft layers g =
+    cond (eqb (buildDownNumber block release kMIMO processes Nsoft layers g buildRoom) 0)
+    (runRow (codewordIn (softShare (blocks (length block + 24)) release kMIMO processes Nsoft layers) block g))
+    (refusalRow (buildDownNumber block release kMIMO processes Nsoft layers g buildRoom))

@@ -1,11 +1,13 @@
 // The calls on rooms in either form, and the rows of those that give bits.
 pub mod rooms;
 
+use codeword::Grant;
 use slots::State;
 use slots::states;
 ghost use mathlib.Core.Path.{_≡_};
 ghost use Prim.Native.Nat.{_+_, _-_, _*_, _≤_};
 ghost use lib.ListN.{length, take, drop};
+ghost use Rattle.codeword.specs.Shares.{grant};
 ghost use Rattle.packing.specs.Store.{placesIn};
 ghost use Rattle.lines.specs.Put.{putAt, endAt};
 ghost use Rattle.answers.specs.Rows.{runsRow};
@@ -93,47 +95,35 @@ fn put_three(runs: &[u8], d: usize, out: &mut [u8]) -> usize
 }
 
 // The row of Build.
-pub fn put_codeword(
-    block: &[u8],
-    q: usize,
-    n: usize,
-    version: usize,
-    g: usize,
-    out: &mut [u8],
-) -> usize
-    ensures { λ r. ⌜ r ≡ endAt 0 (buildRow (now (block .entry)) q n version g) (now (out .entry)) ⌝ }
-    ensures { λ r. ⌜ now (out .exit) ≡ putAt 0 (buildRow (now (block .entry)) q n version g) (now (out .entry)) ⌝ }
+pub fn put_codeword(block: &[u8], grant: Grant, out: &mut [u8]) -> usize
+    ensures { λ r. ⌜ r ≡ endAt 0 (buildRow (now (block .entry)) grant) (now (out .entry)) ⌝ }
+    ensures { λ r. ⌜ now (out .exit) ≡ putAt 0 (buildRow (now (block .entry)) grant) (now (out .entry)) ⌝ }
 {
     let mut code = code_room();
-    let number = codeword::build(block, q, n, version, g, &mut code);
+    let number = codeword::build(block, grant, &mut code);
     if number != 0 {
         return answers::put_refusal(number as usize, out);
     }
+    let g = grant.bits;
     answers::put_run(&code[..g], out)
 }
 
 // The row of Build for a downlink.
 pub fn put_codeword_down(block: &[u8], n: [usize; 9], out: &mut [u8]) -> usize
-    ensures { λ r. ⌜ r ≡ endAt 0 (buildDownRow (now (block .entry)) (at n 0) (at n 1) (at n 2) (at n 3) (at n 4) (at n 5) (at n 6) (at n 7) (at n 8)) (now (out .entry)) ⌝ }
-    ensures { λ r. ⌜ now (out .exit) ≡ putAt 0 (buildDownRow (now (block .entry)) (at n 0) (at n 1) (at n 2) (at n 3) (at n 4) (at n 5) (at n 6) (at n 7) (at n 8)) (now (out .entry)) ⌝ }
+    ensures { λ r. ⌜ r ≡ endAt 0 (buildDownRow (now (block .entry)) (at n 0) (at n 1) (at n 2) (at n 3) (at n 4) (grant (at n 5) (at n 6) (at n 7) (at n 8))) (now (out .entry)) ⌝ }
+    ensures { λ r. ⌜ now (out .exit) ≡ putAt 0 (buildDownRow (now (block .entry)) (at n 0) (at n 1) (at n 2) (at n 3) (at n 4) (grant (at n 5) (at n 6) (at n 7) (at n 8))) (now (out .entry)) ⌝ }
 {
     let mut code = code_room();
-    let g = n[8];
-    let number = codeword::build_down(
-        block,
-        n[0],
-        n[1],
-        n[2],
-        n[3],
-        n[4],
-        n[5],
-        n[6],
-        n[7],
-        g,
-        &mut code,
-    );
+    let grant = Grant {
+        modulation: n[5],
+        layers: n[6],
+        version: n[7],
+        bits: n[8],
+    };
+    let number = codeword::build_down(block, n[0], n[1], n[2], n[3], n[4], grant, &mut code);
     if number != 0 {
         return answers::put_refusal(number as usize, out);
     }
+    let g = grant.bits;
     answers::put_run(&code[..g], out)
 }

@@ -20,6 +20,7 @@ use Rattle.answers.specs.SizesRow.{sizesRow}
 use Rattle.answers.specs.WorstRow.{worstRow}
 use Rattle.yard.specs.declared.Step.{Step}
 use Rattle.yard.specs.Change.{changes, packs, changeRow, formAfter, plainChanged, packedChanged}
+use Rattle.codeword.specs.Shares.{grant}
 use Rattle.call_rows.specs.Rows.{at, shareRow, readRow, streamsRow, buildRow, buildDownRow}
 
 -- the row that answers a verb with its numbers n and bits on the places of the rooms: none for a line that asks for nothing, 15 for one that can't
@@ -34,9 +35,9 @@ rowBy Receive n bits state places =
     answerRow (receiveOutcome state (at n 0) (at n 1) (at n 2) (at n 3) (at n 4) bits places .answer)
 rowBy Read n bits state places = readRow state places (at n 0) (at n 1)
 rowBy Streams n bits state places = streamsRow state places (at n 0) (at n 1) (at n 2)
-rowBy Build n bits state places = buildRow bits (at n 0) (at n 1) (at n 2) (at n 3)
+rowBy Build n bits state places = buildRow bits (grant (at n 0) (at n 1) (at n 2) (at n 3))
 rowBy BuildDown n bits state places =
-    buildDownRow bits (at n 0) (at n 1) (at n 2) (at n 3) (at n 4) (at n 5) (at n 6) (at n 7) (at n 8)
+    buildDownRow bits (at n 0) (at n 1) (at n 2) (at n 3) (at n 4) (grant (at n 5) (at n 6) (at n 7) (at n 8))
 rowBy Sizes n bits state places = sizesRow (sizesAnswer (at n 0))
 rowBy Worst n bits state places = worstRow (worstAnswer (at n 0) (at n 1) (at n 2))
 rowBy Pack n bits state places = []

@@ -1,6 +1,7 @@
 // A line of the yard's log made one call of 01, or a change of form, and its answer a row.
 mod change;
 
+use codeword::Grant;
 use requests::Request;
 use requests::Verb;
 use slots::Answer;
@@ -10,6 +11,7 @@ use slots::states;
 ghost use mathlib.Core.Path.{_≡_};
 ghost use Prim.Native.Nat.{_≤_};
 ghost use lib.ListN.{length};
+ghost use Rattle.codeword.specs.Shares.{grant};
 ghost use Rattle.slots.specs.Calls.{openDownOutcome, openDownStore, receiveOutcome, receiveStore};
 ghost use Rattle.packing.specs.Store.{placesIn, inForm};
 ghost use Rattle.lines.specs.Put.{putAt, endAt};
@@ -271,19 +273,25 @@ fn received(
 // The row of Build with the line's BITS.
 fn put_build(n: [usize; 9], line: &[u8], from: usize, out: &mut [u8]) -> usize
     requires { ⌜ length (now line) ≤ longestLine ⌝ }
-    ensures { λ r. ⌜ r ≡ endAt 0 (buildRow (bitsFrom (now (line .entry)) from) (at n 0) (at n 1) (at n 2) (at n 3)) (now (out .entry)) ⌝ }
-    ensures { λ r. ⌜ now (out .exit) ≡ putAt 0 (buildRow (bitsFrom (now (line .entry)) from) (at n 0) (at n 1) (at n 2) (at n 3)) (now (out .entry)) ⌝ }
+    ensures { λ r. ⌜ r ≡ endAt 0 (buildRow (bitsFrom (now (line .entry)) from) (grant (at n 0) (at n 1) (at n 2) (at n 3))) (now (out .entry)) ⌝ }
+    ensures { λ r. ⌜ now (out .exit) ≡ putAt 0 (buildRow (bitsFrom (now (line .entry)) from) (grant (at n 0) (at n 1) (at n 2) (at n 3))) (now (out .entry)) ⌝ }
 {
     let mut given = bits_room();
     let count = requests::read_bits(line, from, &mut given);
-    call_rows::put_codeword(&given[..count], n[0], n[1], n[2], n[3], out)
+    let grant = Grant {
+        modulation: n[0],
+        layers: n[1],
+        version: n[2],
+        bits: n[3],
+    };
+    call_rows::put_codeword(&given[..count], grant, out)
 }
 
 // The row of Build for a downlink with the line's BITS.
 fn put_build_down(n: [usize; 9], line: &[u8], from: usize, out: &mut [u8]) -> usize
     requires { ⌜ length (now line) ≤ longestLine ⌝ }
-    ensures { λ r. ⌜ r ≡ endAt 0 (buildDownRow (bitsFrom (now (line .entry)) from) (at n 0) (at n 1) (at n 2) (at n 3) (at n 4) (at n 5) (at n 6) (at n 7) (at n 8)) (now (out .entry)) ⌝ }
-    ensures { λ r. ⌜ now (out .exit) ≡ putAt 0 (buildDownRow (bitsFrom (now (line .entry)) from) (at n 0) (at n 1) (at n 2) (at n 3) (at n 4) (at n 5) (at n 6) (at n 7) (at n 8)) (now (out .entry)) ⌝ }
+    ensures { λ r. ⌜ r ≡ endAt 0 (buildDownRow (bitsFrom (now (line .entry)) from) (at n 0) (at n 1) (at n 2) (at n 3) (at n 4) (grant (at n 5) (at n 6) (at n 7) (at n 8))) (now (out .entry)) ⌝ }
+    ensures { λ r. ⌜ now (out .exit) ≡ putAt 0 (buildDownRow (bitsFrom (now (line .entry)) from) (at n 0) (at n 1) (at n 2) (at n 3) (at n 4) (grant (at n 5) (at n 6) (at n 7) (at n 8))) (now (out .entry)) ⌝ }
 {
     let mut given = bits_room();
     let count = requests::read_bits(line, from, &mut given);

@@ -33,12 +33,12 @@ same-length c = search needs
 returns : tie.Need-returns
 returns c =
     let args = c .before .before .before .before .before .before .before .before .before .before .before .args in
-    rw (build-refused (now (args .block)) (args .q) (args .n) (args .version) (args .g) (c .before .before .before .before .before .before .before .before .code-room .result) (c .before .before .before .before .before .before .before .before .code-room .ensures) (c .before .before .before .before .before .before .build .ensures .0) (c .before .before .before .before .if1 .taken)) at (c .before .before .put-refusal .ensures)
+    rw (build-refused (now (args .block)) (args .grant) (c .before .before .before .before .before .before .before .before .code-room .result) (c .before .before .before .before .before .before .before .before .code-room .ensures) (c .before .before .before .before .before .before .build .ensures .0) (c .before .before .before .before .if1 .taken)) at (c .before .before .put-refusal .ensures)
 
 array-share-prefix-code : tie.Need-array-share-prefix-code
 array-share-prefix-code c =
     let made = c .before .before .build in
-    omega (arith, build-row _ _ _ _ _ _ (c .before .before .before .before .code-room .ensures) (made .ensures .0) (c .if1 .left) (made .ensures .1) (made .kept .1 .1 .1 .1 .1 .0) .0, made .kept .1 .1 .1 .1 .1 .0)
+    omega (arith, build-row _ _ _ (c .before .before .before .before .code-room .ensures) (made .ensures .0) (c .if1 .left) (made .ensures .1) (made .kept .1 .1 .0) .0, made .kept .1 .1 .0)
 
 slice-aggregate-put-run : tie.Need-slice-aggregate-put-run
 slice-aggregate-put-run c = front-count _ _ (array-share-prefix-code (c .before))
@@ -52,7 +52,7 @@ same-length-2 c = search needs
 returns-2 : tie.Need-returns-2
 returns-2 c =
     let made = c .before .before .before .before .before .before .before .build in
-    rw (build-row _ _ _ _ _ _ (c .before .before .before .before .before .before .before .before .before .code-room .ensures) (made .ensures .0) (c .before .before .before .before .before .if1 .left) (made .ensures .1) (made .kept .1 .1 .1 .1 .1 .0) .1) at (c .before .before .put-run .ensures)
+    rw (build-row _ _ _ (c .before .before .before .before .before .before .before .before .before .code-room .ensures) (made .ensures .0) (c .before .before .before .before .before .if1 .left) (made .ensures .1) (made .kept .1 .1 .0) .1) at (c .before .before .put-run .ensures)
 
 pub put-codeword-spec : {M : Type 1} → statement M
 put-codeword-spec =

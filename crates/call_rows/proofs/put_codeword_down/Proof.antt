@@ -58,12 +58,12 @@ same-length c = search needs
 returns : tie.Need-returns
 returns c =
     let args = c .before .before .before .before .before .before .before .before .before .before .before .args in
-    rw (down-refused (now (args .block)) _ _ _ _ _ _ _ _ _ (c .before .before .before .before .before .before .before .before .code-room .result) (c .before .before .before .before .before .before .before .before .code-room .ensures) (c .before .before .before .before .before .before .build-down .ensures .0) (c .before .before .before .before .if1 .taken)) at (c .before .before .put-refusal .ensures)
+    rw (down-refused (now (args .block)) _ _ _ _ _ _ (c .before .before .before .before .before .before .before .before .code-room .result) (c .before .before .before .before .before .before .before .before .code-room .ensures) (c .before .before .before .before .before .before .build-down .ensures .0) (c .before .before .before .before .if1 .taken)) at (c .before .before .put-refusal .ensures)
 
 array-share-prefix-code : tie.Need-array-share-prefix-code
 array-share-prefix-code c =
     let made = c .before .before .build-down in
-    omega (arith, down-row _ _ _ _ _ _ _ _ _ _ _ (c .before .before .before .before .code-room .ensures) (made .ensures .0) (c .if1 .left) (made .ensures .1) (made .kept .1 .1 .1 .1 .1 .1 .1 .1 .1 .1 .0) .0, made .kept .1 .1 .1 .1 .1 .1 .1 .1 .1 .1 .0)
+    omega (arith, down-row _ _ _ _ _ _ _ _ (c .before .before .before .before .code-room .ensures) (made .ensures .0) (c .if1 .left) (made .ensures .1) (made .kept .1 .1 .1 .1 .1 .1 .1 .0) .0, made .kept .1 .1 .1 .1 .1 .1 .1 .0)
 
 slice-aggregate-put-run : tie.Need-slice-aggregate-put-run
 slice-aggregate-put-run c = front-count _ _ (array-share-prefix-code (c .before))
@@ -77,7 +77,7 @@ same-length-2 c = search needs
 returns-2 : tie.Need-returns-2
 returns-2 c =
     let made = c .before .before .before .before .before .before .before .build-down in
-    rw (down-row _ _ _ _ _ _ _ _ _ _ _ (c .before .before .before .before .before .before .before .before .before .code-room .ensures) (made .ensures .0) (c .before .before .before .before .before .if1 .left) (made .ensures .1) (made .kept .1 .1 .1 .1 .1 .1 .1 .1 .1 .1 .0) .1) at (c .before .before .put-run .ensures)
+    rw (down-row _ _ _ _ _ _ _ _ (c .before .before .before .before .before .before .before .before .before .code-room .ensures) (made .ensures .0) (c .before .before .before .before .before .if1 .left) (made .ensures .1) (made .kept .1 .1 .1 .1 .1 .1 .1 .0) .1) at (c .before .before .put-run .ensures)
 
 pub put-codeword-down-spec : {M : Type 1} → statement M
 put-codeword-down-spec =
