@@ -14,6 +14,8 @@ use Rattle.laws.proofs.Parts.{length-mid}
 use Rattle.segmentation.specs.Segmentation.{blocks}
 use Rattle.segmentation.specs.Sizes.{badSize}
 use Rattle.segmentation.proofs.Segmentation.{good-size}
+use Rattle.codeword.specs.declared.Grant.{Grant}
+use Rattle.codeword.specs.Shares.{grant}
 use Rattle.codeword.specs.Build.{badAllocation, badVersion}
 use Rattle.codeword.proofs.Accepted.{given-bits}
 use Rattle.slots.specs.declared.State.{State}
@@ -36,7 +38,7 @@ use Rattle.reception.specs.inner.Parts.{Accepted}
 use Rattle.reception.proofs.Behind.{received-behind}
 
 -- the room after the bits are put is as long, so the places can be counted
-pub fits-still : {A soft Q N v n m : ℕ} {bits : List ℕ} → Accepted A soft Q N v bits n → m ≡ n → roomFits A m ≡ true
+pub fits-still : {A soft n m : ℕ} {g : Grant} {bits : List ℕ} → Accepted A soft g bits n → m ≡ n → roomFits A m ≡ true
 unfolding roomFits
 fits-still {A} {m = m} a e = let enough : blocks (A + 24) * perBlock ≤ m = omega (arith, a .fits) in rw (a .size, le-leb (blocks (A + 24) * perBlock) m enough)
 
@@ -118,25 +120,25 @@ module _ {state : State} {slot Q N v : ℕ} {bits : List ℕ} (store : List ℕ)
   enough : blocks (A + 24) * perBlock ≤ length (lent state slot store)
   enough = omega (arith, lent-long, mul-le-mul-right perBlock (is .fits))
 
-  pub room-ready : Accepted size soft Q N v bits (length (lent state slot store))
-  room-ready = rw (sized, shared) (record { size = is .size; wide = is .wide; allocation = is .allocation; version = is .version; given = is .given; fits = enough })
+  pub room-ready : Accepted size soft (grant Q N v (length bits)) bits (length (lent state slot store))
+  room-ready = rw (sized, shared) (record { size = is .size; wide = is .wide; allocation = is .allocation; version = is .version; whole = refl; given = is .given; fits = enough })
 
-  places : AllPlaces share (A + 24) Q N v (length bits)
+  places : AllPlaces share (A + 24) (grant Q N v (length bits))
   unfolding badVersion
-  places r = sent-below A (is .size) (is .wide) Q N v (length bits) r (le-ltb 3 v (is .version))
+  places r = sent-below A (is .size) (is .wide) (grant Q N v (length bits)) r (le-ltb 3 v (is .version))
 
   -- the room came back with the bits in it
   module _ (terminal : ℕ) {number count : ℕ} {last : List ℕ} (told : number ≡ receiveNumber state (length store) slot terminal Q N v bits) (zero : number ≡ 0)
       (kept : length last ≡ length (lent state slot store))
-      (put : (last ≡ received agreeing soft size Q N v bits (lent state slot store)) × (count ≡ lacking size last)) where
-    after : putBack state slot store last ≡ withRoom (state .blocks) slot (received agreeing share A Q N v bits (roomAt (state .blocks) slot store)) store
+      (put : (last ≡ received agreeing soft size (grant Q N v (length bits)) bits (lent state slot store)) × (count ≡ lacking size last)) where
+    after : putBack state slot store last ≡ withRoom (state .blocks) slot (received agreeing share A (grant Q N v (length bits)) bits (roomAt (state .blocks) slot store)) store
     unfolding withRoom roomAt roomStart roomLength
     after =
         ap (putBack state slot store) (rw (sized, shared) at (put .0))
         ∙ ap (λ (l : List ℕ). take (roomFrom state slot) store ++ l)
-        (sym (received-behind agreeing share A Q N v bits places (lent state slot store) _ enough) ∙ ap (received agreeing share A Q N v bits) (take-append-drop (lentLength state slot) (drop (roomFrom state slot) store)))
+        (sym (received-behind agreeing share A (grant Q N v (length bits)) bits places (lent state slot store) _ enough) ∙ ap (received agreeing share A (grant Q N v (length bits)) bits) (take-append-drop (lentLength state slot) (drop (roomFrom state slot) store)))
 
-    counted : count ≡ lacking A (roomAt (state .blocks) slot (withRoom (state .blocks) slot (received agreeing share A Q N v bits (roomAt (state .blocks) slot store)) store))
+    counted : count ≡ lacking A (roomAt (state .blocks) slot (withRoom (state .blocks) slot (received agreeing share A (grant Q N v (length bits)) bits (roomAt (state .blocks) slot store)) store))
     unfolding roomStart roomLength
     counted =
         (rw sized at (put .1))

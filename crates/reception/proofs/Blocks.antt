@@ -19,7 +19,8 @@ use Rattle.rate_matching.specs.Circle.{circleLength, cutAt, startIn}
 use Rattle.rate_matching.specs.Walk.{sentPlaces, turn, turnAfterTurn}
 use Rattle.rate_matching.specs.Shape.{shape}
 use Rattle.rate_matching.proofs.Cut.{sent-before}
-use Rattle.codeword.specs.Shares.{share, sharesBefore}
+use Rattle.codeword.specs.declared.Grant.{Grant}
+use Rattle.codeword.specs.Shares.{sharesBefore, granted, grantedBefore}
 use Rattle.codeword.specs.Codeword.{blockRows, blockCut}
 use Rattle.codeword.specs.Build.{shareOf}
 use Rattle.codeword.proofs.Accepted.{allocated, share-told}
@@ -71,66 +72,63 @@ sent-on {D} {F} {soft} {v} w E i l =
 -- ---- the loop
 
 -- the code blocks before r have their bits; what the definition still gives from here is the whole
-pub record Blocks (A soft Q N v : ℕ) (bits room₀ room : List ℕ) (at from r : ℕ) : Type 0 where
+pub record Blocks (A soft : ℕ) (g : Grant) (bits room₀ room : List ℕ) (at from r : ℕ) : Type 0 where
   pub passed : r ≤ blocks (A + 24)
-  pub starts : at ≡ sharesBefore (blocks (A + 24)) Q N (length bits) r
+  pub starts : at ≡ grantedBefore (blocks (A + 24)) g r
   pub begins : from ≡ r * perBlock
   pub long : length room ≡ length room₀
-  pub told : putBlocks agreeing soft (A + 24) Q N v bits r (blocks (A + 24) - r) room ≡ received agreeing soft A Q N v bits room₀
+  pub told : putBlocks agreeing soft (A + 24) g bits r (blocks (A + 24) - r) room ≡ received agreeing soft A g bits room₀
 
-module _ {A soft Q N v : ℕ} {bits room₀ : List ℕ} where
-  pub blocks-start : Blocks A soft Q N v bits room₀ room₀ 0 0 0
+module _ {A soft : ℕ} {g : Grant} {bits room₀ : List ℕ} where
+  pub blocks-start : Blocks A soft g bits room₀ room₀ 0 0 0
   unfolding sharesBefore received
   blocks-start = record {
     passed = omega arith;
     starts = refl;
     begins = omega arith;
     long = refl;
-    told = ap (λ (n : ℕ). putBlocks agreeing soft (A + 24) Q N v bits 0 n room₀) (sub-zero (blocks (A + 24)));
+    told = ap (λ (n : ℕ). putBlocks agreeing soft (A + 24) g bits 0 n room₀) (sub-zero (blocks (A + 24)));
   }
 
-  pub blocks-finish : {room : List ℕ} {at from r : ℕ} → blocks (A + 24) ≤ r → Blocks A soft Q N v bits room₀ room at from r → room ≡ received agreeing soft A Q N v bits room₀
+  pub blocks-finish : {room : List ℕ} {at from r : ℕ} → blocks (A + 24) ≤ r → Blocks A soft g bits room₀ room at from r → room ≡ received agreeing soft A g bits room₀
   unfolding putBlocks
-  blocks-finish {room} {at} {from} {r} h b = sym (ap (λ (n : ℕ). putBlocks agreeing soft (A + 24) Q N v bits r n room) none) ∙ b .told
+  blocks-finish {room} {at} {from} {r} h b = sym (ap (λ (n : ℕ). putBlocks agreeing soft (A + 24) g bits r n room) none) ∙ b .told
     where
       none : blocks (A + 24) - r ≡ 0
       none = omega arith
 
-  module _ {room : List ℕ} {at from r : ℕ} (ok : Accepted A soft Q N v bits (length room₀)) (h : r < blocks (A + 24))
-      (b : Blocks A soft Q N v bits room₀ room at from r) where
+  module _ {room : List ℕ} {at from r : ℕ} (ok : Accepted A soft g bits (length room₀)) (h : r < blocks (A + 24))
+      (b : Blocks A soft g bits room₀ room at from r) where
     -- the part of the room that is lent
     pub part-within : from + perBlock ≤ length room
     part-within = omega (arith, b .begins, b .long, ok .fits, mul-le-mul-right perBlock h)
 
     -- the stretch of the bits that is lent
-    pub share-is : {E : ℕ} → E ≡ shareOf (blocks (A + 24)) Q N (length bits) r → E ≡ share (blocks (A + 24)) Q N (length bits) r
-    share-is e = e ∙ share-told (blocks (A + 24)) Q N (length bits) r h (ok .allocation)
+    pub share-is : {E : ℕ} → E ≡ shareOf (blocks (A + 24)) (g .modulation) (g .layers) (g .bits) r → E ≡ granted (blocks (A + 24)) g r
+    share-is e = e ∙ share-told (blocks (A + 24)) (g .modulation) (g .layers) (g .bits) r h (ok .allocation)
 
-    pub bits-within : {E : ℕ} → E ≡ shareOf (blocks (A + 24)) Q N (length bits) r → at + E ≤ length bits
-    bits-within {E} e = omega (arith, b .starts, share-is e, stretch-within (blocks (A + 24)) Q N (length bits) r h (allocated _ Q N (length bits) (ok .allocation) .multiple))
+    pub bits-within : {E : ℕ} → E ≡ shareOf (blocks (A + 24)) (g .modulation) (g .layers) (g .bits) r → at + E ≤ length bits
+    bits-within {E} e = omega (arith, b .starts, share-is e, stretch-within (blocks (A + 24)) (g .modulation) (g .layers) (g .bits) r h (allocated _ _ _ _ (ok .allocation) .multiple), ok .whole)
 
     -- the places that are lent for it, all or as many as its circle has
-    pub blocks-next : {E D F L : ℕ} {part : List ℕ} → E ≡ shareOf (blocks (A + 24)) Q N (length bits) r → D ≡ sizeOf (A + 24) r + 4 → F ≡ fillerOf (A + 24) r
+    pub blocks-next : {E D F L : ℕ} {part : List ℕ} → E ≡ shareOf (blocks (A + 24)) (g .modulation) (g .layers) (g .bits) r → D ≡ sizeOf (A + 24) r + 4 → F ≡ fillerOf (A + 24) r
         → circleLength (rows D) ≤ L → L ≤ perBlock
-        → part ≡ partAfter D F (cutAt soft (rows D)) v (midOf at (at + E - at) bits) (midOf from (from + L - from) room)
-        → Blocks A soft Q N v bits room₀ (putMid from (from + L - from) room part) (at + E) (from + perBlock) (r + 1)
+        → part ≡ partAfter D F (cutAt soft (rows D)) (g .version) (midOf at (at + E - at) bits) (midOf from (from + L - from) room)
+        → Blocks A soft g bits room₀ (putMid from (from + L - from) room part) (at + E) (from + perBlock) (r + 1)
     unfolding putBlocks putOn withCircle circleAt partAfter blockPlaces blockValues blockCut blockRows sharesBefore sentPlaces
     blocks-next {E} {D} {F} {L} {part} e d f enough most s = record {
       passed = omega arith;
-      starts = ap₂ (λ (x y : ℕ). x + y) (b .starts) (share-is e) ∙ ap (sharesBefore C Q N G) (sym (add-one r));
+      starts = ap₂ (λ (x y : ℕ). x + y) (b .starts) (share-is e) ∙ ap (grantedBefore C g) (sym (add-one r));
       begins = omega (arith, b .begins);
       long = length-putMid from (from + L) room part within as-long ∙ b .long;
       told =
-          ap₂ (λ (q : ℕ) (l : List ℕ). putBlocks agreeing soft (A + 24) Q N v bits q (C - (r + 1)) l) (add-one r) put
-          ∙ ap (λ (n : ℕ). putBlocks agreeing soft (A + 24) Q N v bits r n room) one
+          ap₂ (λ (q : ℕ) (l : List ℕ). putBlocks agreeing soft (A + 24) g bits q (C - (r + 1)) l) (add-one r) put
+          ∙ ap (λ (n : ℕ). putBlocks agreeing soft (A + 24) g bits r n room) one
           ∙ b .told;
     }
       where
         C : ℕ
         C = blocks (A + 24)
-
-        G : ℕ
-        G = length bits
 
         k : ℕ
         k = from + L - from
@@ -145,7 +143,7 @@ module _ {A soft Q N v : ℕ} {bits room₀ : List ℕ} where
         Ncb = blockCut soft (A + 24) r
 
         js : List ℕ
-        js = blockPlaces soft (A + 24) Q N v G r
+        js = blockPlaces soft (A + 24) g r
 
         one : suc (C - (r + 1)) ≡ C - r
         one = omega arith
@@ -153,19 +151,19 @@ module _ {A soft Q N v : ℕ} {bits room₀ : List ℕ} where
         mid-long : length mid ≡ L
         mid-long = length-mid from (from + L) room within ∙ add-sub-cancel-left from L
 
-        lent-long : length (midOf at (at + E - at) bits) ≡ share C Q N G r
+        lent-long : length (midOf at (at + E - at) bits) ≡ granted C g r
         lent-long = length-mid at (at + E) bits (bits-within e) ∙ add-sub-cancel-left at E ∙ share-is e
 
-        places : sentPlaces (take (cutAt soft (rows D)) (shape D F)) (startIn (cutAt soft (rows D)) (rows D) v) (length (midOf at (at + E - at) bits)) ≡ js
+        places : sentPlaces (take (cutAt soft (rows D)) (shape D F)) (startIn (cutAt soft (rows D)) (rows D) (g .version)) (length (midOf at (at + E - at) bits)) ≡ js
         places =
-            ap₂ (λ (x y : ℕ). sentPlaces (take (cutAt soft (rows x)) (shape x y)) (startIn (cutAt soft (rows x)) (rows x) v) (length (midOf at (at + E - at) bits))) d f
-            ∙ ap (λ (n : ℕ). sentPlaces (take Ncb (shape (sizeOf (A + 24) r + 4) (fillerOf (A + 24) r))) (startIn Ncb (blockRows (A + 24) r) v) n) lent-long
+            ap₂ (λ (x y : ℕ). sentPlaces (take (cutAt soft (rows x)) (shape x y)) (startIn (cutAt soft (rows x)) (rows x) (g .version)) (length (midOf at (at + E - at) bits))) d f
+            ∙ ap (λ (n : ℕ). sentPlaces (take Ncb (shape (sizeOf (A + 24) r + 4) (fillerOf (A + 24) r))) (startIn Ncb (blockRows (A + 24) r) (g .version)) n) lent-long
 
         few : length js ≤ at + E - at
         few =
             omega (
               arith,
-              length-tab (share C Q N G r) (turnAfterTurn (turn (take Ncb (shape (sizeOf (A + 24) r + 4) (fillerOf (A + 24) r))) (startIn Ncb (blockRows (A + 24) r) v))),
+              length-tab (granted C g r) (turnAfterTurn (turn (take Ncb (shape (sizeOf (A + 24) r + 4) (fillerOf (A + 24) r))) (startIn Ncb (blockRows (A + 24) r) (g .version)))),
               share-is e,
             )
 
@@ -179,9 +177,9 @@ module _ {A soft Q N v : ℕ} {bits room₀ : List ℕ} where
         as-long = ap length part-is ∙ length-put agreeing js (drop at bits) mid ∙ length-mid from (from + L) room within
 
         below : (i : ℕ) → i < length js → getD js i 0 < length mid
-        below i l = rw mid-long (omega (arith, sent-on (block-sends A (ok .size) (ok .wide) (ok .version) r) (share C Q N G r) i l, ap (λ (x : ℕ). circleLength (rows x)) d))
+        below i l = rw mid-long (omega (arith, sent-on (block-sends A (ok .size) (ok .wide) (ok .version) r) (granted C g r) i l, ap (λ (x : ℕ). circleLength (rows x)) d))
 
-        put : putMid from k room part ≡ withCircle r (putOn agreeing soft (A + 24) Q N v bits r (circleAt r room)) room
+        put : putMid from k room part ≡ withCircle r (putOn agreeing soft (A + 24) g bits r (circleAt r room)) room
         put =
             ap (putMid from k room) part-is
             ∙ along-part agreeing from k room js (drop at bits) below

@@ -11,9 +11,9 @@ use lib.ListN.{length}
 use borrow.Rule.Slice.PartMut.{midOf, putMid}
 use Rattle.laws.specs.Bits.{EachBelow}
 use Rattle.laws.proofs.Parts.{length-mid}
-use Rattle.refusals.specs.Refusals.{rule}
 use Rattle.segmentation.specs.Segmentation.{blocks}
-use Rattle.codeword.specs.Build.{badAllocation, badVersion, badBits}
+use Rattle.codeword.specs.Shares.{grant}
+use Rattle.codeword.specs.Build.{versionRule, bitsRule}
 use Rattle.slots.specs.declared.State.{State}
 use Rattle.slots.specs.declared.Outcome.{Outcome}
 use Rattle.slots.specs.declared.Answer.the-variants.{StillLacking, Refused}
@@ -21,7 +21,7 @@ use Rattle.slots.specs.Room.{agreeing}
 use Rattle.slots.specs.Reception.{received}
 use Rattle.slots.specs.Answers.{unlessRefused}
 use Rattle.slots.specs.Reading.{lacking}
-use Rattle.slots.specs.Calls.{ownerRules, sizeAtHead, shareAtHead, receiveNumber, receiveStore, receiveOutcome}
+use Rattle.slots.specs.Calls.{allocationRule, ownerRules, sizeAtHead, shareAtHead, receiveNumber, receiveStore, receiveOutcome}
 use Rattle.packing.specs.Store.{placesAByte, bytesABlock, placesIn, inForm, placesAsked}
 use Rattle.packing.proofs.Stores.{places-are, places-put, form-back, asked-enough}
 use Rattle.reading.proofs.Form.{room-there, room-places}
@@ -35,7 +35,7 @@ unfolding receiveNumber
 receive-asked state store slot terminal Q N v bits r e =
     e
     ∙ rw r (asked-enough true state store slot (ownerRules state slot terminal
-    ++ (rule (badAllocation (blocks (sizeAtHead state slot + 24)) Q N (length bits)) 3 ∷ rule (badVersion v) 4 ∷ rule (badBits bits) 2 ∷ [])))
+    ++ (allocationRule (blocks (sizeAtHead state slot + 24)) Q N (length bits) ∷ versionRule v ∷ bitsRule bits ∷ [])))
 
 -- ---- the bytes that are lent, store[from .. from + long]
 
@@ -75,13 +75,13 @@ module _ {state : State} {slot Q N v : ℕ} {bits : List ℕ} (store : List ℕ)
   -- ---- with `size` for the A of the slot's head and `soft` for its share
 
   module _ {size soft : ℕ} (sized : size ≡ sizeAtHead state slot) (shared : soft ≡ shareAtHead state slot) where
-    pub bytes-ready : Accepted size soft Q N v bits (4 * length (lentBytes state slot store))
+    pub bytes-ready : Accepted size soft (grant Q N v (length bits)) bits (4 * length (lentBytes state slot store))
     bytes-ready = rw (sym (four-times (lentBytes state slot store)), lent-places) (room-ready (placesIn true store) is sized shared)
 
     -- the bytes came back with the bits in them
     module _ (terminal : ℕ) {number count : ℕ} (last : List ℕ) (told : number ≡ receiveNumber state (length (placesIn true store)) slot terminal Q N v bits) (zero : number ≡ 0)
         (kept : length last ≡ length (lentBytes state slot store))
-        (put : (placesIn true last ≡ received agreeing soft size Q N v bits (placesIn true (lentBytes state slot store))) × (count ≡ lacking size (placesIn true last))) where
+        (put : (placesIn true last ≡ received agreeing soft size (grant Q N v (length bits)) bits (placesIn true (lentBytes state slot store))) × (count ≡ lacking size (placesIn true last))) where
       back : placesIn true (bytesBack state slot store last) ≡ putBack state slot (placesIn true store) (placesIn true last)
       unfolding placesAByte
       back =
@@ -97,8 +97,8 @@ module _ {state : State} {slot Q N v : ℕ} {bits : List ℕ} (store : List ℕ)
       as-long : length (placesIn true last) ≡ length (lent state slot (placesIn true store))
       as-long = four-times last ∙ ap (λ (n : ℕ). 4 * n) kept ∙ sym (four-times (lentBytes state slot store)) ∙ ap length lent-places
 
-      has : (placesIn true last ≡ received agreeing soft size Q N v bits (lent state slot (placesIn true store))) × (count ≡ lacking size (placesIn true last))
-      has = (put .0 ∙ ap (received agreeing soft size Q N v bits) lent-places, put .1)
+      has : (placesIn true last ≡ received agreeing soft size (grant Q N v (length bits)) bits (lent state slot (placesIn true store))) × (count ≡ lacking size (placesIn true last))
+      has = (put .0 ∙ ap (received agreeing soft size (grant Q N v (length bits)) bits) lent-places, put .1)
 
       pub bytes-stored : EachBelow 256 (bytesBack state slot store last) → bytesBack state slot store last ≡ inForm true (receiveStore state slot terminal Q N v bits (placesIn true store))
       bytes-stored below =

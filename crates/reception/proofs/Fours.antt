@@ -17,6 +17,7 @@ use Rattle.laws.proofs.Parts.{length-mid, length-put as length-putMid, getD-put
 use Rattle.segmentation.specs.Segmentation.{blocks, sizeOf, fillerOf}
 use Rattle.rate_matching.specs.SubBlocks.{rows}
 use Rattle.rate_matching.specs.Circle.{circleLength, cutAt}
+use Rattle.codeword.specs.declared.Grant.{Grant}
 use Rattle.codeword.specs.Build.{shareOf, badVersion}
 use Rattle.slots.specs.State.{perBlock}
 use Rattle.slots.specs.Putting.{putAlong}
@@ -147,60 +148,60 @@ sends-in w h = record {
 }
 
 -- the code blocks before r have their bits, and their data places are counted as they are in the end
-pub record Filling (A soft Q N v : ℕ) (bits room₀ room : List ℕ) (n at from r : ℕ) : Type 0 where
+pub record Filling (A soft : ℕ) (g : Grant) (bits room₀ room : List ℕ) (n at from r : ℕ) : Type 0 where
   pub long : length room ≡ length room₀
-  pub put : Blocks A soft Q N v bits (placesIn true room₀) (placesIn true room) at (4 * from) r
-  pub sum : Summing (lackingIn (A + 24) (received agreeing soft A Q N v bits (placesIn true room₀))) (blocks (A + 24)) 6144 r n
+  pub put : Blocks A soft g bits (placesIn true room₀) (placesIn true room) at (4 * from) r
+  pub sum : Summing (lackingIn (A + 24) (received agreeing soft A g bits (placesIn true room₀))) (blocks (A + 24)) 6144 r n
 
 four-times : (l : List ℕ) → length (placesIn true l) ≡ 4 * length l
 unfolding placesAByte
 four-times l = places-are true l
 
-module _ {A soft Q N v : ℕ} {bits room₀ : List ℕ} where
-  pub filling-start : Filling A soft Q N v bits room₀ room₀ 0 0 0 0
+module _ {A soft : ℕ} {g : Grant} {bits room₀ : List ℕ} where
+  pub filling-start : Filling A soft g bits room₀ room₀ 0 0 0 0
   filling-start = record { long = refl; put = blocks-start; sum = start }
 
-  pub filling-finish : {room : List ℕ} {n at from r : ℕ} → blocks (A + 24) ≤ r → Filling A soft Q N v bits room₀ room n at from r
-      → (placesIn true room ≡ received agreeing soft A Q N v bits (placesIn true room₀)) × (n ≡ lacking A (placesIn true room))
+  pub filling-finish : {room : List ℕ} {n at from r : ℕ} → blocks (A + 24) ≤ r → Filling A soft g bits room₀ room n at from r
+      → (placesIn true room ≡ received agreeing soft A g bits (placesIn true room₀)) × (n ≡ lacking A (placesIn true room))
   unfolding lacking
   filling-finish h w =
       let told = blocks-finish h (w .put) in
       (told, finish h (w .sum) ∙ ap (λ (l : List ℕ). sumFrom (lackingIn (A + 24) l) 0 (blocks (A + 24))) (sym told))
 
-module _ {A soft Q N v : ℕ} {bits : List ℕ} (room₀ : List ℕ) (given : Accepted A soft Q N v bits (4 * length room₀)) where
-  ok : Accepted A soft Q N v bits (length (placesIn true room₀))
+module _ {A soft : ℕ} {g : Grant} {bits : List ℕ} (room₀ : List ℕ) (given : Accepted A soft g bits (4 * length room₀)) where
+  ok : Accepted A soft g bits (length (placesIn true room₀))
   ok = rw (four-times room₀) given
 
   -- what the code blocks after r take leaves code block r as it is
   later-keep : (r n : ℕ) (places : List ℕ) → (r + 1 + n) * perBlock ≤ length places
-      → lackingIn (A + 24) (putBlocks agreeing soft (A + 24) Q N v bits (r + 1) n places) r ≡ lackingIn (A + 24) places r
+      → lackingIn (A + 24) (putBlocks agreeing soft (A + 24) g bits (r + 1) n places) r ≡ lackingIn (A + 24) places r
   unfolding lackingIn lackingOn missingOn keptOn agreeing badVersion
   later-keep r n places fits =
       sumFrom-ext _ _ (fillerOf (A + 24) r) (sizeOf (A + 24) r - fillerOf (A + 24) r)
       (λ i a b. ap missing
       (let below = place-below A (ok .size) r 0 i (omega arith) (omega (arith, filler-below A (ok .size) r)) in
       circle-entry r _ _ 0
-      ∙ putBlocks-out agreeing soft (A + 24) Q N v bits (λ q. sent-below A (ok .size) (ok .wide) Q N v (length bits) q (le-ltb 3 v (ok .version))) (r + 1) n places fits _
+      ∙ putBlocks-out agreeing soft (A + 24) g bits (λ q. sent-below A (ok .size) (ok .wide) g q (le-ltb 3 (g .version) (ok .version))) (r + 1) n places fits _
       (λ q j l g m e. omega (arith, below))
       ∙ sym (circle-entry r places _ 0)))
 
   -- the stretch of the bits that is lent
-  pub stretch-within : {room : List ℕ} {n at from r : ℕ} → r < blocks (A + 24) → Filling A soft Q N v bits room₀ room n at from r → {E : ℕ}
-      → E ≡ shareOf (blocks (A + 24)) Q N (length bits) r → at + E ≤ length bits
+  pub stretch-within : {room : List ℕ} {n at from r : ℕ} → r < blocks (A + 24) → Filling A soft g bits room₀ room n at from r → {E : ℕ}
+      → E ≡ shareOf (blocks (A + 24)) (g .modulation) (g .layers) (g .bits) r → at + E ≤ length bits
   stretch-within h w e = bits-within ok h (w .put) e
 
   -- where the next code block's bytes begin
-  pub next-small : {room : List ℕ} {n at from r : ℕ} → r < blocks (A + 24) → Filling A soft Q N v bits room₀ room n at from r → from + 4632 ≤ 23160
+  pub next-small : {room : List ℕ} {n at from r : ℕ} → r < blocks (A + 24) → Filling A soft g bits room₀ room n at from r → from + 4632 ≤ 23160
   next-small h w = omega (arith, h, w .put .begins, few A (ok .size))
 
-  module _ {room : List ℕ} {n at from r : ℕ} (h : r < blocks (A + 24)) (w : Filling A soft Q N v bits room₀ room n at from r) {K F : ℕ} (k : K ≡ sizeOf (A + 24) r) (f : F ≡ fillerOf (A + 24) r) where
+  module _ {room : List ℕ} {n at from r : ℕ} (h : r < blocks (A + 24)) (w : Filling A soft g bits room₀ room n at from r) {K F : ℕ} (k : K ≡ sizeOf (A + 24) r) (f : F ≡ fillerOf (A + 24) r) where
     abbrev L : ℕ
     L = circleLength (rows (K + 4))
 
     abbrev to : ℕ
     to = from + 24 * rows (K + 4)
 
-    sends : Sends (K + 4) F soft v perBlock
+    sends : Sends (K + 4) F soft (g .version) perBlock
     sends = rw (k, f) (block-sends A (ok .size) (ok .wide) (ok .version) r)
 
     -- its size, and the bytes that are lent: they lie in the room and are no more than a code block's
@@ -214,7 +215,7 @@ module _ {A soft Q N v : ℕ} {bits : List ℕ} (room₀ : List ℕ) (given : Ac
     lent-long : length (midOf from (to - from) room) ≡ 24 * rows (K + 4)
     lent-long = length-mid from to room bytes-within ∙ add-sub-cancel-left from (24 * rows (K + 4))
 
-    pub bytes-send : Sends (K + 4) F soft v (4 * length (midOf from (to - from) room)) × (F ≤ K) × (4 * length (midOf from (to - from) room) ≤ 18528)
+    pub bytes-send : Sends (K + 4) F soft (g .version) (4 * length (midOf from (to - from) room)) × (F ≤ K) × (4 * length (midOf from (to - from) room) ≤ 18528)
     unfolding circleLength
     bytes-send = (
       sends-in sends (omega (arith, lent-long)),
@@ -222,8 +223,8 @@ module _ {A soft Q N v : ℕ} {bits : List ℕ} (room₀ : List ℕ) (given : Ac
       omega (arith, lent-long, sends .walked .fits),
     )
 
-    module _ {E x : ℕ} (part : List ℕ) (e : E ≡ shareOf (blocks (A + 24)) Q N (length bits) r) (kept : length part ≡ length (midOf from (to - from) room))
-        (stored : placesIn true part ≡ partAfter (K + 4) F (cutAt soft (rows (K + 4))) v (midOf at (at + E - at) bits) (placesIn true (midOf from (to - from) room)))
+    module _ {E x : ℕ} (part : List ℕ) (e : E ≡ shareOf (blocks (A + 24)) (g .modulation) (g .layers) (g .bits) r) (kept : length part ≡ length (midOf from (to - from) room))
+        (stored : placesIn true part ≡ partAfter (K + 4) F (cutAt soft (rows (K + 4))) (g .version) (midOf at (at + E - at) bits) (placesIn true (midOf from (to - from) room)))
         (count : x ≡ lackingOn (placesIn true part) K F) where
       span : 4 * to - 4 * from ≡ 4 * from + L - 4 * from
       unfolding circleLength
@@ -239,12 +240,12 @@ module _ {A soft Q N v : ℕ} {bits : List ℕ} (room₀ : List ℕ) (given : Ac
           places-put true from to room part (omega arith) bytes-within (kept ∙ length-mid from to room bytes-within)
           ∙ ap (λ (m : ℕ). putMid (4 * from) m (placesIn true room) (placesIn true part)) span
 
-      put-next : Blocks A soft Q N v bits (placesIn true room₀) (placesIn true (putMid from (to - from) room part)) (at + E) (4 * (from + 4632)) (r + 1)
+      put-next : Blocks A soft g bits (placesIn true room₀) (placesIn true (putMid from (to - from) room part)) (at + E) (4 * (from + 4632)) (r + 1)
       put-next =
-          subst (λ (l : List ℕ). Blocks A soft Q N v bits (placesIn true room₀) l (at + E) (4 * (from + 4632)) (r + 1)) (sym put-places)
-          (subst (λ (m : ℕ). Blocks A soft Q N v bits (placesIn true room₀) (putMid (4 * from) (4 * from + L - 4 * from) (placesIn true room) (placesIn true part)) (at + E) m (r + 1)) four
+          subst (λ (l : List ℕ). Blocks A soft g bits (placesIn true room₀) l (at + E) (4 * (from + 4632)) (r + 1)) (sym put-places)
+          (subst (λ (m : ℕ). Blocks A soft g bits (placesIn true room₀) (putMid (4 * from) (4 * from + L - 4 * from) (placesIn true room) (placesIn true part)) (at + E) m (r + 1)) four
           (blocks-next ok h (w .put) e (ap (λ (m : ℕ). m + 4) k) f (omega arith) (sends .walked .fits)
-          (stored ∙ ap (partAfter (K + 4) F (cutAt soft (rows (K + 4))) v (midOf at (at + E - at) bits)) mid-places)))
+          (stored ∙ ap (partAfter (K + 4) F (cutAt soft (rows (K + 4))) (g .version) (midOf at (at + E - at) bits)) mid-places)))
         where
           four : 4 * from + perBlock ≡ 4 * (from + 4632)
           four = omega arith
@@ -273,7 +274,7 @@ module _ {A soft Q N v : ℕ} {bits : List ℕ} (room₀ : List ℕ) (given : Ac
       there-still : (r + 1 + (blocks (A + 24) - (r + 1))) * perBlock ≤ length (placesIn true (putMid from (to - from) room part))
       there-still = omega (arith, put-next .long, ok .fits, h)
 
-      counted : x ≡ lackingIn (A + 24) (received agreeing soft A Q N v bits (placesIn true room₀)) r
+      counted : x ≡ lackingIn (A + 24) (received agreeing soft A g bits (placesIn true room₀)) r
       unfolding lackingIn
       counted =
           count
@@ -283,12 +284,12 @@ module _ {A soft Q N v : ℕ} {bits : List ℕ} (room₀ : List ℕ) (given : Ac
           ∙ ap (λ (l : List ℕ). lackingIn (A + 24) l r) (put-next .told)
 
       small : x ≤ 6144
-      small = rw counted (block-few A r (received agreeing soft A Q N v bits (placesIn true room₀)) (ok .size))
+      small = rw counted (block-few A r (received agreeing soft A g bits (placesIn true room₀)) (ok .size))
 
       pub sum-small : n + x ≤ (r + 1) * 6144
       sum-small = omega (arith, small, w .sum .few)
 
-      pub filling-next : Filling A soft Q N v bits room₀ (putMid from (to - from) room part) (n + x) (at + E) (from + 4632) (r + 1)
+      pub filling-next : Filling A soft g bits room₀ (putMid from (to - from) room part) (n + x) (at + E) (from + 4632) (r + 1)
       filling-next = record {
         long = length-putMid from to room part bytes-within (kept ∙ length-mid from to room bytes-within) ∙ w .long;
         put = put-next;

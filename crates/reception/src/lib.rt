@@ -3,6 +3,7 @@ mod circle;
 mod packed;
 mod parts;
 
+use codeword::Grant;
 pub use packed::receive_packed;
 use refusals::or_else;
 use slots::Answer;
@@ -44,7 +45,13 @@ pub fn receive(
     let room = state.blocks * states::PER_BLOCK;
     let from = slot * room;
     let to = from + room;
-    let lacking = put_and_count(size, soft, q, n, version, bits, &mut store[from..to]);
+    let grant = Grant {
+        modulation: q,
+        layers: n,
+        version,
+        bits: bits.len(),
+    };
+    let lacking = put_and_count(size, soft, grant, bits, &mut store[from..to]);
     Outcome {
         answer: Answer::StillLacking(lacking),
         state,
@@ -73,19 +80,11 @@ pub(crate) fn receive_number(
 }
 
 // Puts the bits in the slot's room, where each code block has a share `soft` of the soft buffer, and counts the data places that then lack one.
-fn put_and_count(
-    size: usize,
-    soft: usize,
-    q: usize,
-    n: usize,
-    version: usize,
-    bits: &[u8],
-    room: &mut [u8],
-) -> usize
-    requires { ⌜ Accepted size soft q n version (now bits) (length (now room)) ⌝ }
-    ensures stored { λ r. ⌜ now (room .exit) ≡ received agreeing soft size q n version (now (bits .entry)) (now (room .entry)) ⌝ }
+fn put_and_count(size: usize, soft: usize, grant: Grant, bits: &[u8], room: &mut [u8]) -> usize
+    requires { ⌜ Accepted size soft grant (now bits) (length (now room)) ⌝ }
+    ensures stored { λ r. ⌜ now (room .exit) ≡ received agreeing soft size grant (now (bits .entry)) (now (room .entry)) ⌝ }
     ensures count { λ r. ⌜ r ≡ lacking size (now (room .exit)) ⌝ }
 {
-    parts::put_blocks(size, soft, q, n, version, bits, room);
+    parts::put_blocks(size, soft, grant, bits, room);
     reading::lacking_in(size, room)
 }

@@ -1,6 +1,7 @@
 // Receive on a store with four places a byte (02): the circle of one code block after another is unpacked, takes its bits, is counted and packed again.
 use crate::parts;
 use crate::receive_number;
+use codeword::Grant;
 use packing::PACKED_PER_BLOCK;
 use slots::Answer;
 use slots::Outcome;
@@ -107,22 +108,13 @@ fn put_part(
 }
 
 // Puts a reception's bits in a room and counts the data places that then lack one: each code block has its stretch of the bits and its bytes of the room.
-fn put_rooms(
-    a: usize,
-    soft: usize,
-    q: usize,
-    n: usize,
-    version: usize,
-    bits: &[u8],
-    room: &mut [u8],
-) -> usize
-    requires { ⌜ Accepted a soft q n version (now bits) (4 * length (now room)) ⌝ }
-    ensures stored { λ r. ⌜ placesIn true (now (room .exit)) ≡ received agreeing soft a q n version (now (bits .entry)) (placesIn true (now (room .entry))) ⌝ }
+fn put_rooms(a: usize, soft: usize, grant: Grant, bits: &[u8], room: &mut [u8]) -> usize
+    requires { ⌜ Accepted a soft grant (now bits) (4 * length (now room)) ⌝ }
+    ensures stored { λ r. ⌜ placesIn true (now (room .exit)) ≡ received agreeing soft a grant (now (bits .entry)) (placesIn true (now (room .entry))) ⌝ }
     ensures count { λ r. ⌜ r ≡ lacking a (placesIn true (now (room .exit))) ⌝ }
 {
     let s = segmentation::segments_for(a);
     let blocks = s.blocks;
-    let g = bits.len();
     let mut lacking = 0;
     let mut at = 0;
     let mut from = 0;
@@ -130,14 +122,14 @@ fn put_rooms(
     while r < blocks {
         let k = segmentation::block::size_of(s, r);
         let filler = segmentation::block::filler_of(s, r);
-        let end = at + codeword::share_of(blocks, q, n, g, r);
+        let end = at + codeword::share_of(blocks, grant.modulation, grant.layers, grant.bits, r);
         let d = k + 4;
         let to = from + 24 * ((d + 31) / 32);
         lacking += put_part(
             k,
             filler,
             soft,
-            version,
+            grant.version,
             &bits[at..end],
             &mut room[from..to],
         );
@@ -177,7 +169,13 @@ pub fn receive_packed(
     let room = state.blocks * PACKED_PER_BLOCK;
     let from = slot * room;
     let to = from + room;
-    let lacking = put_rooms(size, soft, q, n, version, bits, &mut store[from..to]);
+    let grant = Grant {
+        modulation: q,
+        layers: n,
+        version,
+        bits: bits.len(),
+    };
+    let lacking = put_rooms(size, soft, grant, bits, &mut store[from..to]);
     Outcome {
         answer: Answer::StillLacking(lacking),
         state,

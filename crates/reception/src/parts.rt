@@ -1,5 +1,6 @@
 // The parts of Receive: the bits of a code block are put turn after turn, code block after code block.
 use crate::circle;
+use codeword::Grant;
 use slots::states::PER_BLOCK;
 ghost use mathlib.Core.Path.{_≡_};
 ghost use Prim.Native.Nat.{_+_, _≤_, _<_};
@@ -94,34 +95,25 @@ pub(crate) fn put_block(
 }
 
 // Puts a reception's bits in a room: each code block has its stretch of the bits and its part of the room.
-pub(crate) fn put_blocks(
-    a: usize,
-    soft: usize,
-    q: usize,
-    n: usize,
-    version: usize,
-    bits: &[u8],
-    room: &mut [u8],
-)
-    requires { ⌜ Accepted a soft q n version (now bits) (length (now room)) ⌝ }
-    ensures { λ _. ⌜ now (room .exit) ≡ received agreeing soft a q n version (now (bits .entry)) (now (room .entry)) ⌝ }
+pub(crate) fn put_blocks(a: usize, soft: usize, grant: Grant, bits: &[u8], room: &mut [u8])
+    requires { ⌜ Accepted a soft grant (now bits) (length (now room)) ⌝ }
+    ensures { λ _. ⌜ now (room .exit) ≡ received agreeing soft a grant (now (bits .entry)) (now (room .entry)) ⌝ }
 {
     let s = segmentation::segments_for(a);
     let blocks = s.blocks;
-    let g = bits.len();
     let mut at = 0;
     let mut from = 0;
     let mut r = 0;
     while r < blocks {
         let d = segmentation::block::size_of(s, r) + 4;
         let filler = segmentation::block::filler_of(s, r);
-        let end = at + codeword::share_of(blocks, q, n, g, r);
+        let end = at + codeword::share_of(blocks, grant.modulation, grant.layers, grant.bits, r);
         let to = from + PER_BLOCK;
         put_block(
             d,
             filler,
             soft,
-            version,
+            grant.version,
             &bits[at..end],
             &mut room[from..to],
         );

@@ -22,7 +22,7 @@ returns : tie.Need-returns
 returns c =
     let p = c .before .before .before .before .put-blocks in
     let e = c .before .before .before .before .before .before .before .before in
-    let fits : roomFits (e .args .size) (length (p .last .1 .1 .1 .1 .1 .1 .0)) ≡ true = fits-still (e .pre) (p .kept .1 .1 .1 .1 .1 .1 .0) in
+    let fits : roomFits (e .args .size) (length (p .last .1 .1 .1 .1 .0)) ≡ true = fits-still (e .pre) (p .kept .1 .1 .1 .1 .0) in
     (p .ensures, c .lacking-in .ensures ∙ rw fits)
 
 pub put-and-count-spec : {M : Type 1} → statement M

@@ -71,7 +71,7 @@ returns-2 c =
     let found = head .before in
     let is = is-ready found in
     let told = found .before .receive-number .ensures in
-    let long = p .kept .1 .1 .1 .1 .1 .1 .0 in (
+    let long = p .kept .1 .1 .1 .1 .0 in (
       answered _ is (sized head) (shared head) _ told (found .if1 .left) long (p .ensures),
       stored _ is (sized head) (shared head) _ told (found .if1 .left) long (p .ensures),
     )

@@ -12,6 +12,7 @@ use Rattle.rate_matching.specs.SubBlocks.{rows}
 use Rattle.rate_matching.specs.Circle.{startIn}
 use Rattle.rate_matching.specs.Walk.{sentPlaces}
 use Rattle.rate_matching.specs.Shape.{shape}
+use Rattle.codeword.specs.declared.Grant.{Grant}
 use Rattle.codeword.specs.Build.{badAllocation}
 use Rattle.codeword.specs.Codeword.{blockRows}
 use Rattle.slots.specs.State.{perBlock}
@@ -22,11 +23,12 @@ use Rattle.slots.specs.Room.{agreeing}
 unfoldable pub partAfter : ℕ → ℕ → ℕ → ℕ → List ℕ → List ℕ → List ℕ
 partAfter D F Ncb v bits part = putAlong agreeing (sentPlaces (take Ncb (shape D F)) (startIn Ncb (rows D) v) (length bits)) bits part
 
--- an accepted reception for a block of A bits, a share `soft` that is long enough for its code blocks, and a room of n bytes for them
-pub record Accepted (A soft Q N v : ℕ) (bits : List ℕ) (n : ℕ) : Type 0 where
+-- an accepted reception of a grant's bits for a block of A bits, a share `soft` that is long enough for its code blocks, and a room of n bytes for them
+pub record Accepted (A soft : ℕ) (g : Grant) (bits : List ℕ) (n : ℕ) : Type 0 where
   pub size : badSize A ≡ false
   pub wide : (r : ℕ) → 32 * blockRows (A + 24) r ≤ soft
-  pub allocation : badAllocation (blocks (A + 24)) Q N (length bits) ≡ false
-  pub version : v ≤ 3
+  pub allocation : badAllocation (blocks (A + 24)) (g .modulation) (g .layers) (g .bits) ≡ false
+  pub version : g .version ≤ 3
+  pub whole : length bits ≡ g .bits
   pub given : AreBits bits
   pub fits : blocks (A + 24) * perBlock ≤ n

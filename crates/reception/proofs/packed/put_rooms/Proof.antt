@@ -16,10 +16,10 @@ use Rattle.reception.proofs.packed.put_rooms.Statement.{statement}
 use Rattle.reception.proofs.packed.put_rooms.Tie as tie
 
 abbrev Inv-loop : tie.InvT-loop
-Inv-loop a soft q n version bits room₀ s C g lacking₀ at₀ from₀ r₀ room lacking at from r = Filling a soft q n version bits room₀ room lacking at from r
+Inv-loop a soft grant bits room₀ s C lacking₀ at₀ from₀ r₀ room lacking at from r = Filling a soft grant bits room₀ room lacking at from r
 
 abbrev μ-loop : tie.MeasureT-loop
-μ-loop a soft q n version bits room₀ s C g lacking₀ at₀ from₀ r₀ room lacking at from r = C - r
+μ-loop a soft grant bits room₀ s C lacking₀ at₀ from₀ r₀ room lacking at from r = C - r
 
 -- in the loop: the function's entry, and the numbers of code block r
 abbrev entry : tie.In-loop Inv-loop μ-loop → tie.Start Inv-loop μ-loop
@@ -35,7 +35,7 @@ filled : (c : tie.After-filler-of Inv-loop μ-loop) → c .filler-of .result ≡
 filled c = c .filler-of .ensures ∙ block (c .before .before) .filled
 
 share-of : (c : tie.After-share-of Inv-loop μ-loop) → let e = entry (c .before .before .before) .args in
-    c .share-of .result ≡ shareOf (blocks (e .a + 24)) (e .q) (e .n) (length (e .bits .now)) (c .before .before .before .before .loop .r)
+    c .share-of .result ≡ shareOf (blocks (e .a + 24)) (e .grant .modulation) (e .grant .layers) (e .grant .bits) (c .before .before .before .before .loop .r)
 share-of c = let i = c .before .before .before in rw (count-is _ (entry i .pre .size) (i .before .before .segments-for .ensures)) at (c .share-of .ensures)
 
 -- its stretch of the bits and its bytes of the room

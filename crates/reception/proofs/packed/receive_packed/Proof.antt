@@ -83,7 +83,7 @@ returns-2 c =
     let p = c .before .before .put-rooms in
     let head = c .before .before .before .before .before in
     let found = head .before in
-    let kept = p .kept .1 .1 .1 .1 .1 .1 .0 in (
+    let kept = p .kept .1 .1 .1 .1 .0 in (
       bytes-answered _ (is-ready found) (sized head) (shared head) _ _ (told (found .before)) (found .if1 .left) kept (p .ensures),
       bytes-stored _ (is-ready found) (sized head) (shared head) _ _ (told (found .before)) (found .if1 .left) kept (p .ensures) (λ i. omega (arith, c .slice-known2 .given i)),
     )

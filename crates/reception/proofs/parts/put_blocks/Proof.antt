@@ -16,10 +16,10 @@ use Rattle.reception.proofs.parts.put_blocks.Statement.{statement}
 use Rattle.reception.proofs.parts.put_blocks.Tie as tie
 
 abbrev Inv-loop : tie.InvT-loop
-Inv-loop a soft q n version bits room₀ s C g at₀ from₀ r₀ room at from r = Blocks a soft q n version bits room₀ room at from r
+Inv-loop a soft grant bits room₀ s C at₀ from₀ r₀ room at from r = Blocks a soft grant bits room₀ room at from r
 
 abbrev μ-loop : tie.MeasureT-loop
-μ-loop a soft q n version bits room₀ s C g at₀ from₀ r₀ room at from r = C - r
+μ-loop a soft grant bits room₀ s C at₀ from₀ r₀ room at from r = C - r
 
 -- in the loop: the function's entry, and the numbers of code block r
 abbrev entry : tie.In-loop Inv-loop μ-loop → tie.Start Inv-loop μ-loop
@@ -38,7 +38,7 @@ size : (c : tie.After-size-of Inv-loop μ-loop) → c .size-of .result ≡ sizeO
 size c = c .size-of .ensures ∙ block (c .before) .size
 
 share-of : (c : tie.After-share-of Inv-loop μ-loop) → let e = entry (c .before .before .before) .args in
-    c .share-of .result ≡ shareOf (blocks (e .a + 24)) (e .q) (e .n) (length (e .bits .now)) (c .before .before .before .before .loop .r)
+    c .share-of .result ≡ shareOf (blocks (e .a + 24)) (e .grant .modulation) (e .grant .layers) (e .grant .bits) (c .before .before .before .before .loop .r)
 share-of c = rw (count (c .before .before .before)) at (c .share-of .ensures)
 
 -- its stretch of the bits and its part of the room
