@@ -25,10 +25,10 @@ use Rattle.rate_matching.proofs.Walk.{length-round}
 use Rattle.rate_matching.proofs.Coverage.{turn-sent}
 use Rattle.rate_matching.proofs.Cut.{length-cut, holds-cut}
 use Rattle.rate_matching.proofs.ShapeCount.{data-lt, data-holds}
-use Rattle.codeword.specs.Shares.{symbols, share}
+use Rattle.codeword.specs.Shares.{symbols, share, granted}
 use Rattle.codeword.proofs.Accepted.{modulation, layers, step}
 use Rattle.codeword.proofs.Shares.{share-is}
-use Rattle.codeword.specs.Build.{badModulation, badLayers, badAllocation}
+use Rattle.codeword.specs.Build.{badModulation, badLayers, badSymbol, badLength, badAllocation}
 use Rattle.codeword.specs.Codeword.{blockRows, blockCut}
 use Rattle.planning.specs.Needs.{Gives}
 use Rattle.slots.specs.declared.Answer.the-variants.{Done}
@@ -41,7 +41,7 @@ use Rattle.slots.proofs.Acceptance.{reads}
 use Rattle.slots.proofs.HeadLaws.{open-size}
 use Rattle.slots.proofs.PlaceBounds.{streams-least, filler-fewer, block-cut}
 use Rattle.history.specs.Links.{Link, shareIn}
-use Rattle.history.specs.Calls.{Reception, opening, History}
+use Rattle.history.specs.Calls.{Reception, opening, History, grantOf}
 use Rattle.history.specs.Answered.{answerTo}
 use Rattle.history.specs.After.{made, stateAfter, storeAfter, roomsLong, acceptedAfter}
 use Rattle.history.specs.Later.{Undisturbed, acceptedIn}
@@ -83,7 +83,7 @@ module _ (soft A : ℕ) (admitted : badSize A ≡ false) (wide : Wide soft (A + 
   by-turn : (r i : ℕ) → DataPlace A r i → (x : Reception) → Sound x × WholeTurn soft A x → Among (placeNumber (sizeOf (A + 24) r + 4) 0 i) (placesOf soft A r x)
   unfolding blockPlaces blockRows
   by-turn r i d x (sound, gives) =
-      turn-sent (cutShape r) (startAt r (x .version)) (starts r (x .version) (sound .version)) (share (blocks (A + 24)) (x .Q) (x .N) (length (x .bits)) r)
+      turn-sent (cutShape r) (startAt r (x .version)) (starts r (x .version) (sound .version)) (granted (blocks (A + 24)) (grantOf x) r)
       (omega (arith, turn-fits r (x .version) (sound .version), gives r (d .block)))
       j (rw (cut-long r (x .version) (sound .version)) before)
       (holds-cut (shape D F) (blockCut soft (A + 24) r) j before ∙ data-holds D F few i (d .past-filler) (omega (arith, d .below-size)))
@@ -228,7 +228,7 @@ module _ (A Q N : ℕ) (admitted : badSize A ≡ false) (modulation-fits : badMo
 
   -- it is accepted
   pub turn-allocated : badAllocation C Q N (turnBits A) ≡ false
-  unfolding badAllocation turnBits
+  unfolding badAllocation badSymbol badLength turnBits
   turn-allocated =
       let multiple : turnBits A % (N * Q) ≡ 0 = ap (λ (G : ℕ). G % (N * Q)) parts ∙ digits-mod (m * C) {r = 0} some-step in
       let enough : C ≤ symbols Q N (turnBits A) = rw symbols-are (mul-some C m (λ z. let none : 0 * (N * Q) ≡ 18576 = sym (ap (λ (x : ℕ). x * (N * Q)) z) ∙ divides in omega (arith, none))) in

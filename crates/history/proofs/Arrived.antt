@@ -6,12 +6,12 @@ use mathlib.Core.List.{List, [], _∷_, _++_}
 use Prim.Native.Nat.{ℕ, _+_}
 use native.Mathlib.Decide.{ℕ-discrete}
 use lib.Dec.{eqb}
-use lib.ListN.{length, getD, drop}
+use lib.ListN.{getD, drop}
 use borrow.Author.Tests.{eq-eqb, ne-eqb, eqb-true}
 use Rattle.laws.specs.Bits.{AreBits}
 use Rattle.laws.proofs.AreBits.{no-bits, with-bit, append-bits, drop-below}
 use Rattle.segmentation.specs.Segmentation.{blocks}
-use Rattle.codeword.specs.Shares.{sharesBefore}
+use Rattle.codeword.specs.Shares.{grantedBefore}
 use Rattle.codeword.proofs.Accepted.{given-bits}
 use Rattle.slots.specs.declared.State.{State}
 use Rattle.slots.specs.Putting.{arriving, metBy}
@@ -21,7 +21,7 @@ use Rattle.slots.specs.Calls.{receiveNumber, closeNumber}
 use Rattle.slots.proofs.Acceptance.{receives}
 use Rattle.slots.proofs.Meeting.{decided-bit, disputed-not, unheard-not, unheard-two, Known, known-bit, meet-unheard, meet-same, meet-other, meet-disputed}
 use Rattle.history.specs.Links.{openingNumber}
-use Rattle.history.specs.Calls.{Reception, Call, opening, receiving, reading, streaming, closing, History}
+use Rattle.history.specs.Calls.{Reception, Call, opening, receiving, reading, streaming, closing, History, grantOf}
 use Rattle.history.specs.Accepted.{lentLength, headsAfter, sinceCall, since, inOrder, bitsFor, arrivals}
 use Rattle.history.specs.Agreed.{allAre, holding, decided}
 use Rattle.history.specs.Sent.{among, sent}
@@ -120,7 +120,7 @@ unfolding inOrder bitsFor sent someCame
 came-sent soft A [] r j = refl
 came-sent soft A (x ∷ xs) r j =
     came-append (arrivals soft A xs r j) _
-    ∙ ap₂ _||_ (came-among (blockPlaces soft (A + 24) (x .Q) (x .N) (x .version) (length (x .bits)) r) _ j) (came-sent soft A xs r j)
+    ∙ ap₂ _||_ (came-among (blockPlaces soft (A + 24) (grantOf x) r) _ j) (came-sent soft A xs r j)
 
 -- ---- accepted receptions bring bits
 
@@ -142,7 +142,7 @@ unfolding inOrder bitsFor blockValues
 arrived-bits soft A [] r j h = no-bits
 arrived-bits soft A (x ∷ xs) r j h =
     append-bits (arrivals soft A xs r j) _ (arrived-bits soft A xs r j (h .1))
-    (arriving-bits _ _ j (drop-below 2 (sharesBefore (blocks (A + 24)) (x .Q) (x .N) (length (x .bits)) r) (x .bits) (h .0)))
+    (arriving-bits _ _ j (drop-below 2 (grantedBefore (blocks (A + 24)) (grantOf x) r) (x .bits) (h .0)))
 
 taken-bits : (state : State) (room slot : ℕ) (call : Call) (earlier : List Reception) → AllBits earlier → AllBits (sinceCall state room slot call earlier)
 unfolding sinceCall

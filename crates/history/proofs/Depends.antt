@@ -26,7 +26,7 @@ use Rattle.slots.proofs.RoomLaws.{room-byte, cleared-in, blocks-fit, room-store
 use Rattle.slots.proofs.HeadLaws.{open-size, its-head, no-head, closed-head}
 use Rattle.slots.proofs.Acceptance.{receives, reads, streams}
 use Rattle.history.specs.Links.{Link, uplink, downlink, shareIn, openingNumber}
-use Rattle.history.specs.Calls.{Reception, Call, opening, receiving, reading, streaming, closing}
+use Rattle.history.specs.Calls.{Reception, Call, opening, receiving, reading, streaming, closing, grantOf}
 use Rattle.history.specs.Run.{outcomeOf, storeAfterCall}
 use Rattle.history.specs.Accepted.{headsAfterCall}
 use Rattle.history.specs.Answered.{answerTo, slotOf, SameRoom, SameSlot}
@@ -159,7 +159,7 @@ module _ (slot : ℕ) (state other : State) (store otherStore : List ℕ) (same 
       number = receiveNumber state (length store) slot terminal (x .Q) (x .N) (x .version) (x .bits)
 
       put : ℕ → ℕ → ℕ → List ℕ → List ℕ
-      put soft M A l = withRoom M slot (received agreeing soft A (x .Q) (x .N) (x .version) (x .bits) (roomAt M slot l)) l
+      put soft M A l = withRoom M slot (received agreeing soft A (grantOf x) (x .bits) (roomAt M slot l)) l
 
       put-both : eqb number 0 ≡ true
           → SameRoom (state .blocks) slot (put (shareAtHead state slot) (state .blocks) (sizeAtHead state slot) store) (put (shareAtHead other slot) (other .blocks) (sizeAtHead other slot) otherStore)
@@ -169,13 +169,13 @@ module _ (slot : ℕ) (state other : State) (store otherStore : List ℕ) (same 
           let size = open-size state (a .sound) slot (a .below) (a .opened) in
           let fits = reception-fits state (length store) slot terminal x z in
           let long : roomStart (state .blocks) slot + roomLength (state .blocks) ≤ length otherStore = omega (arith, fits .room, same .long) in
-          let stored = room-stored (shareAtHead state slot) (state .blocks) slot (sizeAtHead state slot) (x .Q) (x .N) (x .version) (x .bits) in
-          let has = blocks-fit (shareAtHead state slot) (state .blocks) slot (sizeAtHead state slot) (x .Q) (x .N) (x .version) (x .bits) in
+          let stored = room-stored (shareAtHead state slot) (state .blocks) slot (sizeAtHead state slot) (grantOf x) (x .bits) in
+          let has = blocks-fit (shareAtHead state slot) (state .blocks) slot (sizeAtHead state slot) (grantOf x) (x .bits) in
           subst (SameRoom (state .blocks) slot (put (shareAtHead state slot) (state .blocks) (sizeAtHead state slot) store))
           (ap₂ (λ (M A : ℕ). put (shareAtHead state slot) M A otherStore) (same .blocks) same-size ∙ ap (λ (soft : ℕ). put soft (other .blocks) (sizeAtHead other slot) otherStore) same-share)
           (λ k l.
           ap (λ (room : List ℕ). getD room k 0) (stored store (fits .room) (fits .few) (fits .places))
-          ∙ same-received (state .blocks) (sizeAtHead state slot) (size .0) (size .1) (roomOf state store) (roomOf state otherStore) (same .room) (shareAtHead state slot) (x .Q) (x .N) (x .version) (x .bits)
+          ∙ same-received (state .blocks) (sizeAtHead state slot) (size .0) (size .1) (roomOf state store) (roomOf state otherStore) (same .room) (shareAtHead state slot) (grantOf x) (x .bits)
           (fits .places) (has store (fits .room) (fits .few) (fits .places)) (has otherStore long (fits .few) (fits .places)) k l
           ∙ ap (λ (room : List ℕ). getD room k 0) (sym (stored otherStore long (fits .few) (fits .places))))
 

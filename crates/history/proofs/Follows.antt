@@ -8,6 +8,7 @@ use native.Mathlib.Nat.{mul-le-mul-right}
 use native.Mathlib.Omega.{arith}
 use lib.ListN.{length, getD}
 use Rattle.segmentation.specs.Segmentation.{blocks}
+use Rattle.codeword.specs.declared.Grant.{Grant}
 use Rattle.slots.specs.State.{perBlock, roomLength}
 use Rattle.slots.specs.Putting.{Keeping, metBy}
 use Rattle.slots.specs.Room.{unheard, agreeing, circleAt}
@@ -44,20 +45,20 @@ module _ {R X Y : Type 0} (how : Keeping X Y) (start : X) (brings : ℕ → ℕ 
           circle-entry r after j (how .none) ∙ same (r * perBlock + j) (place-in-room M r j l k) ∙ sym (circle-entry r room j (how .none))
 
   -- one more reception
-  pub follows-more : (soft A Q N v : ℕ) (values : List Y) (x : R) → ((r j : ℕ) → brings r j x ≡ brought how soft (A + 24) Q N v values r j)
-      → {xs : List R} (room : List X) → blocks (A + 24) * perBlock ≤ length room → AllPlaces soft (A + 24) Q N v (length values)
-      → Follows how start brings (blocks (A + 24)) M xs room → Follows how start brings (blocks (A + 24)) M (x ∷ xs) (received how soft A Q N v values room)
+  pub follows-more : (soft A : ℕ) (g : Grant) (values : List Y) (x : R) → ((r j : ℕ) → brings r j x ≡ brought how soft (A + 24) g values r j)
+      → {xs : List R} (room : List X) → blocks (A + 24) * perBlock ≤ length room → AllPlaces soft (A + 24) g
+      → Follows how start brings (blocks (A + 24)) M xs room → Follows how start brings (blocks (A + 24)) M (x ∷ xs) (received how soft A g values room)
   unfolding inOrder
-  follows-more soft A Q N v values x is {xs} room fits places f = record {
+  follows-more soft A g values x is {xs} room fits places f = record {
     place = λ r j l k.
-        received-here how soft A Q N v values room fits places r j l k
+        received-here how soft A g values room fits places r j l k
         ∙ ap₂ (metBy how) (f .place r j l k) (sym (is r j))
         ∙ sym (met-append how start (inOrder (brings r j) xs) (brings r j x));
-    rest = λ r j g l k.
+    rest = λ r j late l k.
         circle-entry r _ j (how .none)
-        ∙ received-past how soft A Q N v values room fits places (r * perBlock + j) (omega (arith, mul-le-mul-right perBlock g))
+        ∙ received-past how soft A g values room fits places (r * perBlock + j) (omega (arith, mul-le-mul-right perBlock late))
         ∙ sym (circle-entry r room j (how .none))
-        ∙ f .rest r j g l k;
+        ∙ f .rest r j late l k;
   }
 
 -- receptions of bits for a block of A bits

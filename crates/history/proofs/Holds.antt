@@ -20,7 +20,7 @@ use Rattle.slots.proofs.RoomLaws.{room-byte, cleared-in, blocks-fit, room-store
 use Rattle.slots.proofs.HeadLaws.{open-size, closed-head, new-head}
 use Rattle.slots.proofs.Acceptance.{receives}
 use Rattle.history.specs.Links.{Link, shareIn, openingNumber}
-use Rattle.history.specs.Calls.{Reception, Call, opening, receiving, reading, streaming, closing, Made, History}
+use Rattle.history.specs.Calls.{Reception, Call, opening, receiving, reading, streaming, closing, Made, History, grantOf}
 use Rattle.history.specs.Run.{World, lent, storeAfterCall, step, begin, run}
 use Rattle.history.specs.Accepted.{lentLength, headsAfterCall, headsAfter, sinceCall, since, bitsFor, arrivals}
 use Rattle.history.specs.Answered.{slotOf}
@@ -52,9 +52,9 @@ reception-met state store slot terminal x accepted before =
     let soft : ℕ = shareAtHead state slot in
     let A : ℕ = sizeAtHead state slot in
     let fits = reception-fits state (length store) slot terminal x accepted in
-    let more = follows-more agreeing unheard (bitsFor soft A) M soft A (x .Q) (x .N) (x .version) (x .bits) x (λ r j. refl) (roomAt M slot store)
-    (blocks-fit soft M slot A (x .Q) (x .N) (x .version) (x .bits) store (fits .room) (fits .few) (fits .places)) (fits .places) before in
-    rw (room-stored soft M slot A (x .Q) (x .N) (x .version) (x .bits) store (fits .room) (fits .few) (fits .places)) more
+    let more = follows-more agreeing unheard (bitsFor soft A) M soft A (grantOf x) (x .bits) x (λ r j. refl) (roomAt M slot store)
+    (blocks-fit soft M slot A (grantOf x) (x .bits) store (fits .room) (fits .few) (fits .places)) (fits .places) before in
+    rw (room-stored soft M slot A (grantOf x) (x .bits) store (fits .room) (fits .few) (fits .places)) more
 
 -- what is to be shown of a slot with a head, after receptions, of the rooms
 abbrev Kept : ℕ → ℕ → Head → List Reception → List ℕ → Type 0

@@ -22,7 +22,7 @@ use Rattle.slots.proofs.HeadLaws.{open-size, other-head}
 use Rattle.slots.proofs.PlaceBounds.{sent-below}
 use Rattle.slots.proofs.Acceptance.{receives}
 use Rattle.history.specs.Links.{shareIn, openingNumber}
-use Rattle.history.specs.Calls.{Reception, Call, opening, receiving, reading, streaming, closing, Made}
+use Rattle.history.specs.Calls.{Reception, Call, opening, receiving, reading, streaming, closing, Made, grantOf}
 use Rattle.history.specs.Run.{World, lent, storeAfterCall, step}
 use Rattle.history.specs.Accepted.{headsAfterCall}
 use Rattle.history.specs.Answered.{slotOf, SameRoom}
@@ -55,7 +55,7 @@ module _ (state : State) (room slot : ℕ) where
 pub record ReceptionFits (state : State) (lent slot : ℕ) (r : Reception) : Type 0 where
   pub room : roomStart (state .blocks) slot + roomLength (state .blocks) ≤ lent
   pub few : blocks (sizeAtHead state slot + 24) ≤ state .blocks
-  pub places : AllPlaces (shareAtHead state slot) (sizeAtHead state slot + 24) (r .Q) (r .N) (r .version) (length (r .bits))
+  pub places : AllPlaces (shareAtHead state slot) (sizeAtHead state slot + 24) (grantOf r)
 
 pub reception-fits : (state : State) (lent slot terminal : ℕ) (r : Reception) → receiveNumber state lent slot terminal (r .Q) (r .N) (r .version) (r .bits) ≡ 0
     → ReceptionFits state lent slot r
@@ -66,7 +66,7 @@ reception-fits state lent slot terminal r e =
     record {
       room = omega (arith, a .long, room-within (state .slots) (state .blocks) slot (a .below));
       few = o .1;
-      places = λ q. sent-below (sizeAtHead state slot) (o .0) (good state (a .sound) .wide slot (a .below) (a .opened)) (r .Q) (r .N) (r .version) (length (r .bits)) q (a .version);
+      places = λ q. sent-below (sizeAtHead state slot) (o .0) (good state (a .sound) .wide slot (a .below) (a .opened)) (grantOf r) q (a .version);
     }
 
 -- a call changes no byte outside the room of the slot that it names
@@ -88,7 +88,7 @@ bytes-stay state store (receiving slot terminal r) at n = go (eqb number 0) refl
         → getD (cond b (withReception state slot r store) store) at 0 ≡ getD store at 0
     go true e =
         let f = reception-fits state (length store) slot terminal r (eqb-true _ _ e) in
-        stored-out (shareAtHead state slot) (state .blocks) slot (sizeAtHead state slot) (r .Q) (r .N) (r .version) (r .bits) store (f .room) (f .few) (f .places) at n
+        stored-out (shareAtHead state slot) (state .blocks) slot (sizeAtHead state slot) (grantOf r) (r .bits) store (f .room) (f .few) (f .places) at n
     go false e = refl
 bytes-stay state store (reading slot terminal size) at n = refl
 bytes-stay state store (streaming slot terminal block size) at n = refl

@@ -20,7 +20,7 @@ use Rattle.rate_matching.specs.Circle.{byTurns, circle, circleLength, cutAt, st
 use Rattle.rate_matching.specs.SoftBuffer.{wholeShare}
 use Rattle.rate_matching.specs.Places.{plainPlace, placeNumber}
 use Rattle.rate_matching.specs.Walk.{onCircle, isBit, holdsBit, itself, round, turn, turnAfterTurn, sentPlaces}
-use Rattle.codeword.specs.Shares.{symbols, share}
+use Rattle.codeword.specs.Shares.{symbols, share, grant}
 use Rattle.codeword.specs.Codeword.{blockRows, blockCut}
 use Rattle.rate_matching.specs.Shape.{blank, shape}
 use Rattle.slots.specs.Reception.{blockPlaces}
@@ -28,7 +28,7 @@ use Rattle.history.specs.Sent.{among, sent, NoneSent}
 
 -- data place i of the one code block is not among those sent
 abbrev unsentAt : ℕ → Bool
-unsentAt i = not (among (placeNumber 44 0 i) (blockPlaces wholeShare 40 2 1 2 64 0))
+unsentAt i = not (among (placeNumber 44 0 i) (blockPlaces wholeShare 40 (grant 2 1 2 64) 0))
 
 tested : T (all-below unsentAt 40)
 unfolding all-below among tab tabFrom keep sizeTable sizeAt checkLength blocks withChecks firstRow longRow long short shorts longs filler sizeOf fillerOf withoutFiller bitsOf numberOf turnedRound column rows dummies padded readPlain readShifted yAt plain shifted byTurns circle circleLength cutAt startIn plainPlace placeNumber onCircle isBit holdsBit itself round turn turnAfterTurn sentPlaces symbols share blockRows blockCut blank shape blockPlaces
@@ -41,7 +41,7 @@ one-block = (refl, refl)
 
 pub parity-alone : (bits : List ℕ) → length bits ≡ 64 → NoneSent wholeShare 16 (record { Q = 2; N = 1; version = 2; bits = bits } ∷ [])
 unfolding sent
-parity-alone bits long zero i d = rw (long, one-block .1) (go (among (placeNumber 44 0 i) (blockPlaces wholeShare 40 2 1 2 64 0)) (all-below-at unsentAt 40 tested i (omega (arith, one-block .1))))
+parity-alone bits long zero i d = rw (long, one-block .1) (go (among (placeNumber 44 0 i) (blockPlaces wholeShare 40 (grant 2 1 2 64) 0)) (all-below-at unsentAt 40 tested i (omega (arith, one-block .1))))
   where
     go : (b : Bool) → T (not b) → (b || false) ≡ false
     go true t = absurd t

@@ -15,7 +15,8 @@ use Rattle.laws.specs.Bits.{AreBits}
 use Rattle.rate_matching.specs.Circle.{startIn}
 use Rattle.rate_matching.specs.Walk.{onCircle, selected}
 use Rattle.rate_matching.proofs.Alike.{shape-filled, same-cut}
-use Rattle.codeword.specs.Shares.{share, sharesBefore}
+use Rattle.codeword.specs.declared.Grant.{Grant}
+use Rattle.codeword.specs.Shares.{granted, grantedBefore}
 use Rattle.codeword.specs.Codeword.{blockCircle, blockRows, blockCut, sentBits, blockBits, bitsFrom}
 use Rattle.codeword.proofs.Data.{withCheck-bits, block-filled}
 use Rattle.codeword.proofs.Taken.{length-withCheck, stretch-is}
@@ -23,7 +24,7 @@ use Rattle.slots.specs.Putting.{arriving, metBy}
 use Rattle.slots.specs.Room.{unheard, agreeing}
 use Rattle.rate_matching.specs.Shape.{shape}
 use Rattle.slots.specs.Reception.{blockPlaces, blockValues}
-use Rattle.history.specs.Calls.{Reception}
+use Rattle.history.specs.Calls.{Reception, grantOf}
 use Rattle.history.specs.Accepted.{inOrder, bitsFor, arrivals}
 use Rattle.history.specs.Agreed.{allAre, decided}
 use Rattle.history.specs.Sent.{True, AllTrue, sent}
@@ -37,13 +38,13 @@ cutCircle soft b r = take (blockCut soft (length b) r) (blockCircle b r)
 
 module _ (soft : ℕ) (b : List ℕ) (B : ℕ) (low : 24 ≤ B) (high : B ≤ 30600) (long : length b ≡ B) (bits : AreBits b) where
   -- what code block r sends are the bits at the places that a reception of it fills
-  pub block-bits : (Q N v G r : ℕ) → r < blocks B → blockBits soft b Q N v G r ≡ map (onCircle (cutCircle soft b r)) (blockPlaces soft B Q N v G r)
+  pub block-bits : (g : Grant) (r : ℕ) → r < blocks B → blockBits soft b g r ≡ map (onCircle (cutCircle soft b r)) (blockPlaces soft B g r)
   unfolding blockBits sentBits selected blockPlaces shape blockCircle
-  block-bits Q N v G r h =
+  block-bits g r h =
       rw long
       (ap (map _)
       (same-cut (block-filled B low high b long r h bits) (shape-filled (sizeOf B r + 4) (fillerOf B r) (omega (arith, filler-within B high low r)))
-      (blockCut soft B r) (startIn (blockCut soft B r) (blockRows B r) v) (share (blocks B) Q N G r)))
+      (blockCut soft B r) (startIn (blockCut soft B r) (blockRows B r) (g .version)) (granted (blocks B) g r)))
 
 -- ---- the bits of true transmissions
 
@@ -61,17 +62,16 @@ all-of-rule f (p ∷ ps) rest j = go (eqb p j) refl (all-of-rule f ps rest j)
 module _ (soft : ℕ) (a : List ℕ) (small : length a ≤ 30576) (bits : AreBits a) where
   -- the bits that a true transmission brings for code block r, and what follows them
   brings : (x : Reception) → True soft a x → (r : ℕ) → r < blocks (length a + 24)
-      → blockValues (length a + 24) (x .Q) (x .N) (x .bits) r
-      ≡ map (onCircle (cutCircle soft (withCheck a) r)) (blockPlaces soft (length a + 24) (x .Q) (x .N) (x .version) (length (x .bits)) r)
-      ++ bitsFrom soft (withCheck a) (x .Q) (x .N) (x .version) (length (x .bits)) (suc r) (blocks (length a + 24) - suc r)
+      → blockValues (length a + 24) (grantOf x) (x .bits) r
+      ≡ map (onCircle (cutCircle soft (withCheck a) r)) (blockPlaces soft (length a + 24) (grantOf x) r)
+      ++ bitsFrom soft (withCheck a) (grantOf x) (suc r) (blocks (length a + 24) - suc r)
   unfolding blockValues
   brings x t r h =
       let B : ℕ = length a + 24 in
-      let G : ℕ = length (x .bits) in
-      ap (drop (sharesBefore (blocks B) (x .Q) (x .N) G r)) t
-      ∙ stretch-is soft a (x .Q) (x .N) (x .version) G r h
-      ∙ ap (λ (l : List ℕ). l ++ bitsFrom soft (withCheck a) (x .Q) (x .N) (x .version) G (suc r) (blocks B - suc r))
-      (block-bits soft (withCheck a) B (omega arith) (omega arith) (length-withCheck a) (withCheck-bits a bits) (x .Q) (x .N) (x .version) G r h)
+      ap (drop (grantedBefore (blocks B) (grantOf x) r)) t
+      ∙ stretch-is soft a (grantOf x) r h
+      ∙ ap (λ (l : List ℕ). l ++ bitsFrom soft (withCheck a) (grantOf x) (suc r) (blocks B - suc r))
+      (block-bits soft (withCheck a) B (omega arith) (omega arith) (length-withCheck a) (withCheck-bits a bits) (grantOf x) r h)
 
   -- true transmissions never contradict each other: all that they bring for a place is the block's own bit there
   true-bits : (xs : List Reception) → AllTrue soft a xs → (r j : ℕ) → r < blocks (length a + 24)
@@ -79,7 +79,7 @@ module _ (soft : ℕ) (a : List ℕ) (small : length a ≤ 30576) (bits : AreBit
   unfolding inOrder bitsFor allAre
   true-bits [] t r j h = refl
   true-bits (x ∷ xs) t r j h =
-      let ps : List ℕ = blockPlaces soft (length a + 24) (x .Q) (x .N) (x .version) (length (x .bits)) r in
+      let ps : List ℕ = blockPlaces soft (length a + 24) (grantOf x) r in
       let f : ℕ → ℕ = onCircle (cutCircle soft (withCheck a) r) in
       all-append (f j) (arrivals soft (length a) xs r j) _ (true-bits xs (t .1) r j h)
       (ap (λ (l : List ℕ). allAre (f j) (arriving agreeing ps l j)) (brings x (t .0) r h) ∙ all-of-rule f ps _ j)

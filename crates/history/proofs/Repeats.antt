@@ -22,7 +22,7 @@ use Rattle.rate_matching.specs.Walk.{Among}
 use Rattle.rate_matching.proofs.Coverage.{quarterOf, quarter-lt, never-2}
 use Rattle.rate_matching.proofs.ShapeCount.{data-lt, data-holds, quarter-sent, whole-sent}
 use Rattle.codeword.specs.Build.{badVersion}
-use Rattle.codeword.specs.Shares.{share}
+use Rattle.codeword.specs.Shares.{granted}
 use Rattle.codeword.specs.Codeword.{blockRows}
 use Rattle.codeword.proofs.Accepted.{allocated}
 use Rattle.planning.specs.Needs.{quarter, whole, needOfThree, needOfOne}
@@ -34,7 +34,7 @@ use Rattle.slots.specs.Calls.{sizeAtHead, shareAtHead, receiveNumber, readNumbe
 use Rattle.slots.proofs.Acceptance.{receives, reads}
 use Rattle.slots.proofs.HeadLaws.{open-size}
 use Rattle.history.specs.Links.{uplink, shareIn, openingNumber}
-use Rattle.history.specs.Calls.{Reception, Call, opening, receiving, reading, streaming, closing, History}
+use Rattle.history.specs.Calls.{Reception, Call, opening, receiving, reading, streaming, closing, History, grantOf}
 use Rattle.history.specs.Accepted.{lentLength, headsAfter, sinceCall, since}
 use Rattle.history.specs.Answered.{answerTo}
 use Rattle.history.specs.After.{made, stateAfter, storeAfter, roomsLong, acceptedAfter}
@@ -61,7 +61,7 @@ among-of j (p ∷ ps) (suc k) h e = or-last (eqb p j) (among-of j ps k (omega ar
 
 -- the places of code block r of a block of A bits that a reception sends, each code block having a share `soft` of the soft buffer
 abbrev pub placesOf : ℕ → ℕ → ℕ → Reception → List ℕ
-placesOf soft A r x = blockPlaces soft (A + 24) (x .Q) (x .N) (x .version) (length (x .bits)) r
+placesOf soft A r x = blockPlaces soft (A + 24) (grantOf x) r
 
 module _ (soft A r j : ℕ) where
   pub sent-by : (such : Reception → Type 0) → ((x : Reception) → such x → Among j (placesOf soft A r x)) → (xs : List Reception) → Some such xs → sent soft A xs r j ≡ true
@@ -101,16 +101,16 @@ module _ (A : ℕ) (most : A ≤ 30576) (r i : ℕ) (d : DataPlace A r i) where
   by-repeat : (x : Reception) → Repeat A (quarterOf (rows D) j) x → Among j (placesOf wholeShare A r x)
   unfolding blockRows needOfThree quarter
   by-repeat x w =
-      rw (whole-places A most (x .Q) (x .N) (x .version) (length (x .bits)) r, w .version)
-      (quarter-sent D F few (omega arith) (share (blocks (A + 24)) (x .Q) (x .N) (length (x .bits)) r) j on-circle
+      rw (whole-places A most (grantOf x) r, w .version)
+      (quarter-sent D F few (omega arith) (granted (blocks (A + 24)) (grantOf x) r) j on-circle
       (data-holds D F few i (d .past-filler) (omega (arith, d .below-size)))
       (w .gives r (d .block)))
 
   by-whole : (x : Reception) → Sound x × Whole A x → Among j (placesOf wholeShare A r x)
   unfolding blockRows needOfOne whole
   by-whole x w =
-      rw (whole-places A most (x .Q) (x .N) (x .version) (length (x .bits)) r)
-      (whole-sent D F few (omega arith) (share (blocks (A + 24)) (x .Q) (x .N) (length (x .bits)) r) j on-circle
+      rw (whole-places A most (grantOf x) r)
+      (whole-sent D F few (omega arith) (granted (blocks (A + 24)) (grantOf x) r) j on-circle
       (data-holds D F few i (d .past-filler) (omega (arith, d .below-size)))
       (x .version) (w .0 .version) (w .1 r (d .block)))
 

@@ -11,6 +11,7 @@ use lib.ListN.{length, getD}
 use Rattle.segmentation.specs.Segmentation.{blocks, sizeOf}
 use Rattle.segmentation.specs.Sizes.{badSize}
 use Rattle.rate_matching.specs.Places.{placeNumber}
+use Rattle.codeword.specs.declared.Grant.{Grant}
 use Rattle.slots.specs.State.{perBlock, roomLength}
 use Rattle.slots.specs.Putting.{metBy}
 use Rattle.slots.specs.Room.{agreeing, circleAt}
@@ -49,27 +50,27 @@ module _ (M A : ℕ) (admitted : badSize A ≡ false) (fits : blocks (A + 24) �
     same-streams = SameKept.same-streams A room other same-kept
 
     -- what a reception leaves
-    pub same-received : (soft Q N v : ℕ) (bits : List ℕ) → AllPlaces soft (A + 24) Q N v (length bits)
+    pub same-received : (soft : ℕ) (g : Grant) (bits : List ℕ) → AllPlaces soft (A + 24) g
         → blocks (A + 24) * perBlock ≤ length room → blocks (A + 24) * perBlock ≤ length other
-        → (k : ℕ) → k < roomLength M → getD (received agreeing soft A Q N v bits room) k 0 ≡ getD (received agreeing soft A Q N v bits other) k 0
+        → (k : ℕ) → k < roomLength M → getD (received agreeing soft A g bits room) k 0 ≡ getD (received agreeing soft A g bits other) k 0
     unfolding agreeing
-    same-received soft Q N v bits places long long′ =
-        by-place M (λ (k : ℕ). getD (received agreeing soft A Q N v bits room) k 0 ≡ getD (received agreeing soft A Q N v bits other) k 0) at-place
+    same-received soft g bits places long long′ =
+        by-place M (λ (k : ℕ). getD (received agreeing soft A g bits room) k 0 ≡ getD (received agreeing soft A g bits other) k 0) at-place
       where
         at-place : (r j : ℕ) → r < M → j < perBlock
-            → getD (received agreeing soft A Q N v bits room) (r * perBlock + j) 0 ≡ getD (received agreeing soft A Q N v bits other) (r * perBlock + j) 0
+            → getD (received agreeing soft A g bits room) (r * perBlock + j) 0 ≡ getD (received agreeing soft A g bits other) (r * perBlock + j) 0
         at-place r j h l =
             elim (decLt r (blocks (A + 24))) [
-              | yes g ↦
+              | yes early ↦
                   sym (circle-entry r _ j 0)
-                  ∙ received-here agreeing soft A Q N v bits room long places r j g l
-                  ∙ ap (λ (x : ℕ). metBy agreeing x (brought agreeing soft (A + 24) Q N v bits r j)) (same-byte r j h l)
-                  ∙ sym (received-here agreeing soft A Q N v bits other long′ places r j g l)
+                  ∙ received-here agreeing soft A g bits room long places r j early l
+                  ∙ ap (λ (x : ℕ). metBy agreeing x (brought agreeing soft (A + 24) g bits r j)) (same-byte r j h l)
+                  ∙ sym (received-here agreeing soft A g bits other long′ places r j early l)
                   ∙ circle-entry r _ j 0
-              | no g ↦
+              | no late ↦
                   let after : blocks (A + 24) ≤ r = omega arith in
                   let past : blocks (A + 24) * perBlock ≤ r * perBlock + j = omega (arith, mul-le-mul-right perBlock after) in
-                  received-past agreeing soft A Q N v bits room long places (r * perBlock + j) past
+                  received-past agreeing soft A g bits room long places (r * perBlock + j) past
                   ∙ same (r * perBlock + j) (place-in-room M r j h l)
-                  ∙ sym (received-past agreeing soft A Q N v bits other long′ places (r * perBlock + j) past)
+                  ∙ sym (received-past agreeing soft A g bits other long′ places (r * perBlock + j) past)
             ]

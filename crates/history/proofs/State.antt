@@ -20,7 +20,7 @@ use Rattle.slots.specs.Answers.{unlessRefused}
 use Rattle.slots.specs.Calls.{withHead, sizeAtHead, shareAtHead, newOutcome, receiveNumber, receiveOutcome, receiveStore, readOutcome, streamsOutcome, closeNumber, closeOutcome}
 use Rattle.slots.proofs.RoomLaws.{length-cleared, length-received, length-withRoom}
 use Rattle.history.specs.Links.{Link, shareIn, openingNumber}
-use Rattle.history.specs.Calls.{Reception, Call, opening, receiving, reading, streaming, closing, Made, History}
+use Rattle.history.specs.Calls.{Reception, Call, opening, receiving, reading, streaming, closing, Made, History, grantOf}
 use Rattle.history.specs.Run.{World, lent, outcomeOf, storeAfterCall, step, begin, run}
 use Rattle.history.specs.Accepted.{lentLength, headsAfterCall, headsAfter}
 use Rattle.history.proofs.Links.{opening-fits, opening-outcome, opening-store}
@@ -42,7 +42,7 @@ open-writes link state store slot terminal A b e = opening-store link state slot
 abbrev pub withReception : State → ℕ → Reception → List ℕ → List ℕ
 withReception state slot x store =
     withRoom (state .blocks) slot
-    (received agreeing (shareAtHead state slot) (sizeAtHead state slot) (x .Q) (x .N) (x .version) (x .bits) (roomAt (state .blocks) slot store))
+    (received agreeing (shareAtHead state slot) (sizeAtHead state slot) (grantOf x) (x .bits) (roomAt (state .blocks) slot store))
     store
 
 pub receive-writes : (state : State) (store : List ℕ) (slot terminal : ℕ) (x : Reception) (b : Bool)
@@ -65,7 +65,7 @@ length-after state store (receiving slot terminal x) =
     go (eqb (receiveNumber state (length store) slot terminal (x .Q) (x .N) (x .version) (x .bits)) 0)
   where
     go : (b : Bool) → length (cond b (withReception state slot x store) store) ≡ length store
-    go true = length-withRoom (state .blocks) slot _ store (length-received agreeing (shareAtHead state slot) (sizeAtHead state slot) (x .Q) (x .N) (x .version) (x .bits) _)
+    go true = length-withRoom (state .blocks) slot _ store (length-received agreeing (shareAtHead state slot) (sizeAtHead state slot) (grantOf x) (x .bits) _)
     go false = refl
 length-after state store (reading slot terminal size) = refl
 length-after state store (streaming slot terminal block size) = refl

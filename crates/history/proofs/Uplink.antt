@@ -15,7 +15,8 @@ use Rattle.rate_matching.specs.Walk.{sentPlaces}
 use Rattle.rate_matching.specs.Shape.{shape}
 use Rattle.rate_matching.proofs.SoftBuffer.{uplink-whole}
 use Rattle.rate_matching.proofs.ShapeTurn.{length-shape}
-use Rattle.codeword.specs.Shares.{share}
+use Rattle.codeword.specs.declared.Grant.{Grant}
+use Rattle.codeword.specs.Shares.{granted}
 use Rattle.codeword.specs.Codeword.{blockRows, blockCut}
 use Rattle.slots.specs.Reception.{blockPlaces}
 
@@ -25,12 +26,12 @@ module _ (A : ℕ) (most : A ≤ 30576) where
   unfolding blockCut blockRows rows
   uncut r = uplink-whole (rows (sizeOf (A + 24) r + 4)) (omega (arith, size-most (A + 24) (omega arith) r))
 
-  pub whole-places : (Q N v G r : ℕ)
-      → blockPlaces wholeShare (A + 24) Q N v G r
-      ≡ sentPlaces (shape (sizeOf (A + 24) r + 4) (fillerOf (A + 24) r)) (startOf (blockRows (A + 24) r) v) (share (blocks (A + 24)) Q N G r)
+  pub whole-places : (g : Grant) (r : ℕ)
+      → blockPlaces wholeShare (A + 24) g r
+      ≡ sentPlaces (shape (sizeOf (A + 24) r + 4) (fillerOf (A + 24) r)) (startOf (blockRows (A + 24) r) (g .version)) (granted (blocks (A + 24)) g r)
   unfolding blockPlaces startOf blockRows
-  whole-places Q N v G r =
+  whole-places g r =
       rw (uncut r)
-      (ap (λ (w : List ℕ). sentPlaces w (startIn (circleLength (rows (sizeOf (A + 24) r + 4))) (rows (sizeOf (A + 24) r + 4)) v) (share (blocks (A + 24)) Q N G r))
+      (ap (λ (w : List ℕ). sentPlaces w (startIn (circleLength (rows (sizeOf (A + 24) r + 4))) (rows (sizeOf (A + 24) r + 4)) (g .version)) (granted (blocks (A + 24)) g r))
       (take-all (circleLength (rows (sizeOf (A + 24) r + 4))) (shape (sizeOf (A + 24) r + 4) (fillerOf (A + 24) r))
       (omega (arith, length-shape (sizeOf (A + 24) r + 4) (fillerOf (A + 24) r) (omega (arith, filler-within (A + 24) (omega arith) (omega arith) r))))))

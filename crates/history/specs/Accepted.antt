@@ -12,7 +12,7 @@ use Rattle.slots.specs.Room.{agreeing}
 use Rattle.slots.specs.Reception.{blockPlaces, blockValues}
 use Rattle.slots.specs.Calls.{withHead, newOutcome, receiveNumber, closeNumber}
 use Rattle.history.specs.Links.{shareIn, openingNumber}
-use Rattle.history.specs.Calls.{Reception, Call, opening, receiving, reading, streaming, closing, History}
+use Rattle.history.specs.Calls.{Reception, Call, opening, receiving, reading, streaming, closing, History, grantOf}
 
 -- the length of the store that a call is lent, where the rooms have n bytes
 unfoldable pub lentLength : State → ℕ → List ℕ → ℕ
@@ -60,8 +60,8 @@ inOrder brought (x ∷ xs) = inOrder brought xs ++ brought x
 unfoldable pub bitsFor : ℕ → ℕ → ℕ → ℕ → Reception → List ℕ
 bitsFor soft A r j x =
     arriving agreeing
-    (blockPlaces soft (A + 24) (x .Q) (x .N) (x .version) (length (x .bits)) r)
-    (blockValues (A + 24) (x .Q) (x .N) (x .bits) r)
+    (blockPlaces soft (A + 24) (grantOf x) r)
+    (blockValues (A + 24) (grantOf x) (x .bits) r)
     j
 
 -- all bits that receptions, latest first, brought for it

@@ -5,19 +5,18 @@ use mathlib.Core.Bool.{Bool, true, false, cond, _||_}
 use mathlib.Core.List.{List, [], _∷_}
 use Prim.Native.Nat.{ℕ, _+_, _-_, _≤_, _<_}
 use lib.Dec.{eqb}
-use lib.ListN.{length}
 use Rattle.segmentation.specs.Segmentation.{blocks, sizeOf, fillerOf}
 use Rattle.rate_matching.specs.Places.{placeNumber}
 use Rattle.codeword.specs.Codeword.{codewordIn}
 use Rattle.slots.specs.Reception.{blockPlaces}
 use Rattle.slots.specs.Circle.{sumFrom}
-use Rattle.history.specs.Calls.{Reception}
+use Rattle.history.specs.Calls.{Reception, grantOf}
 use Rattle.history.specs.Accepted.{arrivals}
 use Rattle.history.specs.Agreed.{decided}
 
 -- a true transmission of a block for a slot: what Build gives for it with the slot's share `soft` of the soft buffer and the reception's Q, N, version and G
 abbrev pub True : ℕ → List ℕ → Reception → Type 0
-True soft a x = x .bits ≡ codewordIn soft a (x .Q) (x .N) (x .version) (length (x .bits))
+True soft a x = x .bits ≡ codewordIn soft a (grantOf x)
 
 -- all receptions are true transmissions of the one block
 abbrev pub AllTrue : ℕ → List ℕ → List Reception → Type 0
@@ -33,7 +32,7 @@ among j (p ∷ ps) = eqb p j || among j ps
 unfoldable pub sent : ℕ → ℕ → List Reception → ℕ → ℕ → Bool
 sent soft A [] r j = false
 sent soft A (x ∷ xs) r j =
-    among j (blockPlaces soft (A + 24) (x .Q) (x .N) (x .version) (length (x .bits)) r) || sent soft A xs r j
+    among j (blockPlaces soft (A + 24) (grantOf x) r) || sent soft A xs r j
 
 -- place i of stream 0 is a data place of code block r of a block of A bits
 pub record DataPlace (A r i : ℕ) : Type 0 where
