@@ -17,10 +17,17 @@ packedLength M = M * 4632
 unfoldable pub badBlocks : ℕ → Bool
 badBlocks M = eqb M 0 || ltb 5 M
 
+-- the rules by their names: M, and a buffer of `size` bytes that must have `needed`
+abbrev pub blocksRule : ℕ → Rule
+blocksRule M = rule (badBlocks M) 13
+
+abbrev pub bytesRule : ℕ → ℕ → Rule
+bytesRule needed size = rule (ltb size needed) 5
+
 -- 13, 5 (from), 5 (to): buffers of `from` and `to` bytes that must have `needed` and `written`
 unfoldable pub changeNumber : ℕ → ℕ → ℕ → ℕ → ℕ → ℕ
 changeNumber M from to needed written =
-    firstOf (rule (badBlocks M) 13 ∷ rule (ltb from needed) 5 ∷ rule (ltb to written) 5 ∷ [])
+    firstOf (blocksRule M ∷ bytesRule needed from ∷ bytesRule written to ∷ [])
 
 -- to the packed form
 unfoldable pub packNumber : ℕ → ℕ → ℕ → ℕ
