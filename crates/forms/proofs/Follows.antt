@@ -11,12 +11,12 @@ use lib.Dec.{eqb, ltb}
 use lib.ListN.{length, take, length-map, length-take}
 use lib.Seq.{take-all}
 use borrow.Author.Tests.{eqb-true, ltb-false, lt-ltb, le-ltb}
-use Rattle.refusals.proofs.Refusals.{cleared}
+use Rattle.refusals.proofs.Refusals.{passed, listed}
 use Rattle.slots.specs.declared.State.{State}
 use Rattle.slots.specs.State.{roomLength, storeLength}
 use Rattle.slots.specs.Calls.{newOutcome, readOutput, streamsOutput}
 use Rattle.packing.specs.Packing.{inTwoBits}
-use Rattle.packing.specs.Change.{badBlocks, changeNumber}
+use Rattle.packing.specs.Change.{badBlocks, changeNumber, blocksRule, bytesRule}
 use Rattle.packing.specs.Store.{placesAByte, bytesABlock, placesIn, inForm}
 use Rattle.packing.proofs.Stores.{places-are}
 use Rattle.history.specs.Calls.{Call, Made, History}
@@ -215,8 +215,11 @@ change-follows four w v to other follows fits = go (eqb number 0) refl
       where
         told : (badBlocks M ≡ false) × (S * roomIn (not four) M ≤ length (w .rooms)) × (S * roomIn four M ≤ length to)
         told =
-            let clear = cleared _ refl (eqb-true number 0 e) tt in
-            (clear 0, ltb-false (length (w .rooms)) (S * roomIn (not four) M) (clear 1), ltb-false (length to) (S * roomIn four M) (clear 2))
+            let clear = passed _ refl (eqb-true number 0 e) tt in (
+              clear (blocksRule M) (search listed),
+              ltb-false (length (w .rooms)) (S * roomIn (not four) M) (clear (bytesRule (S * roomIn (not four) M) (length (w .rooms))) (search listed)),
+              ltb-false (length to) (S * roomIn four M) (clear (bytesRule (S * roomIn four M) (length to)) (search listed)),
+            )
 
         all : length (w .rooms) ≤ S * roomIn (not four) M
         all = rw other at (all-rooms w v follows fits)

@@ -10,7 +10,8 @@ use borrow.Author.Tests.{eqb-true}
 use Rattle.laws.specs.Bits.{AreBits}
 use Rattle.laws.proofs.AreBits.{drop-below}
 use Rattle.segmentation.specs.Segmentation.{blocks}
-use Rattle.codeword.specs.Shares.{sharesBefore}
+use Rattle.codeword.specs.declared.Grant.{Grant}
+use Rattle.codeword.specs.Shares.{grant, grantedBefore}
 use Rattle.codeword.proofs.Accepted.{given-bits}
 use Rattle.slots.specs.declared.State.{State}
 use Rattle.slots.specs.State.{perBlock, roomStart, roomLength}
@@ -44,30 +45,30 @@ puts-two (j ∷ js) bits kept h =
     ∙ sym (map-set inTwoBits kept j (meet (getD kept j 0) (getD bits 0 0))))
     ∙ puts-two js (drop 1 bits) (set kept j (meet (getD kept j 0) (getD bits 0 0))) (drop-below 2 1 bits h)
 
-blocks-two : (soft B Q N v : ℕ) (bits : List ℕ) → AreBits bits → (r n : ℕ) (room : List ℕ)
-    → putBlocks agreeing soft B Q N v bits r n (map inTwoBits room) ≡ map inTwoBits (putBlocks agreeing soft B Q N v bits r n room)
+blocks-two : (soft B : ℕ) (g : Grant) (bits : List ℕ) → AreBits bits → (r n : ℕ) (room : List ℕ)
+    → putBlocks agreeing soft B g bits r n (map inTwoBits room) ≡ map inTwoBits (putBlocks agreeing soft B g bits r n room)
 unfolding putBlocks putOn blockValues withCircle
-blocks-two soft B Q N v bits h r zero room = refl
-blocks-two soft B Q N v bits h r (suc n) room =
-    let before : ℕ = sharesBefore (blocks B) Q N (length bits) r in
-    let places : List ℕ = blockPlaces soft B Q N v (length bits) r in
+blocks-two soft B g bits h r zero room = refl
+blocks-two soft B g bits h r (suc n) room =
+    let before : ℕ = grantedBefore (blocks B) g r in
+    let places : List ℕ = blockPlaces soft B g r in
     let at : ℕ = r * perBlock in
     let circle : List ℕ = putAlong agreeing places (drop before bits) (circleAt r room) in
     let same : putAlong agreeing places (drop before bits) (circleAt r (map inTwoBits room)) ≡ map inTwoBits circle =
     ap (putAlong agreeing places (drop before bits)) (circle-two r room) ∙ puts-two places (drop before bits) (circleAt r room) (drop-below 2 before bits h) in
-    ap (putBlocks agreeing soft B Q N v bits (suc r) n)
+    ap (putBlocks agreeing soft B g bits (suc r) n)
     (ap₂ _++_ (sym (map-take inTwoBits at room)) same ∙ sym (map-append inTwoBits (take at room) circle))
-    ∙ blocks-two soft B Q N v bits h (suc r) n (take at room ++ circle)
+    ∙ blocks-two soft B g bits h (suc r) n (take at room ++ circle)
 
 -- a reception in a room of the store
-received-two : (M slot soft A Q N v : ℕ) (bits store : List ℕ) → AreBits bits
-    → withRoom M slot (received agreeing soft A Q N v bits (roomAt M slot (map inTwoBits store))) (map inTwoBits store)
-    ≡ map inTwoBits (withRoom M slot (received agreeing soft A Q N v bits (roomAt M slot store)) store)
+received-two : (M slot soft A : ℕ) (g : Grant) (bits store : List ℕ) → AreBits bits
+    → withRoom M slot (received agreeing soft A g bits (roomAt M slot (map inTwoBits store))) (map inTwoBits store)
+    ≡ map inTwoBits (withRoom M slot (received agreeing soft A g bits (roomAt M slot store)) store)
 unfolding received withRoom
-received-two M slot soft A Q N v bits store h =
+received-two M slot soft A g bits store h =
     ap₂ _++_ (sym (map-take inTwoBits (roomStart M slot) store))
-    (ap (putBlocks agreeing soft (A + 24) Q N v bits 0 (blocks (A + 24))) (room-two M slot store)
-    ∙ blocks-two soft (A + 24) Q N v bits h 0 (blocks (A + 24)) (roomAt M slot store))
+    (ap (putBlocks agreeing soft (A + 24) g bits 0 (blocks (A + 24))) (room-two M slot store)
+    ∙ blocks-two soft (A + 24) g bits h 0 (blocks (A + 24)) (roomAt M slot store))
     ∙ sym (map-append inTwoBits (take (roomStart M slot) store) _)
 
 -- by the test of the call's number: where it is accepted the new store, else the old one
@@ -91,4 +92,4 @@ module _ (state : State) (store : List ℕ) (slot : ℕ) where
   unfolding receiveStore
   receive-two terminal Q N v bits =
       either _ _ _ _ store (ap (λ (n : ℕ). receiveNumber state n slot terminal Q N v bits) (length-map store inTwoBits))
-      (λ z. received-two (state .blocks) slot (shareAtHead state slot) (sizeAtHead state slot) Q N v bits store (given-bits bits (receives state (length store) slot terminal Q N v bits z .given)))
+      (λ z. received-two (state .blocks) slot (shareAtHead state slot) (sizeAtHead state slot) (grant Q N v (length bits)) bits store (given-bits bits (receives state (length store) slot terminal Q N v bits z .given)))
