@@ -14,9 +14,8 @@ use borrow.Rule.Slice.PartMut.{putMid}
 use Rattle.laws.proofs.Writing.{Writing, start, same, pushPart}
 use Rattle.slots.specs.declared.State.{State}
 use Rattle.packing.specs.Store.{bytesABlock}
-use Rattle.refusals.specs.Refusals.{Rule, rule}
-use Rattle.refusals.proofs.Refusals.{cleared}
-use Rattle.packing.specs.Change.{badBlocks, changeNumber}
+use Rattle.refusals.proofs.Refusals.{passed, listed}
+use Rattle.packing.specs.Change.{badBlocks, blocksRule, bytesRule, changeNumber}
 use Rattle.packing.proofs.Rooms.{in-range, refused-13, refused-5, refused-5-too, accepted}
 use Rattle.forms.specs.Change.{roomIn, roomChanged, roomsChanged, roomsNumber}
 use Rattle.yard.specs.Change.{formNumber}
@@ -104,14 +103,13 @@ module _ (state : State) (plain packed : ℕ) where
       → (state .blocks ≤ 5) × ((state .slots * roomIn false (state .blocks) ≤ plain) × (state .slots * roomIn true (state .blocks) ≤ packed))
   unfolding formNumber roomsNumber changeNumber
   rooms-fit h =
-      (in-range (state .blocks) (cleared rules refl h tt 0) .1, (ltb-false plain _ (cleared rules refl h tt 1), ltb-false packed _ (cleared rules refl h tt 2)))
-    where
-      rules : List Rule
-      rules =
-          rule (badBlocks (state .blocks)) 13
-          ∷ rule (ltb plain (state .slots * roomIn false (state .blocks))) 5
-          ∷ rule (ltb packed (state .slots * roomIn true (state .blocks))) 5
-          ∷ []
+      let clear = passed _ refl h tt in (
+        in-range (state .blocks) (clear (blocksRule (state .blocks)) (search listed)) .1,
+        (
+          ltb-false plain _ (clear (bytesRule (state .slots * roomIn false (state .blocks)) plain) (search listed)),
+          ltb-false packed _ (clear (bytesRule (state .slots * roomIn true (state .blocks)) packed) (search listed)),
+        ),
+      )
 
   bad-number : badBlocks (state .blocks) ≡ true → 13 ≡ formNumber state plain packed
   unfolding formNumber roomsNumber
