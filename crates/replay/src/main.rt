@@ -19,6 +19,14 @@ struct Progress {
     going: bool,
 }
 
+// The state and the form, how many bytes of an unfinished line stand at the text's front, and how many a read brought behind them.
+struct Read {
+    state: State,
+    four: bool,
+    have: usize,
+    got: usize,
+}
+
 // The state and the form after a line, and whether its answer could be written.
 struct Told {
     state: State,
@@ -62,34 +70,83 @@ fn answer_room() -> [u8; 172804]
     [0; 172804]
 }
 
-// Before the first `new` the state is that of a refused New. A proved loop has to end, and nothing says that an input does: so it
-// counts its turns down, from a number that no run uses up.
+// Answers the log's lines, and the last one too where no newline ends it.
 fn replay_input(text: &mut [u8], plain: &mut [u8], packed: &mut [u8], out: &mut [u8])
     requires { ⌜ 200001 < length (now text) ⌝ }
 {
+    let last = replay_reads(text, plain, packed, out);
+    let state = last.state;
+    let have = last.have;
+    if have > 0 {
+        answer(state, last.four, &text[..have], plain, packed, out);
+    }
+}
+
+// Before the first `new` the state is that of a refused New. A proved loop has to end, and nothing says that an input does: so it
+// counts its turns down, from a number that no run uses up.
+fn replay_reads(text: &mut [u8], plain: &mut [u8], packed: &mut [u8], out: &mut [u8]) -> Read
+    requires { ⌜ 200001 < length (now text) ⌝ }
+    ensures { λ r. ⌜ r .have ≤ length (now (text .exit)) ⌝ }
+{
     let begun = slots::new(0, 0);
-    let mut state = begun.state;
-    let mut four = false;
-    let mut have = 0;
-    let mut got = first_read(text);
+    let state = begun.state;
+    let got = first_read(text);
+    let mut read = Read {
+        state,
+        four: false,
+        have: 0,
+        got,
+    };
     let mut turns = u64::MAX;
-    while 0 < got {
+    while 0 < read.got {
         if turns == 0 {
-            return;
+            let state = read.state;
+            return nothing_more(state, read.four);
         }
         turns -= 1;
-        let end = have + got;
-        let progress = replay_lines(state, four, &text[..end], plain, packed, out, have);
-        if !progress.going {
-            return;
-        }
-        state = progress.state;
-        four = progress.four;
-        have = keep(text, progress.next, end);
-        got = read_more(text, have);
+        read = replay_read(read, text, plain, packed, out);
     }
-    if have > 0 {
-        answer(state, four, &text[..have], plain, packed, out);
+    read
+}
+
+// Answers the whole lines of what was read, keeps the unfinished one, and reads on.
+fn replay_read(
+    read: Read,
+    text: &mut [u8],
+    plain: &mut [u8],
+    packed: &mut [u8],
+    out: &mut [u8],
+) -> Read
+    requires { ⌜ (read .have + read .got ≤ length (now text)) × (200001 < length (now text)) ⌝ }
+    ensures { λ r. ⌜ r .have + r .got ≤ length (now (text .exit)) ⌝ }
+{
+    let state = read.state;
+    let have = read.have;
+    let end = have + read.got;
+    let progress = replay_lines(state, read.four, &text[..end], plain, packed, out, have);
+    let after = progress.state;
+    if !progress.going {
+        return nothing_more(after, progress.four);
+    }
+    let kept = keep(text, progress.next, end);
+    let got = read_more(text, kept);
+    Read {
+        state: after,
+        four: progress.four,
+        have: kept,
+        got,
+    }
+}
+
+// After the last turn: no line is left, and nothing more is read.
+fn nothing_more(state: State, four: bool) -> Read
+    ensures { λ r. ⌜ (r .have ≡ 0) × (r .got ≡ 0) ⌝ }
+{
+    Read {
+        state,
+        four,
+        have: 0,
+        got: 0,
     }
 }
 

@@ -15,8 +15,9 @@ replay-line-requires c κs = search needs
 
 slice-reshare-prefix-put-out : tie.Need-slice-reshare-prefix-put-out
 slice-reshare-prefix-put-out c =
-    let args = c .before .before .before .before .before .before .before .before .before .before .before .before .before .before .before .args in
-    let made = c .before .before .before .before .before .before .before .replay-line in
+    let replay-line = c .before .before .before .before .before .before .before in
+    let args = replay-line .before .before .before .before .before .before .before .before .args in
+    let made = replay-line .replay-line in
     omega (
       arith,
       ap (λ (s : Step). s .written) (made .ensures .0),

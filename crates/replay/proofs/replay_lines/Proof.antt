@@ -17,6 +17,16 @@ Inv-loop four text plain₀ packed₀ out₀ seen after₀ form₀ next₀ end�
 abbrev μ-loop : tie.MeasureT-loop
 μ-loop four text plain₀ packed₀ out₀ seen after₀ form₀ next₀ end₀ plain packed out after form next end = length text - next
 
+-- the ways back
+abbrev at-loop : tie.After-answer Inv-loop μ-loop → tie.At-loop Inv-loop μ-loop
+at-loop c = c .before .before .before .before .before .before
+
+abbrev at-answer : tie.After-struct-known Inv-loop μ-loop → tie.After-answer Inv-loop μ-loop
+at-answer c = c .before .before .before .before .before .before .before .before
+
+abbrev at-answer-from-line-end2 : tie.After-line-end2 Inv-loop μ-loop → tie.After-answer Inv-loop μ-loop
+at-answer-from-line-end2 c = at-answer (c .before .before)
+
 -- a line ends at its start or later
 end-after : (text : List ℕ) (from : ℕ) → from ≤ lineEnd text from
 unfolding lineEnd
@@ -44,13 +54,13 @@ add-next : tie.Need-add-next Inv-loop μ-loop
 add-next c = omega arith
 
 same-length : tie.Need-same-length Inv-loop μ-loop
-same-length c = c .before .before .before .before .before .before .before .before .before .answer .kept .1 .1 .1 .0 ∙ c .before .before .before .before .before .before .before .before .before .before .before .before .before .before .before .loop .inv .2
+same-length c = at-answer (c .before) .answer .kept .1 .1 .1 .0 ∙ at-loop (at-answer (c .before)) .loop .inv .2
 
 same-length-2 : tie.Need-same-length-2 Inv-loop μ-loop
-same-length-2 c = c .before .before .before .before .before .before .before .before .before .answer .kept .1 .1 .1 .1 .0 ∙ c .before .before .before .before .before .before .before .before .before .before .before .before .before .before .before .loop .inv .3
+same-length-2 c = at-answer (c .before) .answer .kept .1 .1 .1 .1 .0 ∙ at-loop (at-answer (c .before)) .loop .inv .3
 
 same-length-3 : tie.Need-same-length-3 Inv-loop μ-loop
-same-length-3 c = c .before .before .before .before .before .before .before .before .before .answer .kept .1 .1 .1 .1 .1 .0 ∙ c .before .before .before .before .before .before .before .before .before .before .before .before .before .before .before .loop .inv .4
+same-length-3 c = at-answer (c .before) .answer .kept .1 .1 .1 .1 .1 .0 ∙ at-loop (at-answer (c .before)) .loop .inv .4
 
 returns : tie.Need-returns Inv-loop μ-loop
 returns c = omega arith
@@ -59,13 +69,13 @@ line-end-requires-2 : tie.Need-line-end-requires-2 Inv-loop μ-loop
 line-end-requires-2 c κs = tt
 
 loop-less : tie.Need-loop-less Inv-loop μ-loop
-loop-less c = omega (arith, c .before .before .before .before .before .before .before .before .before .before .before .before .before .before .before .before .loop .inv .0)
+loop-less c = omega (arith, at-loop (at-answer-from-line-end2 c) .loop .inv .0)
 
 loop-again : tie.Need-loop-again Inv-loop μ-loop
 loop-again c =
-    let inv = c .before .before .before .before .before .before .before .before .before .before .before .before .before .before .before .before .loop .inv in
-    let kept = c .before .before .before .before .before .before .before .before .before .before .answer .kept in
-    (omega (arith, c .line-end2 .ensures, end-after (now (c .before .before .before .before .before .before .before .before .before .before .before .before .before .before .before .before .before .before .before .before .before .before .args .text)) (c .before .before .before .before .before .before .before .before .before .before .before .before .before .before .before .before .loop .end + 1)), omega arith, kept .1 .1 .1 .0 ∙ inv .2, kept .1 .1 .1 .1 .0 ∙ inv .3, kept .1 .1 .1 .1 .1 .0 ∙ inv .4)
+    let inv = at-loop (at-answer-from-line-end2 c) .loop .inv in
+    let kept = at-answer-from-line-end2 c .answer .kept in
+    (omega (arith, c .line-end2 .ensures, end-after (now (at-loop (at-answer-from-line-end2 c) .before .before .before .before .before .before .args .text)) (at-loop (at-answer-from-line-end2 c) .loop .end + 1)), omega arith, kept .1 .1 .1 .0 ∙ inv .2, kept .1 .1 .1 .1 .0 ∙ inv .3, kept .1 .1 .1 .1 .1 .0 ∙ inv .4)
 
 same-length-4 : tie.Need-same-length-4 Inv-loop μ-loop
 same-length-4 c = c .before .loop .inv .2
