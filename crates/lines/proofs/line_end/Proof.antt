@@ -15,10 +15,14 @@ use borrow.Author.Needs.{needs}
 use Rattle.lines.proofs.line_end.Statement.{statement}
 use Rattle.lines.proofs.line_end.Tie as tie
 
+-- the ways back
+abbrev at-start : tie.After-shared-slice-known → tie.Start
+at-start c = c .before
+
 returns : tie.Need-returns
 unfolding lineEnd indexOf
 returns c =
-    let args = c .before .before .args in
+    let args = at-start (c .before) .args in
     let past : length (now (args .text)) ≤ args .from = omega arith in
     rw (drop-of-length-le (now (args .text)) past) (sym (add-zero (args .from)))
 
@@ -28,7 +32,7 @@ find-requires c κs = search needs
 returns-2 : tie.Need-returns-2
 unfolding lineEnd slice
 returns-2 c =
-    let args = c .before .before .before .args in
+    let args = at-start (c .before .before) .args in
     c .find .ensures .0 ∙ ap (λ (l : List ℕ). args .from + indexOf newline (drop (args .from) l)) (take-length (now (args .text)))
 
 pub line-end-spec : {M : Type 1} → statement M

@@ -11,6 +11,19 @@ use borrow.Author.Needs.{needs}
 use Rattle.lines.proofs.put_answer.Statement.{statement}
 use Rattle.lines.proofs.put_answer.Tie as tie
 
+-- the ways back
+abbrev at-start : tie.After-answer2 → tie.Start
+at-start c = c .before .before .before
+
+abbrev at-answer2 : tie.After-put-decimal → tie.After-answer2
+at-answer2 c = c .before .before .before
+
+abbrev at-put-decimal-from-put-refusal-arg : tie.After-put-refusal-arg → tie.After-put-decimal
+at-put-decimal-from-put-refusal-arg c = c .before .before .before
+
+abbrev at-put-decimal : tie.After-put-refusal → tie.After-put-decimal
+at-put-decimal c = at-put-decimal-from-put-refusal-arg (c .before)
+
 enum-known-answer : tie.Need-enum-known-answer
 enum-known-answer c = search needs
 
@@ -31,10 +44,10 @@ cast-put-refusal c = search needs
 
 put-refusal-requires : tie.Need-put-refusal-requires
 put-refusal-requires c κs =
-    let args = c .before .before .before .before .before .before .before .before .before .args in
-    let short = decimal-length (args .a) (c .before .before .before .before .before .before .before .before .before .fits .a .fits) in
-    let is-put = looked (args .at) (decimalOf (args .a)) (now (args .out)) (omega (arith, short)) (c .before .before .before .put-decimal .ensures) in
-    omega (arith, short, is-put .0, c .before .before .before .put-decimal .kept .1 .0)
+    let args = at-start (at-answer2 (at-put-decimal-from-put-refusal-arg c)) .args in
+    let short = decimal-length (args .a) (at-start (at-answer2 (at-put-decimal-from-put-refusal-arg c)) .fits .a .fits) in
+    let is-put = looked (args .at) (decimalOf (args .a)) (now (args .out)) (omega (arith, short)) (at-put-decimal-from-put-refusal-arg c .put-decimal .ensures) in
+    omega (arith, short, is-put .0, at-put-decimal-from-put-refusal-arg c .put-decimal .kept .1 .0)
 
 same-length : tie.Need-same-length
 same-length c = search needs
@@ -49,12 +62,13 @@ same-length-2 c = search needs
 returns-2 : tie.Need-returns-2
 unfolding answerFields numberOf
 returns-2 c =
-    let start = c .before .before .before .before .before .before .before .before .before .before .before .before in
+    let put-refusal = c .before .before in
+    let start = at-start (at-answer2 (at-put-decimal put-refusal)) in
     let args = start .args in
     let short = decimal-length (args .a) (start .fits .a .fits) in
-    let first-put = c .before .before .before .before .before .before .put-decimal .ensures in
-    let rest = c .before .before .put-refusal in
-    rw (c .before .before .before .before .before .before .before .before .before .answer2 .given .1)
+    let first-put = at-put-decimal put-refusal .put-decimal .ensures in
+    let rest = put-refusal .put-refusal in
+    rw (at-answer2 (at-put-decimal put-refusal) .answer2 .given .1)
     (row-put (args .at) (decimalOf (args .a)) _ (now (args .out)) (omega (arith, short)) first-put (rest .ensures) (rest .kept .1 .0))
 
 pub put-answer-spec : {M : Type 1} → statement M

@@ -43,9 +43,10 @@ same-length c = search needs
 returns-3 : tie.Need-returns-3
 unfolding putOver
 returns-3 c =
-    let args = c .before .before .before .before .before .before .before .before .args in (
+    let copy = c .before .before in
+    let args = copy .before .before .before .before .before .before .args in (
       sym (end-fits _ _ _ (omega arith)),
-      put-as (args .at) (args .at + length (now (args .given))) (now (args .out)) (all-copied (now (args .given)) _ (c .before .before .copy .ensures .1) (length-mid (args .at) (args .at + length (now (args .given))) (now (args .out)) (omega arith) ∙ omega arith)) (omega arith)
+      put-as (args .at) (args .at + length (now (args .given))) (now (args .out)) (all-copied (now (args .given)) _ (copy .copy .ensures .1) (length-mid (args .at) (args .at + length (now (args .given))) (now (args .out)) (omega arith) ∙ omega arith)) (omega arith)
           ∙ sym (put-fits _ _ _ (omega arith)),
     )
 

@@ -23,9 +23,11 @@ same-length c = search needs
 
 returns : tie.Need-returns
 returns c =
-    let args = c .before .before .before .before .before .before .before .before .args in
-    let digits-are = c .before .before .before .before .before .decimal .ensures in
-    rw (digits-are .1 .1 ∙ decimal-is (args .n) _ (digits-are .1 .0)) at (c .before .before .put-bytes .ensures)
+    let put-bytes = c .before .before in
+    let decimal = put-bytes .before .before .before in
+    let args = decimal .before .before .before .args in
+    let digits-are = decimal .decimal .ensures in
+    rw (digits-are .1 .1 ∙ decimal-is (args .n) _ (digits-are .1 .0)) at (put-bytes .put-bytes .ensures)
 
 pub put-decimal-spec : {M : Type 1} → statement M
 put-decimal-spec =

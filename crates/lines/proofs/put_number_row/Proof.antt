@@ -8,9 +8,13 @@ use borrow.Author.Needs.{needs}
 use Rattle.lines.proofs.put_number_row.Statement.{statement}
 use Rattle.lines.proofs.put_number_row.Tie as tie
 
+-- the ways back
+abbrev at-start : tie.After-slice-known → tie.Start
+at-start c = c .before .before
+
 returns : tie.Need-returns
 returns c =
-    let args = c .before .before .before .args in
+    let args = at-start (c .before) .args in
     let none = row-none (args .at) (now (args .numbers)) (now (args .out)) (omega arith) in
     (sym (none .0), sym (none .1))
 
@@ -19,7 +23,7 @@ sub-if2 c = search needs
 
 returns-2 : tie.Need-returns-2
 returns-2 c =
-    let args = c .before .before .before .before .args in
+    let args = at-start (c .before .before) .args in
     let none = row-none (args .at) (now (args .numbers)) (now (args .out)) (omega arith) in
     (sym (none .0), sym (none .1))
 
@@ -31,8 +35,9 @@ same-length c = search needs
 
 returns-3 : tie.Need-returns-3
 returns-3 c =
-    let args = c .before .before .before .before .before .before .before .before .args in
-    let put = c .before .before .put-numbers .ensures in
+    let put-numbers = c .before .before in
+    let args = at-start (put-numbers .before .before .before .before) .args in
+    let put = put-numbers .put-numbers .ensures in
     let all = row-fits (args .at) (now (args .numbers)) (now (args .out)) (omega arith) in
     (put .0 ∙ sym (all .0), put .1 ∙ sym (all .1))
 

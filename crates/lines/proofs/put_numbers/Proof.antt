@@ -13,6 +13,16 @@ Inv-loop numbers out₀ at end₀ i₀ out end i = Numbers numbers at out₀ out
 abbrev μ-loop : tie.MeasureT-loop
 μ-loop numbers out₀ at end₀ i₀ out end i = length numbers - i
 
+-- the ways back
+abbrev at-loop : tie.After-shared-slice-known2 Inv-loop μ-loop → tie.At-loop Inv-loop μ-loop
+at-loop c = c .before .before
+
+abbrev at-shared-slice-known2 : tie.After-put-decimal Inv-loop μ-loop → tie.After-shared-slice-known2 Inv-loop μ-loop
+at-shared-slice-known2 c = c .before .before
+
+abbrev at-put-decimal : tie.After-field-end Inv-loop μ-loop → tie.After-put-decimal Inv-loop μ-loop
+at-put-decimal c = c .before .before .before
+
 loop-holds : tie.Need-loop-holds Inv-loop μ-loop
 loop-holds c = start _ _ _ (omega arith)
 
@@ -32,26 +42,26 @@ field-end-requires : tie.Need-field-end-requires Inv-loop μ-loop
 field-end-requires c κs = tt
 
 -- the place of the tab or the newline
-in-out : (c : tie.After-field-end Inv-loop μ-loop) → c .before .before .before .put-decimal .result < length (c .before .before .before .put-decimal .last .1 .0)
+in-out : (c : tie.After-field-end Inv-loop μ-loop) → at-put-decimal c .put-decimal .result < length (at-put-decimal c .put-decimal .last .1 .0)
 in-out c =
-    let head = c .before .before .before .before .before .before .before .loop in
-    let small = c .before .before .before .before .before .shared-slice-known2 .given (head .i) in
-    inside (head .inv) (omega arith) (small .fits) (c .before .before .before .put-decimal .ensures)
+    let head = at-loop (at-shared-slice-known2 (at-put-decimal c)) .loop in
+    let small = at-shared-slice-known2 (at-put-decimal c) .shared-slice-known2 .given (head .i) in
+    inside (head .inv) (omega arith) (small .fits) (at-put-decimal c .put-decimal .ensures)
 
 slice-write-out : tie.Need-slice-write-out Inv-loop μ-loop
 slice-write-out c = in-out c
 
 add-end : tie.Need-add-end Inv-loop μ-loop
-add-end c = omega (arith, in-out c, c .before .before .before .put-decimal .kept .1 .0)
+add-end c = omega (arith, in-out c, at-put-decimal c .put-decimal .kept .1 .0)
 
 loop-less : tie.Need-loop-less Inv-loop μ-loop
 loop-less c = omega arith
 
 loop-again : tie.Need-loop-again Inv-loop μ-loop
 loop-again c =
-    let head = c .before .before .before .before .before .before .before .loop in
-    let small = c .before .before .before .before .before .shared-slice-known2 .given (head .i) in
-    next (head .inv) (omega arith) (small .fits) (c .before .before .before .put-decimal .ensures) (c .field-end .ensures)
+    let head = at-loop (at-shared-slice-known2 (at-put-decimal c)) .loop in
+    let small = at-shared-slice-known2 (at-put-decimal c) .shared-slice-known2 .given (head .i) in
+    next (head .inv) (omega arith) (small .fits) (at-put-decimal c .put-decimal .ensures) (c .field-end .ensures)
 
 same-length : tie.Need-same-length Inv-loop μ-loop
 same-length c = c .before .loop .inv .writing .long

@@ -27,10 +27,13 @@ same-length c = search needs
 
 returns : tie.Need-returns
 returns c =
-    let start = c .before .before .before .before .before .before .before .before .before .before .before .before .before .before .before in
-    let word-put = c .before .before .before .before .before .before .before .before .before .before .before .put-bytes .ensures in
-    let number-put = c .before .before .before .before .before .before .before .put-decimal .ensures in
-    refusal-put (start .args .at) (start .args .no) (now (start .args .out)) (start .fits .no .fits) (omega arith) word-put number-put (c .before .before .put-bytes2 .ensures)
+    let put-bytes2 = c .before .before in
+    let put-decimal = put-bytes2 .before .before .before .before .before in
+    let put-bytes = put-decimal .before .before .before .before in
+    let start = put-bytes .before .before .before .before in
+    let word-put = put-bytes .put-bytes .ensures in
+    let number-put = put-decimal .put-decimal .ensures in
+    refusal-put (start .args .at) (start .args .no) (now (start .args .out)) (start .fits .no .fits) (omega arith) word-put number-put (put-bytes2 .put-bytes2 .ensures)
 
 pub put-refusal-spec : {M : Type 1} → statement M
 put-refusal-spec =

@@ -13,6 +13,10 @@ Inv-loop line n₀ i₀ n i = Reading line n i
 abbrev μ-loop : tie.MeasureT-loop
 μ-loop line n₀ i₀ n i = length line - i
 
+-- the ways back
+abbrev at-loop : tie.After-shared-slice-known Inv-loop μ-loop → tie.At-loop Inv-loop μ-loop
+at-loop c = c .before .before
+
 loop-holds : tie.Need-loop-holds Inv-loop μ-loop
 loop-holds c = start _
 
@@ -20,13 +24,13 @@ shared-slice-read-digit : tie.Need-shared-slice-read-digit Inv-loop μ-loop
 shared-slice-read-digit c = omega arith
 
 returns : tie.Need-returns Inv-loop μ-loop
-returns c = low (c .before .before .before .loop .inv) (omega arith) (c .if1 .taken)
+returns c = low (at-loop (c .before) .loop .inv) (omega arith) (c .if1 .taken)
 
 returns-2 : tie.Need-returns-2 Inv-loop μ-loop
-returns-2 c = high (c .before .before .before .before .loop .inv) (omega arith) (omega arith) (c .if2 .taken)
+returns-2 c = high (at-loop (c .before .before) .loop .inv) (omega arith) (omega arith) (c .if2 .taken)
 
-less : (c : tie.Else2 Inv-loop μ-loop) → c .before .before .before .before .loop .n < 10 ^ 18
-less c = held _ _ _ (c .before .before .before .before .loop .inv) (omega arith) (omega arith)
+less : (c : tie.Else2 Inv-loop μ-loop) → at-loop (c .before .before) .loop .n < 10 ^ 18
+less c = held _ _ _ (at-loop (c .before .before) .loop .inv) (omega arith) (omega arith)
 
 mul-n : tie.Need-mul-n Inv-loop μ-loop
 mul-n c = omega (arith, less c)
@@ -44,7 +48,7 @@ loop-less : tie.Need-loop-less Inv-loop μ-loop
 loop-less c = omega arith
 
 loop-again : tie.Need-loop-again Inv-loop μ-loop
-loop-again c = next (c .before .before .before .before .loop .inv) (omega arith) (omega arith) (omega arith)
+loop-again c = next (at-loop (c .before .before) .loop .inv) (omega arith) (omega arith) (omega arith)
 
 returns-3 : tie.Need-returns-3 Inv-loop μ-loop
 returns-3 c = finish (c .before .loop .inv) (omega arith)

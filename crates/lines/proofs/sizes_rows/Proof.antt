@@ -15,6 +15,16 @@ Inv-loop text from out₀ next₀ written₀ out next written = Answering text f
 abbrev μ-loop : tie.MeasureT-loop
 μ-loop text from out₀ next₀ written₀ out next written = length text - next
 
+-- the ways back
+abbrev at-line-end : tie.After-put-row Inv-loop μ-loop → tie.After-line-end Inv-loop μ-loop
+at-line-end c = c .before .before .before
+
+abbrev at-put-row-from-line-next-requires : tie.After-slice-known2 Inv-loop μ-loop → tie.After-put-row Inv-loop μ-loop
+at-put-row-from-line-next-requires c = c .before .before
+
+abbrev at-put-row : tie.After-line-next Inv-loop μ-loop → tie.After-put-row Inv-loop μ-loop
+at-put-row c = at-put-row-from-line-next-requires (c .before)
+
 loop-holds : tie.Need-loop-holds Inv-loop μ-loop
 loop-holds c = start _ _ _
 
@@ -44,16 +54,16 @@ put-row-requires : tie.Need-put-row-requires Inv-loop μ-loop
 put-row-requires c κs = omega arith
 
 line-next-requires : tie.Need-line-next-requires Inv-loop μ-loop
-line-next-requires c κs = ended (c .before .before .before .before .before)
+line-next-requires c κs = ended (at-line-end (at-put-row-from-line-next-requires c))
 
 loop-less : tie.Need-loop-less Inv-loop μ-loop
-loop-less c = omega (arith, c .line-next .ensures, started (c .before .before .before .before .before .before), ended (c .before .before .before .before .before .before))
+loop-less c = omega (arith, c .line-next .ensures, started (at-line-end (at-put-row c)), ended (at-line-end (at-put-row c)))
 
 loop-again : tie.Need-loop-again Inv-loop μ-loop
 loop-again c =
-    let inv = c .before .before .before .before .before .before .before .before .before .loop .inv in
-    let end = c .before .before .before .before .before .before .line-end .ensures in
-    let row = c .before .before .before .put-row in
+    let inv = at-line-end (at-put-row c) .before .before .before .loop .inv in
+    let end = at-line-end (at-put-row c) .line-end .ensures in
+    let row = at-put-row c .put-row in
     turn _ inv (omega arith) (omega arith) end (c .line-next .ensures) (row .ensures) (row .kept .1 .0)
 
 same-length : tie.Need-same-length Inv-loop μ-loop
