@@ -9,6 +9,13 @@ use Rattle.requests.proofs.WordLaws.{word-short}
 use Rattle.requests.proofs.asked_for.Statement.{statement}
 use Rattle.requests.proofs.asked_for.Tie as tie
 
+-- the ways back
+abbrev at-form-of : tie.After-well-formed → tie.After-form-of
+at-form-of c = c .before
+
+abbrev at-else1 : tie.After-struct-known → tie.Else1
+at-else1 c = c .before
+
 form-of-requires : tie.Need-form-of-requires
 form-of-requires c κs = search needs
 
@@ -20,11 +27,12 @@ bare-requires c κs = search needs
 
 returns : tie.Need-returns
 returns c =
-    let wrong = sym (c .before .before .well-formed .ensures) ∙ not-true _ (c .before .if1 .taken) in
-    c .bare .ensures ∙ not-asked _ _ (c .before .before .before .form-of .ensures) wrong
+    let then1 = c .before in
+    let wrong = sym (then1 .before .well-formed .ensures) ∙ not-true _ (then1 .if1 .taken) in
+    c .bare .ensures ∙ not-asked _ _ (at-form-of (then1 .before) .form-of .ensures) wrong
 
 add-word : tie.Need-add-word
-add-word c = omega (arith, few _ (c .before .before .before .form-of .ensures))
+add-word c = omega (arith, few _ (at-form-of (at-else1 c .before) .form-of .ensures))
 
 word-requires : tie.Need-word-requires
 word-requires c κs = search needs
@@ -37,8 +45,10 @@ fields-requires c κs = search needs
 
 returns-2 : tie.Need-returns-2
 returns-2 c =
-    let right = sym (c .before .before .before .before .well-formed .ensures) ∙ not-false _ (c .before .before .before .if1 .left) in
-    asked _ _ (c .before .before .before .before .before .form-of .ensures) right (c .fields .ensures) (c .before .word .ensures)
+    let word = c .before in
+    let at-struct-known = word .before in
+    let right = sym (at-else1 at-struct-known .before .well-formed .ensures) ∙ not-false _ (at-else1 at-struct-known .if1 .left) in
+    asked _ _ (at-form-of (at-else1 at-struct-known .before) .form-of .ensures) right (c .fields .ensures) (word .word .ensures)
 
 pub asked-for-spec : {M : Type 1} → statement M
 asked-for-spec =

@@ -7,6 +7,13 @@ use Rattle.requests.specs.Numbers.{valueOf, numberAt}
 use Rattle.requests.proofs.number_at.Statement.{statement}
 use Rattle.requests.proofs.number_at.Tie as tie
 
+-- the ways back
+abbrev at-word : tie.After-digits-at → tie.After-word
+at-word c = c .before
+
+abbrev at-digits-at : tie.After-read-number → tie.After-digits-at
+at-digits-at c = c .before
+
 word-requires : tie.Need-word-requires
 word-requires c κs = search needs
 
@@ -25,13 +32,14 @@ enum-told c = search needs
 returns : tie.Need-returns
 unfolding numberAt valueOf
 returns c =
-    let read = c .before .before .before .read-number .ensures ∙ ap₂ lineOf (c .before .before .before .before .digits-at .ensures) (c .before .before .before .before .before .word .ensures) in
-    ap valueOf (sym (c .before .n .given .1) ∙ read)
+    let n = c .before in
+    let read = n .before .before .read-number .ensures ∙ ap₂ lineOf (at-digits-at (n .before .before) .digits-at .ensures) (at-word (at-digits-at (n .before .before)) .word .ensures) in
+    ap valueOf (sym (n .n .given .1) ∙ read)
 
 returns-2 : tie.Need-returns-2
 unfolding numberAt valueOf
 returns-2 c =
-    let read = c .before .before .read-number .ensures ∙ ap₂ lineOf (c .before .before .before .digits-at .ensures) (c .before .before .before .before .word .ensures) in
+    let read = c .before .before .read-number .ensures ∙ ap₂ lineOf (at-digits-at (c .before .before) .digits-at .ensures) (at-word (at-digits-at (c .before .before)) .word .ensures) in
     ap valueOf (sym (c .enum-told .given .1) ∙ read)
 
 pub number-at-spec : {M : Type 1} → statement M

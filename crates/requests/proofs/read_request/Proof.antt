@@ -25,8 +25,9 @@ bare-requires-2 c κs = search needs
 returns-2 : tie.Need-returns-2
 unfolding requestOf
 returns-2 c =
-    let loud = sym (c .before .before .before .is-silent .ensures) ∙ c .before .before .if1 .left in
-    simp (loud, lt-ltb _ _ (c .before .if2 .taken)) (c .bare2 .ensures)
+    let then2 = c .before in
+    let loud = sym (then2 .before .before .is-silent .ensures) ∙ then2 .before .if1 .left in
+    simp (loud, lt-ltb _ _ (then2 .if2 .taken)) (c .bare2 .ensures)
 
 word-requires : tie.Need-word-requires
 word-requires c κs = search needs
@@ -40,10 +41,13 @@ asked-for-requires c κs = search needs
 returns-3 : tie.Need-returns-3
 unfolding requestOf
 returns-3 c =
-    let line = now (c .before .before .before .before .before .before .before .args .line) in
-    let loud = sym (c .before .before .before .before .before .is-silent .ensures) ∙ c .before .before .before .before .if1 .left in
-    simp (loud, le-ltb _ _ (c .before .before .before .if2 .left))
-    (c .asked-for .ensures ∙ ap (askedFor line) (c .before .verb-of .ensures ∙ ap verbOf (c .before .before .word .ensures)))
+    let verb-of = c .before in
+    let word = verb-of .before in
+    let else2 = word .before in
+    let line = now (else2 .before .before .before .before .args .line) in
+    let loud = sym (else2 .before .before .is-silent .ensures) ∙ else2 .before .if1 .left in
+    simp (loud, le-ltb _ _ (else2 .if2 .left))
+    (c .asked-for .ensures ∙ ap (askedFor line) (verb-of .verb-of .ensures ∙ ap verbOf (word .word .ensures)))
 
 pub read-request-spec : {M : Type 1} → statement M
 read-request-spec =

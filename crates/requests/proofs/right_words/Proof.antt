@@ -11,6 +11,16 @@ use Rattle.requests.proofs.WordLaws.{byte-le}
 use Rattle.requests.proofs.right_words.Statement.{statement}
 use Rattle.requests.proofs.right_words.Tie as tie
 
+-- the ways back
+abbrev at-start : tie.After-word-count → tie.Start
+at-start c = c .before .before
+
+abbrev at-word-count-from-cast-if1 : tie.After-struct-known2 → tie.After-word-count
+at-word-count-from-cast-if1 c = c .before .before
+
+abbrev at-word-count : tie.Then1 → tie.After-word-count
+at-word-count c = at-word-count-from-cast-if1 (c .before)
+
 word-count-requires : tie.Need-word-count-requires
 word-count-requires c κs = search needs
 
@@ -21,7 +31,7 @@ cast-if1 : tie.Need-cast-if1
 cast-if1 c = search needs
 
 add-if1-2 : tie.Need-add-if1-2
-add-if1-2 c = omega (arith, byte-le (c .before .before .before .before .args .form .bits))
+add-if1-2 c = omega (arith, byte-le (at-start (at-word-count-from-cast-if1 c) .args .form .bits))
 
 said-from-requires : tie.Need-said-from-requires
 said-from-requires c κs = search needs
@@ -29,15 +39,16 @@ said-from-requires c κs = search needs
 returns : tie.Need-returns
 unfolding rightWords
 returns c =
-    let args = c .before .before .before .before .before .before .args in
-    let as-many = sym (counted (args .form .numbers) (args .form .bits) (now (args .line)) (c .before .before .before .before .word-count .ensures)) in
-    simp (as-many ∙ eq-eqb _ _ (c .before .if1 .taken)) (c .said-from .ensures)
+    let then1 = c .before in
+    let args = at-start (at-word-count then1) .args in
+    let as-many = sym (counted (args .form .numbers) (args .form .bits) (now (args .line)) (at-word-count then1 .word-count .ensures)) in
+    simp (as-many ∙ eq-eqb _ _ (then1 .if1 .taken)) (c .said-from .ensures)
 
 returns-2 : tie.Need-returns-2
 unfolding rightWords
 returns-2 c =
-    let args = c .before .before .before .before .before .args in
-    let as-many = sym (counted (args .form .numbers) (args .form .bits) (now (args .line)) (c .before .before .before .word-count .ensures)) in
+    let args = at-start (at-word-count-from-cast-if1 (c .before)) .args in
+    let as-many = sym (counted (args .form .numbers) (args .form .bits) (now (args .line)) (at-word-count-from-cast-if1 (c .before) .word-count .ensures)) in
     simp (as-many, ne-eqb _ _ (c .if1 .left))
 
 pub right-words-spec : {M : Type 1} → statement M

@@ -14,6 +14,10 @@ Inv-loop line form i n at₀ end at = Saying line form i n at
 abbrev μ-loop : tie.MeasureT-loop
 μ-loop line form i n at₀ end at = end - at
 
+-- the ways back
+abbrev at-loop : tie.After-says-number Inv-loop μ-loop → tie.At-loop Inv-loop μ-loop
+at-loop c = c .before .before
+
 add-end : tie.Need-add-end Inv-loop μ-loop
 add-end c = omega arith
 
@@ -24,7 +28,7 @@ says-number-requires : tie.Need-says-number-requires Inv-loop μ-loop
 says-number-requires c κs = tt
 
 returns : tie.Need-returns Inv-loop μ-loop
-returns c = unsaid (c .before .before .before .loop .inv) (omega arith) (sym (c .before .says-number .ensures) ∙ not-true _ (c .if1 .taken))
+returns c = unsaid (at-loop (c .before) .loop .inv) (omega arith) (sym (c .before .says-number .ensures) ∙ not-true _ (c .if1 .taken))
 
 add-at : tie.Need-add-at Inv-loop μ-loop
 add-at c = omega arith
@@ -33,7 +37,7 @@ loop-less : tie.Need-loop-less Inv-loop μ-loop
 loop-less c = omega arith
 
 loop-again : tie.Need-loop-again Inv-loop μ-loop
-loop-again c = next (c .before .before .before .loop .inv) (omega arith) (sym (c .before .says-number .ensures) ∙ not-false _ (c .if1 .left))
+loop-again c = next (at-loop (c .before) .loop .inv) (omega arith) (sym (c .before .says-number .ensures) ∙ not-false _ (c .if1 .left))
 
 returns-2 : tie.Need-returns-2 Inv-loop μ-loop
 returns-2 c = finish (c .before .loop .inv) (omega arith)

@@ -7,6 +7,13 @@ use Rattle.requests.specs.Numbers.{isNumber, saysNumber}
 use Rattle.requests.proofs.says_number.Statement.{statement}
 use Rattle.requests.proofs.says_number.Tie as tie
 
+-- the ways back
+abbrev at-word : tie.After-digits-at → tie.After-word
+at-word c = c .before
+
+abbrev at-digits-at : tie.After-read-number → tie.After-digits-at
+at-digits-at c = c .before
+
 word-requires : tie.Need-word-requires
 word-requires c κs = search needs
 
@@ -25,13 +32,13 @@ enum-told-2 c = search needs
 returns : tie.Need-returns
 unfolding saysNumber isNumber
 returns c =
-    let read = c .before .before .read-number .ensures ∙ ap₂ lineOf (c .before .before .before .digits-at .ensures) (c .before .before .before .before .word .ensures) in
+    let read = c .before .before .read-number .ensures ∙ ap₂ lineOf (at-digits-at (c .before .before) .digits-at .ensures) (at-word (at-digits-at (c .before .before)) .word .ensures) in
     ap isNumber (sym (c .enum-told .given .1) ∙ read)
 
 returns-2 : tie.Need-returns-2
 unfolding saysNumber isNumber
 returns-2 c =
-    let read = c .before .before .read-number .ensures ∙ ap₂ lineOf (c .before .before .before .digits-at .ensures) (c .before .before .before .before .word .ensures) in
+    let read = c .before .before .read-number .ensures ∙ ap₂ lineOf (at-digits-at (c .before .before) .digits-at .ensures) (at-word (at-digits-at (c .before .before)) .word .ensures) in
     ap isNumber (sym (c .enum-told2 .given .1) ∙ read)
 
 pub says-number-spec : {M : Type 1} → statement M

@@ -32,11 +32,13 @@ named-requires-4 c κs = search needs
 returns : tie.Need-returns
 unfolding stateless
 returns c =
+    let named3 = c .before .before in
+    let named2 = named3 .before .before in
     simp (
       c .named4 .ensures,
-      c .before .before .named3 .ensures,
-      c .before .before .before .before .named2 .ensures,
-      c .before .before .before .before .before .before .named .ensures,
+      named3 .named3 .ensures,
+      named2 .named2 .ensures,
+      named2 .before .before .named .ensures,
     )
 
 pub stateless-spec : {M : Type 1} → statement M

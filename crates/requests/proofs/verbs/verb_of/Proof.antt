@@ -65,17 +65,25 @@ named-requires-9 c κs = search needs
 returns : tie.Need-returns
 unfolding verbOf
 returns c =
+    let named8 = c .before .before in
+    let named7 = named8 .before .before in
+    let named6 = named7 .before .before in
+    let named5 = named6 .before .before in
+    let named4 = named5 .before .before in
+    let named3 = named4 .before .before in
+    let named2 = named3 .before .before in
+    let named = named2 .before .before in
     simp (
       c .named9 .ensures,
-      c .before .before .named8 .ensures,
-      c .before .before .before .before .named7 .ensures,
-      c .before .before .before .before .before .before .named6 .ensures,
-      c .before .before .before .before .before .before .before .before .named5 .ensures,
-      c .before .before .before .before .before .before .before .before .before .before .named4 .ensures,
-      c .before .before .before .before .before .before .before .before .before .before .before .before .named3 .ensures,
-      c .before .before .before .before .before .before .before .before .before .before .before .before .before .before .named2 .ensures,
-      c .before .before .before .before .before .before .before .before .before .before .before .before .before .before .before .before .named .ensures,
-      c .before .before .before .before .before .before .before .before .before .before .before .before .before .before .before .before .before .stateless .ensures,
+      named8 .named8 .ensures,
+      named7 .named7 .ensures,
+      named6 .named6 .ensures,
+      named5 .named5 .ensures,
+      named4 .named4 .ensures,
+      named3 .named3 .ensures,
+      named2 .named2 .ensures,
+      named .named .ensures,
+      named .before .stateless .ensures,
     )
 
 pub verb-of-spec : {M : Type 1} → statement M

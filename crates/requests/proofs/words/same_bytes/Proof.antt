@@ -13,6 +13,10 @@ Inv-loop given name i₀ i = Comparing given name i
 abbrev μ-loop : tie.MeasureT-loop
 μ-loop given name i₀ i = length name - i
 
+-- the ways back
+abbrev at-loop : tie.After-shared-slice-known2 Inv-loop μ-loop → tie.At-loop Inv-loop μ-loop
+at-loop c = c .before .before .before
+
 returns : tie.Need-returns Inv-loop μ-loop
 returns c = lengths-differ _ _ (c .if1 .taken)
 
@@ -26,7 +30,7 @@ shared-slice-read-if2-2 : tie.Need-shared-slice-read-if2-2 Inv-loop μ-loop
 shared-slice-read-if2-2 c = omega arith
 
 returns-2 : tie.Need-returns-2 Inv-loop μ-loop
-returns-2 c = differ (omega arith) (c .before .before .before .before .loop .inv) (omega arith) (c .if2 .taken)
+returns-2 c = differ (omega arith) (at-loop (c .before) .loop .inv) (omega arith) (c .if2 .taken)
 
 add-i : tie.Need-add-i Inv-loop μ-loop
 add-i c = omega arith
@@ -35,7 +39,7 @@ loop-less : tie.Need-loop-less Inv-loop μ-loop
 loop-less c = omega arith
 
 loop-again : tie.Need-loop-again Inv-loop μ-loop
-loop-again c = next (omega arith) (c .before .before .before .before .loop .inv) (omega arith) (c .if2 .left)
+loop-again c = next (omega arith) (at-loop (c .before) .loop .inv) (omega arith) (c .if2 .left)
 
 returns-3 : tie.Need-returns-3 Inv-loop μ-loop
 returns-3 c = finish (omega arith) (c .before .loop .inv) (omega arith)

@@ -36,10 +36,12 @@ part-result-end c = search needs
 
 returns-2 : tie.Need-returns-2
 returns-2 c =
-    let from = c .before .before .before .word-start .result in
-    let line = now (c .before .before .before .before .before .args .line) in
-    ap (λ (k : ℕ). take (k - from) (drop from line)) (c .before .word-end .ensures .0)
-    ∙ sym (c .before .before .before .word-start .ensures ∙ first-within line from (omega arith))
+    let word-end = c .before in
+    let word-start = word-end .before .before in
+    let from = word-start .word-start .result in
+    let line = now (word-start .before .before .args .line) in
+    ap (λ (k : ℕ). take (k - from) (drop from line)) (word-end .word-end .ensures .0)
+    ∙ sym (word-start .word-start .ensures ∙ first-within line from (omega arith))
 
 pub word-spec : {M : Type 1} → statement M
 word-spec =

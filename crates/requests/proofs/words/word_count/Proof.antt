@@ -16,6 +16,10 @@ Inv-loop line n₀ i₀ n i = Counting line n i
 abbrev μ-loop : tie.MeasureT-loop
 μ-loop line n₀ i₀ n i = length line - i
 
+-- the ways back
+abbrev at-loop : tie.After-shared-slice-known Inv-loop μ-loop → tie.At-loop Inv-loop μ-loop
+at-loop c = c .before .before
+
 loop-holds : tie.Need-loop-holds Inv-loop μ-loop
 loop-holds c = start _
 
@@ -26,7 +30,7 @@ cast-n : tie.Need-cast-n Inv-loop μ-loop
 cast-n c = tt
 
 add-n : tie.Need-add-n Inv-loop μ-loop
-add-n c = omega (arith, byte-le (eqb (getD (now (c .before .before .before .args .line)) (c .before .before .loop .i) 0) blank))
+add-n c = omega (arith, byte-le (eqb (getD (now (at-loop c .before .args .line)) (at-loop c .loop .i) 0) blank))
 
 add-i : tie.Need-add-i Inv-loop μ-loop
 add-i c = omega arith
@@ -35,7 +39,7 @@ loop-less : tie.Need-loop-less Inv-loop μ-loop
 loop-less c = omega arith
 
 loop-again : tie.Need-loop-again Inv-loop μ-loop
-loop-again c = next (c .before .before .loop .inv) (omega arith)
+loop-again c = next (at-loop c .loop .inv) (omega arith)
 
 returns : tie.Need-returns Inv-loop μ-loop
 returns c = finish (c .before .loop .inv) (omega arith)
