@@ -14,9 +14,13 @@ use borrow.Author.Needs.{needs}
 use Rattle.answers.proofs.put_run.Statement.{statement}
 use Rattle.answers.proofs.put_run.Tie as tie
 
+-- the ways back
+abbrev at-start : tie.After-slice-known → tie.Start
+at-start c = c .before .before
+
 returns : tie.Need-returns
 returns c =
-    let args = c .before .before .before .args in
+    let args = at-start (c .before) .args in
     let short : length (now (args .out)) < 0 + length (runRow (now (args .bits))) = omega (arith, run-length (now (args .bits))) in
     (sym (end-none _ _ _ short), sym (put-none _ _ _ short))
 
@@ -25,7 +29,7 @@ sub-if2 c = search needs
 
 returns-2 : tie.Need-returns-2
 returns-2 c =
-    let args = c .before .before .before .before .args in
+    let args = at-start (c .before .before) .args in
     let short : length (now (args .out)) < 0 + length (runRow (now (args .bits))) = omega (arith, run-length (now (args .bits))) in
     (sym (end-none _ _ _ short), sym (put-none _ _ _ short))
 
@@ -53,7 +57,7 @@ returns-3 c =
     let end = c .before .before in
     let digits = end .before .before .before .before .before in
     let word = digits .before .before .before .before in
-    let args = word .before .before .before .before .before .before .before .args in
+    let args = at-start (word .before .before .before .before .before) .args in
     let whole = begin (runRow (now (args .bits))) (now (args .out)) (omega (arith, run-length (now (args .bits)))) in
     row-put (piece (newline ∷ []) (end .put-bytes2 .ensures) (piece (digitsOf (now (args .bits))) (digits .put-digits .ensures) (piece (ok ++ (tab ∷ [])) (word .put-bytes .ensures) whole)))
 

@@ -15,12 +15,19 @@ use borrow.Author.Needs.{needs}
 use Rattle.answers.proofs.put_runs.Statement.{statement}
 use Rattle.answers.proofs.put_runs.Tie as tie
 
+-- the ways back
+abbrev at-start : tie.After-is-room → tie.Start
+at-start c = c .before .before .before .before .before
+
+abbrev at-else1 : tie.After-put-bytes → tie.Else1
+at-else1 c = c .before .before .before
+
 is-room-requires : tie.Need-is-room-requires
 is-room-requires c κs = search needs
 
 returns : tie.Need-returns
 returns c =
-    let args = c .before .before .before .before .before .before .args in
+    let args = at-start (c .before) .args in
     let first = now (args .first) in
     let second = now (args .second) in
     let third = now (args .third) in
@@ -74,12 +81,12 @@ returns-2 c =
     let tab1 = second .before .before .before .before in
     let first = tab1 .before .before .before .before .before in
     let word = first .before .before .before .before in
-    let asked = word .before .before .before .before in
-    let args = asked .before .before .before .before .before .args in
+    let asked = at-else1 word .before in
+    let args = at-start asked .args in
     let a = now (args .first) in
     let b = now (args .second) in
     let d = now (args .third) in
-    let room : 6 + length a + length b + length d ≤ length (now (args .out)) = leb-true _ _ (sym (asked .is-room .ensures) ∙ not-false _ (word .before .before .before .if1 .left)) in
+    let room : 6 + length a + length b + length d ≤ length (now (args .out)) = leb-true _ _ (sym (asked .is-room .ensures) ∙ not-false _ (at-else1 word .if1 .left)) in
     let whole = begin (runsRow a b d) (now (args .out)) (omega (arith, runs-length a b d)) in
     row-put
     (piece (newline ∷ []) (end .put-bytes4 .ensures)

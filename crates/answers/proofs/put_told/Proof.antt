@@ -8,6 +8,19 @@ use borrow.Author.Needs.{needs}
 use Rattle.answers.proofs.put_told.Statement.{statement}
 use Rattle.answers.proofs.put_told.Tie as tie
 
+-- the ways back
+abbrev at-start : tie.After-put-bytes → tie.Start
+at-start c = c .before .before .before .before .before
+
+abbrev at-put-bytes : tie.After-put-number-row → tie.After-put-bytes
+at-put-bytes c = c .before .before .before
+
+abbrev at-put-number-row : tie.After-row4 → tie.After-put-number-row
+at-put-number-row c = c .before
+
+abbrev at-row4 : tie.After-row5 → tie.After-row4
+at-row4 c = c .before
+
 slice-aggregate-put-bytes : tie.Need-slice-aggregate-put-bytes
 slice-aggregate-put-bytes c = search needs
 
@@ -22,14 +35,14 @@ put-number-row-requires c κs = search needs
 
 array-share-prefix-row : tie.Need-array-share-prefix-row
 array-share-prefix-row c =
-    let word = c .before .before .before .before in
-    let args = word .before .before .before .before .before .args in
-    let kept = c .before .put-number-row .kept .1 .0 in
-    let within = row-within (now (args .word)) (now (args .numbers)) _ (omega arith) (word .put-bytes .ensures) (c .before .put-number-row .ensures) kept in
+    let word = at-put-bytes (at-put-number-row c) in
+    let args = at-start word .args in
+    let kept = at-put-number-row c .put-number-row .kept .1 .0 in
+    let within = row-within (now (args .word)) (now (args .numbers)) _ (omega arith) (word .put-bytes .ensures) (at-put-number-row c .put-number-row .ensures) kept in
     omega (arith, within, kept, word .put-bytes .kept .1 .0)
 
 slice-aggregate-put-bytes-2 : tie.Need-slice-aggregate-put-bytes-2
-slice-aggregate-put-bytes-2 c = front-count _ _ (array-share-prefix-row (c .before))
+slice-aggregate-put-bytes-2 c = front-count _ _ (array-share-prefix-row (at-row4 c))
 
 put-bytes-requires-2 : tie.Need-put-bytes-requires-2
 put-bytes-requires-2 c κs = search needs
@@ -39,11 +52,12 @@ same-length c = search needs
 
 returns : tie.Need-returns
 returns c =
-    let numbers = c .before .before .before .before .before .before in
-    let word = numbers .before .before .before in
-    let args = word .before .before .before .before .before .args in
+    let put-bytes2 = c .before .before in
+    let numbers = at-put-number-row (at-row4 (put-bytes2 .before .before)) in
+    let word = at-put-bytes numbers in
+    let args = at-start word .args in
     let told = row-told (now (args .word)) (now (args .numbers)) _ (omega arith) (word .put-bytes .ensures) (numbers .put-number-row .ensures) (numbers .put-number-row .kept .1 .0) in
-    rw told at (c .before .before .put-bytes2 .ensures)
+    rw told at (put-bytes2 .put-bytes2 .ensures)
 
 pub put-told-spec : {M : Type 1} → statement M
 put-told-spec =
