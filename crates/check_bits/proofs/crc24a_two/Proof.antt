@@ -7,6 +7,10 @@ use borrow.Author.Needs.{needs}
 use Rattle.check_bits.proofs.crc24a_two.Statement.{statement}
 use Rattle.check_bits.proofs.crc24a_two.Tie as tie
 
+-- the ways back
+abbrev at-through-a : tie.After-near2 → tie.After-through-a
+at-through-a c = c .before
+
 one-by-one-requires : tie.Need-one-by-one-requires
 one-by-one-requires c κs = search needs
 
@@ -23,10 +27,10 @@ through-a-requires : tie.Need-through-a-requires
 through-a-requires c κs = search needs
 
 through-a-requires-2 : tie.Need-through-a-requires-2
-through-a-requires-2 c κs = (c .before .before .before .table-a .ensures, rw (c .before .through-a .ensures) (crcFrom-lt 24 gCRC24A 0 _ (lit< tt)))
+through-a-requires-2 c κs = (at-through-a c .before .before .table-a .ensures, rw (at-through-a c .through-a .ensures) (crcFrom-lt 24 gCRC24A 0 _ (lit< tt)))
 
 returns-2 : tie.Need-returns-2
-returns-2 c = check-joined 24 gCRC24A _ _ (c .before .before .through-a .ensures) (c .through-a2 .ensures)
+returns-2 c = check-joined 24 gCRC24A _ _ (at-through-a (c .before) .through-a .ensures) (c .through-a2 .ensures)
 
 pub crc24a-two-spec : {M : Type 1} → statement M
 crc24a-two-spec =

@@ -11,10 +11,23 @@ use borrow.Author.Needs.{needs}
 use Rattle.check_bits.proofs.crc24b.Statement.{statement}
 use Rattle.check_bits.proofs.crc24b.Tie as tie
 
+-- the ways back
+abbrev at-start : tie.After-table-b → tie.Start
+at-start c = c .before .before .before .before
+
+abbrev at-table-b : tie.After-leading → tie.After-table-b
+at-table-b c = c .before .before .before
+
+abbrev at-leading : tie.After-table-b-48 → tie.After-leading
+at-leading c = c .before
+
+abbrev at-table-b-48 : tie.After-strides-arg → tie.After-table-b-48
+at-table-b-48 c = c .before .before .before
+
 -- the bits that are left go on from the register after the first ones
-onward : (c : tie.After-leading) → let start = c .before .before .before .before .before .before .before in
+onward : (c : tie.After-leading) → let start = at-start (at-table-b c) in
     Running 24 24 gCRC24B (start .args .from) (start .args .bits .now) (c .leading .result) (length (start .args .bits .now) % 24)
-onward c = gone (c .before .before .before .before .before .before .before .args .bits .now) (omega arith) (c .leading .ensures)
+onward c = gone (at-start (at-table-b c) .args .bits .now) (omega arith) (c .leading .ensures)
 
 one-by-one-requires : tie.Need-one-by-one-requires
 one-by-one-requires c κs = search needs
@@ -54,12 +67,12 @@ part-strides-end c = search needs
 
 strides-requires : tie.Need-strides-requires
 strides-requires c κs =
-    let far = c .before .before .before in
-    let led = far .before in
-    (led .before .before .before .table-b .ensures, (far .table-b-48 .ensures, onward led .small))
+    let far = at-table-b-48 c in
+    let led = at-leading far in
+    (at-table-b led .table-b .ensures, (far .table-b-48 .ensures, onward led .small))
 
 returns-4 : tie.Need-returns-4
-returns-4 c = c .strides .ensures ∙ rest (onward (c .before .before .before .before .before))
+returns-4 c = c .strides .ensures ∙ rest (onward (at-leading (at-table-b-48 (c .before))))
 
 pub crc24b-spec : {M : Type 1} → statement M
 crc24b-spec =

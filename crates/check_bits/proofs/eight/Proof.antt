@@ -17,9 +17,10 @@ four-requires-2 c κs = search needs
 
 returns : tie.Need-returns
 returns c =
-    let k = c .before .before in
+    let four = c .before in
+    let k = four .before in
     joined (k .before .args .bits .now) (λ i. k .shared-slice-known .given i .fits) 4 4 (k .before .args .from) (omega arith) (omega arith)
-    (c .before .four .ensures) (c .four2 .ensures)
+    (four .four .ensures) (c .four2 .ensures)
 
 pub eight-spec : {M : Type 1} → statement M
 eight-spec = tie.close (tie.spec four-requires add-four four-requires-2 returns)

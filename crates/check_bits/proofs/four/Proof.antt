@@ -17,9 +17,10 @@ two-requires-2 c κs = search needs
 
 returns : tie.Need-returns
 returns c =
-    let k = c .before .before in
+    let two = c .before in
+    let k = two .before in
     joined (k .before .args .bits .now) (λ i. k .shared-slice-known .given i .fits) 2 2 (k .before .args .from) (omega arith) (omega arith)
-    (c .before .two .ensures) (c .two2 .ensures)
+    (two .two .ensures) (c .two2 .ensures)
 
 pub four-spec : {M : Type 1} → statement M
 four-spec = tie.close (tie.spec two-requires add-two two-requires-2 returns)

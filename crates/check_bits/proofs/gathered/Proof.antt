@@ -7,6 +7,13 @@ use Rattle.check_bits.proofs.Gathering.{gathers}
 use Rattle.check_bits.proofs.gathered.Statement.{statement}
 use Rattle.check_bits.proofs.gathered.Tie as tie
 
+-- the ways back
+abbrev at-eight : tie.After-eight2 → tie.After-eight
+at-eight c = c .before
+
+abbrev at-eight2 : tie.After-eight3 → tie.After-eight2
+at-eight2 c = c .before
+
 eight-requires : tie.Need-eight-requires
 eight-requires c κs = search needs
 
@@ -36,15 +43,18 @@ packed-requires-3 c κs = search needs
 
 returns-2 : tie.Need-returns-2
 returns-2 c l =
-    let w = c .before .before .before .before in
-    let s = w .before .before .before in
+    let packed2 = c .before in
+    let packed = packed2 .before in
+    let else1 = packed .before in
+    let w = else1 .before in
+    let s = at-eight (at-eight2 w) .before in
     gathers (s .before .args .bits .now) (λ i. s .shared-slice-known .given i .fits) (s .before .args .from) (s .before .pre)
-    (w .before .before .eight .ensures)
-    (w .before .eight2 .ensures)
+    (at-eight (at-eight2 w) .eight .ensures)
+    (at-eight2 w .eight2 .ensures)
     (w .eight3 .ensures)
-    (c .before .before .before .if1 .left)
-    (c .before .before .packed .ensures)
-    (c .before .packed2 .ensures)
+    (else1 .if1 .left)
+    (packed .packed .ensures)
+    (packed2 .packed2 .ensures)
     (c .packed3 .ensures)
 
 pub gathered-spec : {M : Type 1} → statement M

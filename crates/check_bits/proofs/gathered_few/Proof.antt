@@ -7,6 +7,28 @@ use borrow.Author.Needs.{needs}
 use Rattle.check_bits.proofs.gathered_few.Statement.{statement}
 use Rattle.check_bits.proofs.gathered_few.Tie as tie
 
+-- the ways back
+abbrev at-start : tie.After-shared-slice-known → tie.Start
+at-start c = c .before
+
+abbrev at-shared-slice-known : tie.After-eight → tie.After-shared-slice-known
+at-shared-slice-known c = c .before
+
+abbrev at-eight : tie.After-eight2 → tie.After-eight
+at-eight c = c .before
+
+abbrev at-else2 : tie.After-eight3 → tie.Else2
+at-else2 c = c .before
+
+abbrev at-else3 : tie.After-packed3 → tie.Else3
+at-else3 c = c .before
+
+abbrev at-packed3 : tie.After-packed4 → tie.After-packed3
+at-packed3 c = c .before
+
+abbrev at-packed4 : tie.After-packed5 → tie.After-packed4
+at-packed4 c = c .before
+
 eight-requires : tie.Need-eight-requires
 eight-requires c κs = search needs
 
@@ -33,16 +55,19 @@ with-last-requires c κs = search needs
 
 returns-2 : tie.Need-returns-2
 returns-2 c l =
-    let tested = c .before .before .before .before in
-    let known = tested .before .before .before in
-    below-16 (known .before .args .bits .now) (λ i. known .shared-slice-known .given i .fits)
-    (tested .before .before .eight .ensures)
+    let packed2 = c .before in
+    let packed = packed2 .before in
+    let then2 = packed .before in
+    let tested = then2 .before in
+    let known = at-shared-slice-known (at-eight (tested .before)) in
+    below-16 (at-start known .args .bits .now) (λ i. known .shared-slice-known .given i .fits)
+    (at-eight (tested .before) .eight .ensures)
     (tested .before .eight2 .ensures)
     (tested .if1 .left)
-    (c .before .before .packed .ensures)
-    (c .before .packed2 .ensures)
-    (known .before .pre .0)
-    (c .before .before .before .if2 .taken)
+    (packed .packed .ensures)
+    (packed2 .packed2 .ensures)
+    (at-start known .pre .0)
+    (then2 .if2 .taken)
     (c .with-last .ensures)
 
 eight-requires-3 : tie.Need-eight-requires-3
@@ -62,24 +87,25 @@ packed-requires-5 c κs = search needs
 
 with-last-requires-2 : tie.Need-with-last-requires-2
 with-last-requires-2 c κs =
-    let third = c .before .before .before .before in
-    (two-small (word-lt (third .before .before .before .before .eight .result) (c .before .before .packed3 .ensures)) (word-lt (third .eight3 .result) (c .before .packed4 .ensures)), search needs)
+    let third = at-else3 (at-packed3 (at-packed4 c)) .before in
+    (two-small (word-lt (at-eight (at-else2 third .before .before) .eight .result) (at-packed3 (at-packed4 c) .packed3 .ensures)) (word-lt (third .eight3 .result) (at-packed4 c .packed4 .ensures)), search needs)
 
 returns-4 : tie.Need-returns-4
 returns-4 c l =
-    let tested = c .before .before .before .before .before .before .before in
-    let known = tested .before .before .before in
-    from-16 (known .before .args .bits .now) (λ i. known .shared-slice-known .given i .fits)
-    (tested .before .before .eight .ensures)
+    let packed5 = c .before in
+    let tested = at-else2 (at-else3 (at-packed3 (at-packed4 packed5)) .before) .before in
+    let known = at-shared-slice-known (at-eight (tested .before)) in
+    from-16 (at-start known .args .bits .now) (λ i. known .shared-slice-known .given i .fits)
+    (at-eight (tested .before) .eight .ensures)
     (tested .before .eight2 .ensures)
     (tested .if1 .left)
-    (c .before .before .before .packed3 .ensures)
-    (c .before .packed5 .ensures)
-    (c .before .before .before .before .before .eight3 .ensures)
-    (c .before .before .before .before .if3 .left)
-    (c .before .before .packed4 .ensures)
-    (c .before .before .before .before .before .before .if2 .left)
-    (known .before .pre .1)
+    (at-packed3 (at-packed4 packed5) .packed3 .ensures)
+    (packed5 .packed5 .ensures)
+    (at-else3 (at-packed3 (at-packed4 packed5)) .before .eight3 .ensures)
+    (at-else3 (at-packed3 (at-packed4 packed5)) .if3 .left)
+    (at-packed4 packed5 .packed4 .ensures)
+    (at-else2 (at-else3 (at-packed3 (at-packed4 packed5)) .before) .if2 .left)
+    (at-start known .pre .1)
     (c .with-last2 .ensures)
 
 pub gathered-few-spec : {M : Type 1} → statement M

@@ -39,10 +39,11 @@ one-by-one-requires-3 c κs = search needs
 
 returns-3 : tie.Need-returns-3
 returns-3 c =
-    let x = c .before .before .before .before in
+    let passed = c .before .before in
+    let x = passed .before .before in
     let a = x .before .before .before in
     c .one-by-one3 .ensures
-    ∙ rw (c .before .before .passed .ensures) (rest (next24 {bits = a .args .bits .now} (a .pre .0) (omega arith) (x .gathered .ensures (omega arith)) (start (a .pre .1))))
+    ∙ rw (passed .passed .ensures) (rest (next24 {bits = a .args .bits .now} (a .pre .0) (omega arith) (x .gathered .ensures (omega arith)) (start (a .pre .1))))
 
 pub last-stride-spec : {M : Type 1} → statement M
 last-stride-spec =

@@ -9,6 +9,10 @@ use borrow.Author.Needs.{needs}
 use Rattle.check_bits.proofs.leading.Statement.{statement}
 use Rattle.check_bits.proofs.leading.Tie as tie
 
+-- the ways back
+abbrev at-start : tie.After-gathered → tie.Start
+at-start c = c .before .before
+
 gathered-requires : tie.Need-gathered-requires
 gathered-requires c κs = search needs
 
@@ -32,14 +36,14 @@ shr-short-stride c = search needs
 
 short-stride-requires : tie.Need-short-stride-requires
 short-stride-requires c κs =
-    let start = c .before .before .before in
+    let start = at-start (c .before) in
     let given = start .pre .1 in
     (start .pre .0, (given .0, given .2, highest-lt (start .args .bits .now) (start .args .k) (given .0) (omega arith)))
 
 returns-2 : tie.Need-returns-2
 returns-2 c =
     let looked = c .before .before in
-    let start = looked .before .before in
+    let start = at-start looked in
     c .short-stride .ensures
     ∙ ap (crcFrom 24 (start .args .generator) (start .args .from))
     (highest (start .args .bits .now) (start .args .k) (start .pre .1 .0) (omega arith) (looked .gathered .ensures))

@@ -14,6 +14,13 @@ Inv-loop width generator from bits g top mask s₀ i₀ s i = (i ≤ length bits
 abbrev μ-loop : tie.MeasureT-loop
 μ-loop width generator from bits g top mask s₀ i₀ s i = length bits - i
 
+-- the ways back
+abbrev at-start : tie.At-loop Inv-loop μ-loop → tie.Start Inv-loop μ-loop
+at-start c = c .before
+
+abbrev at-loop : tie.After-shared-slice-known Inv-loop μ-loop → tie.At-loop Inv-loop μ-loop
+at-loop c = c .before .before
+
 sub-top : tie.Need-sub-top Inv-loop μ-loop
 sub-top c = omega arith
 
@@ -36,12 +43,12 @@ shared-slice-read-up : tie.Need-shared-slice-read-up Inv-loop μ-loop
 shared-slice-read-up c = omega arith
 
 cast-up-2 : tie.Need-cast-up-2 Inv-loop μ-loop
-cast-up-2 c = omega (arith, c .shared-slice-known .given (c .before .before .loop .i))
+cast-up-2 c = omega (arith, c .shared-slice-known .given (at-loop c .loop .i))
 
 mul-s : tie.Need-mul-s Inv-loop μ-loop
 mul-s c = record {
-  fits = product-fits (c .before .before .before .args .length - 1) (c .before .before .before .fits .generator .fits) (c .before .before .loop .inv .1 .small)
-      (c .shared-slice-known .given (c .before .before .loop .i) .fits);
+  fits = product-fits (at-start (at-loop c) .args .length - 1) (at-start (at-loop c) .fits .generator .fits) (at-loop c .loop .inv .1 .small)
+      (c .shared-slice-known .given (at-loop c .loop .i) .fits);
 }
 
 add-i : tie.Need-add-i Inv-loop μ-loop
@@ -51,7 +58,7 @@ loop-less : tie.Need-loop-less Inv-loop μ-loop
 loop-less c = omega arith
 
 loop-again : tie.Need-loop-again Inv-loop μ-loop
-loop-again c = let limit = c .before .before .before .pre .1 in (omega arith, next limit (masked limit) (omega arith) (c .before .before .loop .inv .1))
+loop-again c = let limit = at-start (at-loop c) .pre .1 in (omega arith, next limit (masked limit) (omega arith) (at-loop c .loop .inv .1))
 
 cast-result : tie.Need-cast-result Inv-loop μ-loop
 cast-result c = omega arith

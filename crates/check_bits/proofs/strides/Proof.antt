@@ -14,8 +14,18 @@ Inv-loop generator near far from bits s₀ i₀ s i = (i ≤ length bits) × Run
 abbrev μ-loop : tie.MeasureT-loop
 μ-loop generator near far from bits s₀ i₀ s i = length bits - i
 
+-- the ways back
+abbrev at-start-from-loop-holds : tie.After-shared-slice-known Inv-loop μ-loop → tie.Start Inv-loop μ-loop
+at-start-from-loop-holds c = c .before
+
+abbrev at-start : tie.At-loop Inv-loop μ-loop → tie.Start Inv-loop μ-loop
+at-start c = at-start-from-loop-holds (c .before)
+
+abbrev at-loop : tie.After-last-stride-arg Inv-loop μ-loop → tie.At-loop Inv-loop μ-loop
+at-loop c = c .before .before
+
 loop-holds : tie.Need-loop-holds Inv-loop μ-loop
-loop-holds c = (omega arith, start (c .before .pre .1 .1))
+loop-holds c = (omega arith, start (at-start-from-loop-holds c .pre .1 .1))
 
 sub-loop : tie.Need-sub-loop Inv-loop μ-loop
 sub-loop c = omega arith
@@ -43,12 +53,13 @@ loop-less c = omega arith
 
 loop-again : tie.Need-loop-again Inv-loop μ-loop
 loop-again c =
-    let y = c .before .before .before in
+    let passed = c .before in
+    let y = passed .before .before in
     let x = y .before in
     let l = x .before .before in
-    let p = l .before .before .pre in (
+    let p = at-start l .pre in (
       omega arith,
-      rw (c .before .passed .ensures, c .passed2 .ensures)
+      rw (passed .passed .ensures, c .passed2 .ensures)
           (next48 (p .0) (p .1 .0) (omega arith) (x .gathered .ensures) (y .gathered2 .ensures) (l .loop .inv .1)),
     )
 
@@ -62,10 +73,10 @@ part-last-stride-end : tie.Need-part-last-stride-end Inv-loop μ-loop
 part-last-stride-end c = omega arith
 
 last-stride-requires : tie.Need-last-stride-requires Inv-loop μ-loop
-last-stride-requires c κs = (c .before .before .before .before .pre .0, c .before .before .loop .inv .1 .small)
+last-stride-requires c κs = (at-start (at-loop c) .pre .0, at-loop c .loop .inv .1 .small)
 
 returns : tie.Need-returns Inv-loop μ-loop
-returns c = c .last-stride .ensures ∙ rest (c .before .before .before .loop .inv .1)
+returns c = c .last-stride .ensures ∙ rest (at-loop (c .before) .loop .inv .1)
 
 pub strides-spec : {M : Type 1} → statement M
 strides-spec =

@@ -11,10 +11,23 @@ use borrow.Author.Needs.{needs}
 use Rattle.check_bits.proofs.through_a.Statement.{statement}
 use Rattle.check_bits.proofs.through_a.Tie as tie
 
+-- the ways back
+abbrev at-start : tie.After-leading → tie.Start
+at-start c = c .before .before .before .before
+
+abbrev at-leading-from-last-stride-arg : tie.After-last-stride-arg → tie.After-leading
+at-leading-from-last-stride-arg c = c .before .before
+
+abbrev at-leading : tie.After-table-a-48 → tie.After-leading
+at-leading c = c .before .before
+
+abbrev at-table-a-48 : tie.After-strides-arg → tie.After-table-a-48
+at-table-a-48 c = c .before .before
+
 -- the bits that are left go on from the register after the first ones
-onward : (c : tie.After-leading) → let start = c .before .before .before .before in
+onward : (c : tie.After-leading) → let start = at-start c in
     Running 24 24 gCRC24A (start .args .from) (start .args .bits .now) (c .leading .result) (length (start .args .bits .now) % 24)
-onward c = gone (c .before .before .before .before .args .bits .now) (omega arith) (c .leading .ensures)
+onward c = gone (at-start c .args .bits .now) (omega arith) (c .leading .ensures)
 
 one-by-one-requires : tie.Need-one-by-one-requires
 one-by-one-requires c κs = search needs
@@ -41,10 +54,10 @@ part-last-stride-end : tie.Need-part-last-stride-end
 part-last-stride-end c = search needs
 
 last-stride-requires : tie.Need-last-stride-requires
-last-stride-requires c κs = let led = c .before .before in (led .before .before .before .before .pre .0, onward led .small)
+last-stride-requires c κs = let led = at-leading-from-last-stride-arg c in (at-start led .pre .0, onward led .small)
 
 returns-3 : tie.Need-returns-3
-returns-3 c = c .last-stride .ensures ∙ rest (onward (c .before .before .before))
+returns-3 c = c .last-stride .ensures ∙ rest (onward (at-leading-from-last-stride-arg (c .before)))
 
 table-a-48-requires : tie.Need-table-a-48-requires
 table-a-48-requires c κs = search needs
@@ -60,12 +73,12 @@ part-strides-end c = search needs
 
 strides-requires : tie.Need-strides-requires
 strides-requires c κs =
-    let far = c .before .before in
-    let led = far .before .before in
-    (led .before .before .before .before .pre .0, (far .table-a-48 .ensures, onward led .small))
+    let far = at-table-a-48 c in
+    let led = at-leading far in
+    (at-start led .pre .0, (far .table-a-48 .ensures, onward led .small))
 
 returns-4 : tie.Need-returns-4
-returns-4 c = c .strides .ensures ∙ rest (onward (c .before .before .before .before .before))
+returns-4 c = c .strides .ensures ∙ rest (onward (at-leading (at-table-a-48 (c .before))))
 
 pub through-a-spec : {M : Type 1} → statement M
 through-a-spec =
