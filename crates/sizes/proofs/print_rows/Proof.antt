@@ -18,6 +18,19 @@ Inv-loop text out₀ next₀ out next = length out ≡ length out₀
 abbrev μ-loop : tie.MeasureT-loop
 μ-loop text out₀ next₀ out next = length text - next
 
+-- the ways back
+abbrev at-start : tie.At-loop Inv-loop μ-loop → tie.Start Inv-loop μ-loop
+at-start c = c .before .before .before
+
+abbrev at-loop : tie.After-sizes-rows Inv-loop μ-loop → tie.At-loop Inv-loop μ-loop
+at-loop c = c .before .before .before
+
+abbrev at-sizes-rows : tie.After-slice-known2 Inv-loop μ-loop → tie.After-sizes-rows Inv-loop μ-loop
+at-sizes-rows c = c .before .before
+
+abbrev at-slice-known2 : tie.After-write-all-arg Inv-loop μ-loop → tie.After-slice-known2 Inv-loop μ-loop
+at-slice-known2 c = c .before
+
 loop-holds : tie.Need-loop-holds Inv-loop μ-loop
 loop-holds c = refl
 
@@ -25,11 +38,11 @@ sizes-rows-requires : tie.Need-sizes-rows-requires Inv-loop μ-loop
 sizes-rows-requires c κs = tt
 
 -- what was written stands within the output
-within : (c : tie.After-slice-known2 Inv-loop μ-loop) → c .before .before .sizes-rows .result .written ≤ length (c .before .before .sizes-rows .last .1 .1 .0)
+within : (c : tie.After-slice-known2 Inv-loop μ-loop) → at-sizes-rows c .sizes-rows .result .written ≤ length (at-sizes-rows c .sizes-rows .last .1 .1 .0)
 within c =
-    let text = now (c .before .before .before .before .before .before .before .before .args .text) in
-    let head = c .before .before .before .before .before .loop in
-    let call = c .before .before .sizes-rows in
+    let text = now (at-start (at-loop (at-sizes-rows c)) .args .text) in
+    let head = at-loop (at-sizes-rows c) .loop in
+    let call = at-sizes-rows c .sizes-rows in
     let kept = call .kept .1 .1 .0 in
     omega (arith, ap (λ (p : Progress). p .written) (call .ensures .0), written-within text (head .next) (head .out) (ap length (sym (call .ensures .1)) ∙ kept), kept)
 
@@ -37,7 +50,7 @@ slice-reshare-prefix-write-all : tie.Need-slice-reshare-prefix-write-all Inv-loo
 slice-reshare-prefix-write-all c = within c
 
 slice-aggregate-write-all : tie.Need-slice-aggregate-write-all Inv-loop μ-loop
-slice-aggregate-write-all c = sym (length-take-le _ _ (within (c .before)))
+slice-aggregate-write-all c = sym (length-take-le _ _ (within (at-slice-known2 c)))
 
 write-all-requires : tie.Need-write-all-requires Inv-loop μ-loop
 write-all-requires c κs = tt
@@ -46,21 +59,21 @@ tell-lost-requires : tie.Need-tell-lost-requires Inv-loop μ-loop
 tell-lost-requires c κs = tt
 
 same-length : tie.Need-same-length Inv-loop μ-loop
-same-length c = c .before .before .before .before .before .before .sizes-rows .kept .1 .1 .0 ∙ c .before .before .before .before .before .before .before .before .before .loop .inv
+same-length c = at-sizes-rows (at-slice-known2 (c .before .before .before)) .sizes-rows .kept .1 .1 .0 ∙ at-loop (at-sizes-rows (at-slice-known2 (c .before .before .before))) .loop .inv
 
 returns : tie.Need-returns Inv-loop μ-loop
 returns c = tt
 
 loop-less : tie.Need-loop-less Inv-loop μ-loop
 loop-less c =
-    let start = c .before .before .before .before .before .before .before .before .before .before .before in
-    let head = c .before .before .before .before .before .before .before .before .loop in
-    let call = c .before .before .before .before .before .sizes-rows in
+    let start = at-start (at-loop (at-sizes-rows (at-slice-known2 (c .before .before)))) in
+    let head = at-loop (at-sizes-rows (at-slice-known2 (c .before .before))) .loop in
+    let call = at-sizes-rows (at-slice-known2 (c .before .before)) .sizes-rows in
     let enough : rowRoom ≤ length (head .out) = omega (arith, start .pre, head .inv) in
     omega (arith, ap (λ (p : Progress). p .next) (call .ensures .0), goes-on (now (start .args .text)) (head .next) (length (head .out)) (omega arith) enough)
 
 loop-again : tie.Need-loop-again Inv-loop μ-loop
-loop-again c = c .before .before .before .before .before .sizes-rows .kept .1 .1 .0 ∙ c .before .before .before .before .before .before .before .before .loop .inv
+loop-again c = at-sizes-rows (at-slice-known2 (c .before .before)) .sizes-rows .kept .1 .1 .0 ∙ at-loop (at-sizes-rows (at-slice-known2 (c .before .before))) .loop .inv
 
 same-length-2 : tie.Need-same-length-2 Inv-loop μ-loop
 same-length-2 c = c .before .loop .inv
