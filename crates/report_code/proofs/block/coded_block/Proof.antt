@@ -48,13 +48,14 @@ loop-less : tie.Need-loop-less Inv-loop μ-loop
 loop-less c = omega arith
 
 loop-again : tie.Need-loop-again Inv-loop μ-loop
-loop-again c = (
-  omega arith,
-  simp length-set (c .before .loop .inv .1),
-  entry-next 32 (codedBit (messageBits 11 (c .before .before .before .args .message))) (omega arith) (omega arith)
-      (coded-told _ _ (c .before .before .rows .ensures) (omega arith))
-      (c .before .loop .inv .2),
-)
+loop-again c =
+    let at-rows = c .before .before in (
+      omega arith,
+      simp length-set (c .before .loop .inv .1),
+      entry-next 32 (codedBit (messageBits 11 (at-rows .before .args .message))) (omega arith) (omega arith)
+          (coded-told _ _ (at-rows .rows .ensures) (omega arith))
+          (c .before .loop .inv .2),
+    )
 
 returns : tie.Need-returns Inv-loop μ-loop
 unfolding block

@@ -15,11 +15,18 @@ Inv-loop bits word₀ i₀ word i = (i ≤ 32) × (word ≡ numberOf (drop i bit
 abbrev μ-loop : tie.MeasureT-loop
 μ-loop bits word₀ i₀ word i = i
 
+-- the ways back
+abbrev at-start : tie.At-loop Inv-loop μ-loop → tie.Start Inv-loop μ-loop
+at-start c = c .before
+
+abbrev at-turn : tie.After-word Inv-loop μ-loop → tie.In-loop Inv-loop μ-loop
+at-turn c = c .before
+
 -- what one more bit gives, and that it fits
 turn : (c : tie.In-loop Inv-loop μ-loop)
-    → (2 * c .before .loop .word + getD (c .before .before .args .bits .now) (c .before .loop .i - 1) 0 ≡ numberOf (drop (c .before .loop .i - 1) (c .before .before .args .bits .now)))
-    × (2 * c .before .loop .word + getD (c .before .before .args .bits .now) (c .before .loop .i - 1) 0 < 4294967296)
-turn c = packed-more (c .before .before .args .bits .now) (c .before .before .pre .0) (omega (arith, c .before .before .pre .1)) (c .before .loop .i) (c .before .loop .word) (omega arith) (omega (arith, c .before .before .pre .1)) (c .before .loop .inv .1)
+    → (2 * c .before .loop .word + getD (at-start (c .before) .args .bits .now) (c .before .loop .i - 1) 0 ≡ numberOf (drop (c .before .loop .i - 1) (at-start (c .before) .args .bits .now)))
+    × (2 * c .before .loop .word + getD (at-start (c .before) .args .bits .now) (c .before .loop .i - 1) 0 < 4294967296)
+turn c = packed-more (at-start (c .before) .args .bits .now) (at-start (c .before) .pre .0) (omega (arith, at-start (c .before) .pre .1)) (c .before .loop .i) (c .before .loop .word) (omega arith) (omega (arith, at-start (c .before) .pre .1)) (c .before .loop .inv .1)
 
 loop-holds : tie.Need-loop-holds Inv-loop μ-loop
 unfolding numberOf
@@ -35,19 +42,19 @@ element-copy-out-word : tie.Need-element-copy-out-word Inv-loop μ-loop
 element-copy-out-word c = omega arith
 
 cast-word : tie.Need-cast-word Inv-loop μ-loop
-cast-word c = omega (arith, c .before .before .before .pre .0 (c .before .before .loop .i - 1))
+cast-word c = omega (arith, at-start (at-turn c .before) .pre .0 (at-turn c .before .loop .i - 1))
 
 add-word : tie.Need-add-word Inv-loop μ-loop
-add-word c = omega (arith, turn (c .before) .1)
+add-word c = omega (arith, turn (at-turn c) .1)
 
 loop-less : tie.Need-loop-less Inv-loop μ-loop
 loop-less c = omega arith
 
 loop-again : tie.Need-loop-again Inv-loop μ-loop
-loop-again c = (omega arith, turn (c .before) .0)
+loop-again c = (omega arith, turn (at-turn c) .0)
 
 returns : tie.Need-returns Inv-loop μ-loop
-returns c = let none : c .before .loop .i ≡ 0 = omega arith in c .before .loop .inv .1 ∙ ap (λ (k : ℕ). numberOf (drop k (c .before .before .args .bits .now))) none
+returns c = let none : c .before .loop .i ≡ 0 = omega arith in c .before .loop .inv .1 ∙ ap (λ (k : ℕ). numberOf (drop k (at-start (c .before) .args .bits .now))) none
 
 pub packed-spec : {M : Type 1} → statement M
 packed-spec =

@@ -15,6 +15,19 @@ Inv-loop control ones₀ zeros₀ at₀ ones zeros at = Folding control ones zer
 abbrev μ-loop : tie.MeasureT-loop
 μ-loop control ones₀ zeros₀ at₀ ones zeros at = length control - at
 
+-- the ways back
+abbrev at-start : tie.At-loop Inv-loop μ-loop → tie.Start Inv-loop μ-loop
+at-start c = c .before .before
+
+abbrev at-loop : tie.After-turn-end Inv-loop μ-loop → tie.At-loop Inv-loop μ-loop
+at-loop c = c .before .before
+
+abbrev at-turn-end : tie.After-zeros Inv-loop μ-loop → tie.After-turn-end Inv-loop μ-loop
+at-turn-end c = c .before .before .before
+
+abbrev at-turn-end-from-count-turn : tie.After-count-turn Inv-loop μ-loop → tie.After-turn-end Inv-loop μ-loop
+at-turn-end-from-count-turn c = at-turn-end (c .before)
+
 loop-holds : tie.Need-loop-holds Inv-loop μ-loop
 loop-holds c = start _
 
@@ -32,21 +45,21 @@ part-count-turn-end c = c .turn-end .ensures .1
 
 count-turn-requires : tie.Need-count-turn-requires Inv-loop μ-loop
 count-turn-requires c κs =
-    let e = c .before .before .before .turn-end .ensures in
-    let w = c .before .before .before .before .before .loop .inv in
-    let given = c .before .before .before .before .before .before .before .pre in (
-      (omega (arith, turn-long (c .before .before .before .before .before .before .before .args .control .now) (e .0) (e .1)), turn-bits (c .before .before .before .before .before .before .before .args .control .now) (c .before .before .before .before .before .loop .at) (c .before .before .before .turn-end .result - c .before .before .before .before .before .loop .at) (given .1)),
+    let e = at-turn-end c .turn-end .ensures in
+    let w = at-loop (at-turn-end c) .loop .inv in
+    let given = at-start (at-loop (at-turn-end c)) .pre in (
+      (omega (arith, turn-long (at-start (at-loop (at-turn-end c)) .args .control .now) (e .0) (e .1)), turn-bits (at-start (at-loop (at-turn-end c)) .args .control .now) (at-loop (at-turn-end c) .loop .at) (at-turn-end c .turn-end .result - at-loop (at-turn-end c) .loop .at) (given .1)),
       (
-        (few-counts (c .before .before .before .before .before .loop .ones) (given .0) (w .within) (w .ones-few), few-counts (c .before .before .before .before .before .loop .zeros) (given .0) (w .within) (w .zeros-few)),
+        (few-counts (at-loop (at-turn-end c) .loop .ones) (given .0) (w .within) (w .ones-few), few-counts (at-loop (at-turn-end c) .loop .zeros) (given .0) (w .within) (w .zeros-few)),
         (w .ones-long, w .zeros-long),
       ),
     )
 
 loop-less : tie.Need-loop-less Inv-loop μ-loop
-loop-less c = omega (arith, c .before .before .before .before .turn-end .ensures .0)
+loop-less c = omega (arith, at-turn-end-from-count-turn c .turn-end .ensures .0)
 
 loop-again : tie.Need-loop-again Inv-loop μ-loop
-loop-again c = let e = c .before .before .before .before .turn-end .ensures in next (c .before .before .before .before .before .before .loop .inv) (c .before .before .before .before .before .before .before .before .pre .1) (omega arith) (e .0) (e .1) (e .2) (e .3) (c .count-turn .ensures .0) (c .count-turn .ensures .1)
+loop-again c = let e = at-turn-end-from-count-turn c .turn-end .ensures in next (at-loop (at-turn-end-from-count-turn c) .loop .inv) (at-start (at-loop (at-turn-end-from-count-turn c)) .pre .1) (omega arith) (e .0) (e .1) (e .2) (e .3) (c .count-turn .ensures .0) (c .count-turn .ensures .1)
 
 returns : tie.Need-returns Inv-loop μ-loop
 returns c = finish (c .before .loop .inv) (omega arith)

@@ -19,6 +19,13 @@ Inv-loop counts p bits₀ i₀ bits i =
 abbrev μ-loop : tie.MeasureT-loop
 μ-loop counts p bits₀ i₀ bits i = 32 - i
 
+-- the ways back
+abbrev at-start : tie.At-loop Inv-loop μ-loop → tie.Start Inv-loop μ-loop
+at-start c = c .before
+
+abbrev at-loop : tie.After-bits Inv-loop μ-loop → tie.At-loop Inv-loop μ-loop
+at-loop c = c .before .before
+
 loop-holds : tie.Need-loop-holds Inv-loop μ-loop
 loop-holds c = (omega arith, refl, same (sym (tab-rest _ _)) start)
 
@@ -29,10 +36,10 @@ element-copy-out-bits : tie.Need-element-copy-out-bits Inv-loop μ-loop
 element-copy-out-bits c = omega arith
 
 cast-bits : tie.Need-cast-bits Inv-loop μ-loop
-cast-bits c = omega (arith, c .before .before .before .pre .0)
+cast-bits c = omega (arith, at-start (at-loop c) .pre .0)
 
 shr-bits : tie.Need-shr-bits Inv-loop μ-loop
-shr-bits c = omega (arith, c .before .before .before .pre .0)
+shr-bits c = omega (arith, at-start (at-loop c) .pre .0)
 
 cast-bits-2 : tie.Need-cast-bits-2 Inv-loop μ-loop
 cast-bits-2 c = omega arith
@@ -50,13 +57,13 @@ loop-again : tie.Need-loop-again Inv-loop μ-loop
 unfolding digitAt
 loop-again c = (
   omega arith,
-  simp length-set (c .before .before .loop .inv .1),
-  entry-next 32 (digitAt (c .before .before .before .args .counts .now) (c .before .before .before .args .p)) (omega arith) (omega arith) refl
-      (c .before .before .loop .inv .2),
+  simp length-set (at-loop c .loop .inv .1),
+  entry-next 32 (digitAt (at-start (at-loop c) .args .counts .now) (at-start (at-loop c) .args .p)) (omega arith) (omega arith) refl
+      (at-loop c .loop .inv .2),
 )
 
 returns : tie.Need-returns Inv-loop μ-loop
-returns c = finish-all (omega arith) (rest-none _ _ _ (omega arith)) (c .before .loop .inv .2) ∙ sym (digits-tab _ _ _ (c .before .before .pre .1))
+returns c = finish-all (omega arith) (rest-none _ _ _ (omega arith)) (c .before .loop .inv .2) ∙ sym (digits-tab _ _ _ (at-start (c .before) .pre .1))
 
 pub digits-of-spec : {M : Type 1} → statement M
 digits-of-spec =

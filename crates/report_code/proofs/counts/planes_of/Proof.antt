@@ -21,20 +21,30 @@ Inv-loop counts count planes₀ p₀ planes p =
 abbrev μ-loop : tie.MeasureT-loop
 μ-loop counts count planes₀ p₀ planes p = count - p
 
+-- the ways back
+abbrev at-start : tie.At-loop Inv-loop μ-loop → tie.Start Inv-loop μ-loop
+at-start c = c .before
+
+abbrev at-loop : tie.After-digits-of Inv-loop μ-loop → tie.At-loop Inv-loop μ-loop
+at-loop c = c .before .before
+
+abbrev at-digits-of : tie.After-packed-arg Inv-loop μ-loop → tie.After-digits-of Inv-loop μ-loop
+at-digits-of c = c .before
+
 loop-holds : tie.Need-loop-holds Inv-loop μ-loop
 loop-holds c = (omega arith, refl, same (sym (tab-rest _ _)) start)
 
 digits-of-requires : tie.Need-digits-of-requires Inv-loop μ-loop
-digits-of-requires c κs = (omega (arith, c .before .before .pre .0), c .before .before .pre .1)
+digits-of-requires c κs = (omega (arith, at-start (c .before) .pre .0), at-start (c .before) .pre .1)
 
 packed-requires : tie.Need-packed-requires Inv-loop μ-loop
-packed-requires c κs = (rw (c .before .digits-of .ensures) (digits-bits _ _), ap length (c .before .digits-of .ensures) ∙ length-digits _ _ ∙ c .before .before .before .before .pre .1)
+packed-requires c κs = (rw (at-digits-of c .digits-of .ensures) (digits-bits _ _), ap length (at-digits-of c .digits-of .ensures) ∙ length-digits _ _ ∙ at-start (at-loop (at-digits-of c)) .pre .1)
 
 mul-planes : tie.Need-mul-planes Inv-loop μ-loop
 mul-planes c = omega arith
 
 array-write-planes : tie.Need-array-write-planes Inv-loop μ-loop
-array-write-planes c = omega (arith, c .before .before .before .before .before .pre .0)
+array-write-planes c = omega (arith, at-start (at-loop (at-digits-of (c .before))) .pre .0)
 
 add-p : tie.Need-add-p Inv-loop μ-loop
 add-p c = omega arith
@@ -46,10 +56,10 @@ loop-again : tie.Need-loop-again Inv-loop μ-loop
 unfolding plane
 loop-again c = (
   omega arith,
-  simp length-set (c .before .before .before .before .loop .inv .1),
-  entry-next (c .before .before .before .before .before .args .count) (plane (c .before .before .before .before .before .args .counts .now)) (omega arith) (omega (arith, c .before .before .before .before .loop .inv .1, c .before .before .before .before .before .pre .0))
-      (c .packed .ensures ∙ ap numberOf (c .before .before .digits-of .ensures))
-      (c .before .before .before .before .loop .inv .2),
+  simp length-set (at-loop (at-digits-of (c .before)) .loop .inv .1),
+  entry-next (at-start (at-loop (at-digits-of (c .before))) .args .count) (plane (at-start (at-loop (at-digits-of (c .before))) .args .counts .now)) (omega arith) (omega (arith, at-loop (at-digits-of (c .before)) .loop .inv .1, at-start (at-loop (at-digits-of (c .before))) .pre .0))
+      (c .packed .ensures ∙ ap numberOf (at-digits-of (c .before) .digits-of .ensures))
+      (at-loop (at-digits-of (c .before)) .loop .inv .2),
 )
 
 returns : tie.Need-returns Inv-loop μ-loop

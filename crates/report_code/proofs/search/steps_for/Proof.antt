@@ -23,6 +23,13 @@ Inv-loop o steps₀ last₀ k₀ steps last k =
 abbrev μ-loop : tie.MeasureT-loop
 μ-loop o steps₀ last₀ k₀ steps last k = o - k
 
+-- the ways back
+abbrev at-start : tie.At-loop Inv-loop μ-loop → tie.Start Inv-loop μ-loop
+at-start c = c .before
+
+abbrev at-loop : tie.After-coded-word Inv-loop μ-loop → tie.At-loop Inv-loop μ-loop
+at-loop c = c .before .before
+
 loop-holds : tie.Need-loop-holds Inv-loop μ-loop
 loop-holds c = (omega arith, refl, refl, same (sym (tab-rest _ _)) start)
 
@@ -30,19 +37,19 @@ coded-word-requires : tie.Need-coded-word-requires Inv-loop μ-loop
 coded-word-requires c κs = search needs
 
 mul-steps : tie.Need-mul-steps Inv-loop μ-loop
-mul-steps c = omega (arith, c .before .before .before .pre)
+mul-steps c = omega (arith, at-start (at-loop c) .pre)
 
 array-write-steps : tie.Need-array-write-steps Inv-loop μ-loop
-array-write-steps c = omega (arith, c .before .before .before .pre)
+array-write-steps c = omega (arith, at-start (at-loop c) .pre)
 
 mul-last : tie.Need-mul-last Inv-loop μ-loop
-mul-last c = omega (arith, last-small _ _ (omega (arith, c .before .before .before .pre)) (c .before .before .loop .inv .2))
+mul-last c = omega (arith, last-small _ _ (omega (arith, at-start (at-loop c) .pre)) (at-loop c .loop .inv .2))
 
 add-last : tie.Need-add-last Inv-loop μ-loop
-add-last c = omega (arith, last-small _ _ (omega (arith, c .before .before .before .pre)) (c .before .before .loop .inv .2))
+add-last c = omega (arith, last-small _ _ (omega (arith, at-start (at-loop c) .pre)) (at-loop c .loop .inv .2))
 
 add-k : tie.Need-add-k Inv-loop μ-loop
-add-k c = omega (arith, c .before .before .before .pre)
+add-k c = omega (arith, at-start (at-loop c) .pre)
 
 loop-less : tie.Need-loop-less Inv-loop μ-loop
 loop-less c = omega arith
@@ -51,11 +58,11 @@ loop-again : tie.Need-loop-again Inv-loop μ-loop
 unfolding stepWord
 loop-again c = (
   omega arith,
-  simp length-set (c .before .before .loop .inv .1),
-  last-more _ _ (c .before .before .loop .inv .2),
-  entry-next (c .before .before .before .args .o) stepWord (omega arith) (omega (arith, c .before .before .loop .inv .1, c .before .before .before .pre))
-      (c .coded-word .ensures ∙ ap wordOf (c .before .before .loop .inv .2))
-      (c .before .before .loop .inv .3),
+  simp length-set (at-loop c .loop .inv .1),
+  last-more _ _ (at-loop c .loop .inv .2),
+  entry-next (at-start (at-loop c) .args .o) stepWord (omega arith) (omega (arith, at-loop c .loop .inv .1, at-start (at-loop c) .pre))
+      (c .coded-word .ensures ∙ ap wordOf (at-loop c .loop .inv .2))
+      (at-loop c .loop .inv .3),
 )
 
 returns : tie.Need-returns Inv-loop μ-loop
