@@ -13,14 +13,18 @@ use Rattle.control_messages.proofs.Attaching.{attached-put}
 use Rattle.control_messages.proofs.attachment.crc_attachment.Statement.{statement}
 use Rattle.control_messages.proofs.attachment.crc_attachment.Tie as tie
 
+-- the ways back
+abbrev at-start : tie.After-copy-arg → tie.Start
+at-start c = c .before .before .before
+
 slice-relend-prefix-copy : tie.Need-slice-relend-prefix-copy
 slice-relend-prefix-copy c = search needs
 
 slice-aggregate-copy : tie.Need-slice-aggregate-copy
-slice-aggregate-copy c = let start = c .before .before .before in front-count (length (start .args .payload .now)) (start .args .bits .now) (omega arith)
+slice-aggregate-copy c = let start = at-start c in front-count (length (start .args .payload .now)) (start .args .bits .now) (omega arith)
 
 copy-requires : tie.Need-copy-requires
-copy-requires c κs = let start = c .before .before .before in rw (length-take-le (length (start .args .payload .now)) (start .args .bits .now) (omega arith)) (omega arith)
+copy-requires c κs = let start = at-start c in rw (length-take-le (length (start .args .payload .now)) (start .args .bits .now) (omega arith)) (omega arith)
 
 crc16-requires : tie.Need-crc16-requires
 crc16-requires c κs = search needs
@@ -46,7 +50,7 @@ returns c =
     let put = c .before .before in
     let checked = put .before .before in
     let copied = checked .before .before .before in
-    let start = copied .before .before .before .before in
+    let start = at-start (copied .before) in
     attached-put (start .args .payload .now) (start .args .bits .now) (start .args .terminal)
     (all-copied (start .args .payload .now) _ (copied .copy .ensures .1) (length-take-le (length (start .args .payload .now)) (start .args .bits .now) (omega arith)))
     (start .pre)

@@ -15,6 +15,10 @@ Inv-loop bits n₀ i₀ n i = (i ≤ length bits) × (n < 65536) × Numbering bi
 abbrev μ-loop : tie.MeasureT-loop
 μ-loop bits n₀ i₀ n i = length bits - i
 
+-- the ways back
+abbrev at-turn : tie.After-shared-slice-known Inv-loop μ-loop → tie.In-loop Inv-loop μ-loop
+at-turn c = c .before
+
 -- the number of all 16 bits
 below : (c : tie.Start Inv-loop μ-loop) → numberOf (c .args .bits .now) < 65536
 below c = rw (c .pre .0) at (number-lt (c .args .bits .now) (c .pre .1))
@@ -29,10 +33,10 @@ shared-slice-read-n : tie.Need-shared-slice-read-n Inv-loop μ-loop
 shared-slice-read-n c = omega arith
 
 cast-n : tie.Need-cast-n Inv-loop μ-loop
-cast-n c = omega (arith, c .shared-slice-known .given (c .before .before .loop .i))
+cast-n c = omega (arith, c .shared-slice-known .given (at-turn c .before .loop .i))
 
 add-n : tie.Need-add-n Inv-loop μ-loop
-add-n c = omega (arith, c .shared-slice-known .given (c .before .before .loop .i))
+add-n c = omega (arith, c .shared-slice-known .given (at-turn c .before .loop .i))
 
 add-i : tie.Need-add-i Inv-loop μ-loop
 add-i c = omega arith
@@ -42,8 +46,8 @@ loop-less c = omega arith
 
 loop-again : tie.Need-loop-again Inv-loop μ-loop
 loop-again c =
-    let next = numbering-next _ (c .before .loop-test .taken) (c .before .before .loop .inv .2) in
-    (omega arith, omega (arith, numbering-few _ next, below (c .before .before .before)), next)
+    let next = numbering-next _ (at-turn c .loop-test .taken) (at-turn c .before .loop .inv .2) in
+    (omega arith, omega (arith, numbering-few _ next, below (at-turn c .before .before)), next)
 
 returns : tie.Need-returns Inv-loop μ-loop
 returns c = numbering-ends _ (omega arith) (c .before .loop .inv .2)

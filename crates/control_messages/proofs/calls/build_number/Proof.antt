@@ -7,6 +7,10 @@ use Rattle.control_messages.proofs.Numbers.{bad-payload-is, bad-length-
 use Rattle.control_messages.proofs.calls.build_number.Statement.{statement}
 use Rattle.control_messages.proofs.calls.build_number.Tie as tie
 
+-- the ways back
+abbrev at-else3 : tie.After-bad-bits → tie.Else3
+at-else3 c = c .before
+
 returns : tie.Need-returns
 unfolding badPayload badLength
 returns c = bad-payload-is _ _ _ (c .if1 .taken)
@@ -26,13 +30,13 @@ returns-4 : tie.Need-returns-4
 unfolding badPayload badLength
 returns-4 c =
     let seen = c .before in
-    bad-bits-is _ _ _ (seen .before .before .before .if1 .left) (seen .before .before .if2 .left) (seen .before .if3 .left) (sym (seen .bad-bits .ensures) ∙ c .if4 .taken)
+    bad-bits-is _ _ _ (at-else3 seen .before .before .if1 .left) (at-else3 seen .before .if2 .left) (at-else3 seen .if3 .left) (sym (seen .bad-bits .ensures) ∙ c .if4 .taken)
 
 returns-5 : tie.Need-returns-5
 unfolding badPayload badLength
 returns-5 c =
     let seen = c .before in
-    accepted-is _ _ _ (seen .before .before .before .if1 .left) (seen .before .before .if2 .left) (seen .before .if3 .left) (sym (seen .bad-bits .ensures) ∙ c .if4 .left)
+    accepted-is _ _ _ (at-else3 seen .before .before .if1 .left) (at-else3 seen .before .if2 .left) (at-else3 seen .if3 .left) (sym (seen .bad-bits .ensures) ∙ c .if4 .left)
 
 pub build-number-spec : {M : Type 1} → statement M
 build-number-spec =

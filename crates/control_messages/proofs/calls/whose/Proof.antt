@@ -17,6 +17,13 @@ use Rattle.control_messages.proofs.Owners.{fits-owner, part-long, part-
 use Rattle.control_messages.proofs.calls.whose.Statement.{statement}
 use Rattle.control_messages.proofs.calls.whose.Tie as tie
 
+-- the ways back
+abbrev at-else1 : tie.After-crc16 → tie.Else1
+at-else1 c = c .before .before
+
+abbrev at-crc16 : tie.After-number-of-arg → tie.After-crc16
+at-crc16 c = c .before
+
 abbrev given : tie.Else1 → List ℕ
 given c = c .before .before .before .args .run .now
 
@@ -57,20 +64,20 @@ part-number-of-end c = search needs
 
 number-of-requires : tie.Need-number-of-requires
 number-of-requires c κs =
-    let test = c .before .before .before in
+    let test = at-else1 (at-crc16 c) in
     (part-long (given test) (enough test) (bits test), part-bits (given test) (enough test) (bits test))
 
 cast-t14 : tie.Need-cast-t14
 cast-t14 c =
-    let test = c .before .before .before .before in
+    let test = at-else1 (at-crc16 (c .before)) in
     record {
-      fits = rw (owner-worked (given test) (enough test) (bits test) (c .before .before .crc16 .ensures) (c .number-of .ensures)) (fits-owner (given test) (enough test) (bits test) .terminal);
+      fits = rw (owner-worked (given test) (enough test) (bits test) (at-crc16 (c .before) .crc16 .ensures) (c .number-of .ensures)) (fits-owner (given test) (enough test) (bits test) .terminal);
     }
 
 returns-2 : tie.Need-returns-2
 returns-2 c =
-    let test = c .before .before .before .before in
-    named-answer (given test) (none test) (owner-worked (given test) (enough test) (bits test) (c .before .before .crc16 .ensures) (c .number-of .ensures))
+    let test = at-else1 (at-crc16 (c .before)) in
+    named-answer (given test) (none test) (owner-worked (given test) (enough test) (bits test) (at-crc16 (c .before) .crc16 .ensures) (c .number-of .ensures))
 
 pub whose-spec : {M : Type 1} → statement M
 whose-spec =

@@ -7,6 +7,10 @@ use Rattle.control_messages.proofs.Numbers.{bad-payload-is, bad-length-
 use Rattle.control_messages.proofs.calls.whose_number.Statement.{statement}
 use Rattle.control_messages.proofs.calls.whose_number.Tie as tie
 
+-- the ways back
+abbrev at-else1 : tie.After-bad-bits → tie.Else1
+at-else1 c = c .before
+
 returns : tie.Need-returns
 unfolding badRun
 returns c = bad-run-is _ (c .if1 .taken)
@@ -16,11 +20,11 @@ bad-bits-requires c κs = search needs
 
 returns-2 : tie.Need-returns-2
 unfolding badRun
-returns-2 c = let seen = c .before in bad-run-bits-is _ (seen .before .if1 .left) (sym (seen .bad-bits .ensures) ∙ c .if2 .taken)
+returns-2 c = let seen = c .before in bad-run-bits-is _ (at-else1 seen .if1 .left) (sym (seen .bad-bits .ensures) ∙ c .if2 .taken)
 
 returns-3 : tie.Need-returns-3
 unfolding badRun
-returns-3 c = let seen = c .before in whose-is _ (seen .before .if1 .left) (sym (seen .bad-bits .ensures) ∙ c .if2 .left)
+returns-3 c = let seen = c .before in whose-is _ (at-else1 seen .if1 .left) (sym (seen .bad-bits .ensures) ∙ c .if2 .left)
 
 pub whose-number-spec : {M : Type 1} → statement M
 whose-number-spec = tie.close (tie.spec returns bad-bits-requires returns-2 returns-3)

@@ -21,10 +21,20 @@ Inv-loop coded d taken₀ rows₀ dummies₀ columns n₀ c₀ q₀ taken n c q 
 abbrev μ-loop : tie.MeasureT-loop
 μ-loop coded d taken₀ rows₀ dummies₀ columns n₀ c₀ q₀ taken n c q = 32 * rows₀ - (c * rows₀ + q)
 
+-- the ways back
+abbrev at-start-from-columns : tie.After-columns Inv-loop μ-loop → tie.Start Inv-loop μ-loop
+at-start-from-columns c = c .before .before
+
+abbrev at-start : tie.At-loop Inv-loop μ-loop → tie.Start Inv-loop μ-loop
+at-start c = at-start-from-columns (c .before)
+
+abbrev at-then1 : tie.After-taken Inv-loop μ-loop → tie.Then1 Inv-loop μ-loop
+at-then1 c = c .before
+
 -- inside the loop
 module _ (c : tie.In-loop Inv-loop μ-loop) where
   abbrev entry : tie.Start Inv-loop μ-loop
-  entry = c .before .before .before .before
+  entry = at-start (c .before)
 
 add-rows : tie.Need-add-rows Inv-loop μ-loop
 add-rows c = omega arith
@@ -39,7 +49,7 @@ columns-requires : tie.Need-columns-requires Inv-loop μ-loop
 columns-requires c κs = search needs
 
 loop-holds : tie.Need-loop-holds Inv-loop μ-loop
-loop-holds c = let start = c .before .before in (c .columns .ensures, omega arith, omega arith, rw zero-mul (taking-start (start .pre .0) (start .pre .1)))
+loop-holds c = let start = at-start-from-columns c in (c .columns .ensures, omega arith, omega arith, rw zero-mul (taking-start (start .pre .0) (start .pre .1)))
 
 add-y : tie.Need-add-y Inv-loop μ-loop
 add-y c = omega arith
@@ -66,12 +76,12 @@ element-copy-out-taken c =
 slice-write-taken : tie.Need-slice-write-taken Inv-loop μ-loop
 unfolding rows dummies
 slice-write-taken c =
-    let inv = c .before .before .before .loop .inv in
-    let size = entry (c .before .before) .pre .0 in
-    omega (arith, size .most, inv .3 .room, room-lt size (inv .0) (c .before .before .loop-test .taken) (inv .2) (inv .3) (c .before .if1 .taken))
+    let inv = at-then1 c .before .before .loop .inv in
+    let size = entry (at-then1 c .before) .pre .0 in
+    omega (arith, size .most, inv .3 .room, room-lt size (inv .0) (at-then1 c .before .loop-test .taken) (inv .2) (inv .3) (at-then1 c .if1 .taken))
 
 add-n : tie.Need-add-n Inv-loop μ-loop
-add-n c = omega (arith, c .before .before .before .loop .inv .3 .few, entry (c .before .before) .pre .0 .most)
+add-n c = omega (arith, at-then1 c .before .before .loop .inv .3 .few, entry (at-then1 c .before) .pre .0 .most)
 
 add-q : tie.Need-add-q Inv-loop μ-loop
 add-q c = omega arith
@@ -112,7 +122,7 @@ same-length c = c .before .loop .inv .3 .told .long
 
 returns : tie.Need-returns Inv-loop μ-loop
 unfolding rows
-returns c = let inv = c .before .loop .inv in taking-ends (c .before .before .before .before .pre .0) (all-passed _ _ _ (c .loop-test .left)) (inv .3)
+returns c = let inv = c .before .loop .inv in taking-ends (at-start (c .before) .pre .0) (all-passed _ _ _ (c .loop-test .left)) (inv .3)
 
 pub interleave-spec : {M : Type 1} → statement M
 interleave-spec =

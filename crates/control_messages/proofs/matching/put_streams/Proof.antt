@@ -10,14 +10,18 @@ use Rattle.control_messages.proofs.Turn.{three-put}
 use Rattle.control_messages.proofs.matching.put_streams.Statement.{statement}
 use Rattle.control_messages.proofs.matching.put_streams.Tie as tie
 
+-- the ways back
+abbrev at-start : tie.After-put-stream-arg → tie.Start
+at-start c = c .before .before
+
 slice-relend-prefix-put-stream : tie.Need-slice-relend-prefix-put-stream
 slice-relend-prefix-put-stream c = search needs
 
 slice-aggregate-put-stream : tie.Need-slice-aggregate-put-stream
-slice-aggregate-put-stream c = front-count 80 (c .before .before .args .ring .now) (omega arith)
+slice-aggregate-put-stream c = front-count 80 (at-start c .args .ring .now) (omega arith)
 
 put-stream-requires : tie.Need-put-stream-requires
-put-stream-requires c κs = (omega arith, length-take-le 80 (c .before .before .args .ring .now) (omega arith))
+put-stream-requires c κs = (omega arith, length-take-le 80 (at-start c .args .ring .now) (omega arith))
 
 add-second : tie.Need-add-second
 add-second c = search needs
@@ -60,7 +64,7 @@ returns c =
     let third = c .before .before in
     let second = third .before .before .before .before in
     let first = second .before .before .before .before in
-    let entry = first .before .before .before in
+    let entry = at-start (first .before) in
     let d = entry .args .d in
     three-put d (d + d + 80 - (d + d)) (d + 80 - d) (entry .args .ring .now) (entry .args .taken .now) (entry .pre .0) (first .put-stream .ensures) (second .put-stream2 .ensures) (third .put-stream3 .ensures)
 

@@ -11,6 +11,10 @@ use Rattle.control_messages.proofs.Turn.{turn-front, repeated}
 use Rattle.control_messages.proofs.matching.rate_matching.Statement.{statement}
 use Rattle.control_messages.proofs.matching.rate_matching.Tie as tie
 
+-- the ways back
+abbrev at-put-streams : tie.After-ring3 → tie.After-put-streams
+at-put-streams c = c .before .before
+
 slice-aggregate-interleave : tie.Need-slice-aggregate-interleave
 slice-aggregate-interleave c = search needs
 
@@ -33,7 +37,7 @@ array-share-prefix-ring : tie.Need-array-share-prefix-ring
 array-share-prefix-ring c = search needs
 
 slice-aggregate-turn-after-turn : tie.Need-slice-aggregate-turn-after-turn
-slice-aggregate-turn-after-turn c = front-count _ (c .before .before .put-streams .last .1 .1 .0) (search needs)
+slice-aggregate-turn-after-turn c = front-count _ (at-put-streams c .put-streams .last .1 .1 .0) (search needs)
 
 turn-after-turn-requires : tie.Need-turn-after-turn-requires
 turn-after-turn-requires c κs = search needs
@@ -44,7 +48,7 @@ same-length c = search needs
 returns : tie.Need-returns
 returns c =
     let turned = c .before .before in
-    let put = turned .before .before .before .before in
+    let put = at-put-streams (turned .before .before) in
     let taken = put .before .before .before .before in
     let entry = taken .before .before .before in
     repeated (entry .args .out .now) (inColumns (entry .args .d) (entry .args .coded .now)) (entry .pre)
