@@ -105,25 +105,11 @@ none-of (a ∷ rs) t e r w = by (a .bad) refl (numbered-cons a rs t .0) e (none-
 pub passed : (rs : List Rule) {n : ℕ} → n ≡ firstOf rs → n ≡ 0 → T (numbered rs) → (r : Rule) → Listed r rs → r .bad ≡ false
 passed rs e z t r w = none-of rs t (sym e ∙ z) r w
 
-clear : (rs : List Rule) → T (numbered rs) → firstOf rs ≡ 0 → (i : ℕ) → getD rs i never .bad ≡ false
-unfolding firstOf
-clear [] t e i = refl
-clear (r ∷ rs) t e i = by (r .bad) refl (numbered-cons r rs t .0) e (clear rs (numbered-cons r rs t .1)) i
-  where
-    by : (b : Bool) → r .bad ≡ b → eqb (r .number) 0 ≡ false → given b (r .number) (firstOf rs) ≡ 0
-        → (firstOf rs ≡ 0 → (i : ℕ) → getD rs i never .bad ≡ false) → (i : ℕ) → getD (r ∷ rs) i never .bad ≡ false
-    by true q k e f i = absurd (eqb-false (r .number) 0 k e)
-    by false q k e f zero = q
-    by false q k e f (suc i) = f e i
-
-pub cleared : (rs : List Rule) {n : ℕ} → n ≡ firstOf rs → n ≡ 0 → T (numbered rs) → (i : ℕ) → getD rs i never .bad ≡ false
-cleared rs e z t i = clear rs t (sym e ∙ z) i
-
 -- where no rule applies it is 0
-pub none-applies : (rs : List Rule) → ((i : ℕ) → i < length rs → getD rs i never .bad ≡ false) → firstOf rs ≡ 0
+pub none-applies : (rs : List Rule) → ((r : Rule) → Listed r rs → r .bad ≡ false) → firstOf rs ≡ 0
 unfolding firstOf
 none-applies [] h = refl
-none-applies (r ∷ rs) h = ap₂ (λ (b : Bool) (n : ℕ). given b (r .number) n) (h 0 (omega arith)) (none-applies rs (λ i l. h (suc i) (omega arith)))
+none-applies (r ∷ rs) h = ap₂ (λ (b : Bool) (n : ℕ). given b (r .number) n) (h r here) (none-applies rs (λ s w. h s (later w)))
 
 -- n is the number of the rule at `place`, which applies, and none before it does
 pub record First (rs : List Rule) (n : ℕ) : Type 0 where
