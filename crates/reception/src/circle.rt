@@ -1,18 +1,20 @@
-// The bits of a code block put along its circle, run by run: the places of a column that hold a bit lie side by side.
-use rate_matching::rows_before;
-use rate_matching::table::columns;
+// The bits of a code block put along its circle, unit by unit: most places of a unit that hold a bit lie side by side.
+use rate_matching::CirclePlace;
+use rate_matching::Unit;
+use rate_matching::unit_at;
 ghost use mathlib.Core.Path.{_≡_};
 ghost use mathlib.Core.Bool.{cond};
-ghost use Prim.Native.Nat.{_+_, _-_, _*_, _≤_, _<_};
+ghost use Prim.Native.Nat.{_+_, _-_, _/_, _≤_, _<_};
 ghost use lib.Dec.{eqb};
 ghost use lib.ListN.{length, take};
 ghost use Rattle.laws.specs.Bits.{AreBits};
 ghost use Rattle.laws.specs.Lists.{tab, tabFrom};
-ghost use Rattle.rate_matching.specs.SubBlocks.{rows, rowsBefore};
+ghost use Rattle.rate_matching.specs.SubBlocks.{rows};
 ghost use Rattle.rate_matching.specs.Walk.{itself};
-ghost use Rattle.rate_matching.specs.Shape.{shape, bitPlaces, second, pairPlaces, lastPlace};
+ghost use Rattle.rate_matching.specs.Shape.{shape, bitPlaces};
+ghost use Rattle.rate_matching.specs.Units.{unitPlaces, unitStart, Lies};
 ghost use Rattle.slots.specs.Room.{disputed, meet};
-ghost use Rattle.reception.specs.inner.Along.{putFirst, Put, AllKnown, ringAfter, turnIn, Walked, Sends, Column};
+ghost use Rattle.reception.specs.inner.Along.{putFirst, Put, AllKnown, ringAfter, turnIn, everySecond, Walked, Sends};
 
 // What a place that kept `old` keeps after the bit `new`: no branch, so that a run is met many places at a time.
 fn met(old: u8, new: u8) -> u8
@@ -84,8 +86,42 @@ pub(crate) fn meet_turns(bits: &[u8], ring: &mut [u8])
     agree_run(&bits[i..], ring);
 }
 
-// Puts bits in the columns of stream 0 from column `from` to column `to`.
-fn put_columns(
+// Puts bits at the places of the circle from `from` to `to`, which lie side by side. The byte of a place has its number.
+fn put_places(bits: &[u8], at: usize, from: CirclePlace, to: CirclePlace, part: &mut [u8]) -> usize
+    requires { ⌜ (at ≤ length (now bits)) × (from .0 ≤ to .0) × (to .0 ≤ length (now part)) ⌝ }
+    ensures { λ r. ⌜ Put (tabFrom (from .0) (to .0 - from .0) itself) (now (bits .entry)) at (now (part .entry)) (now (part .exit)) r ⌝ }
+{
+    let start = from.0;
+    let end = to.0;
+    put_run(bits, at, &mut part[start..end])
+}
+
+// Puts bits at every second place of the circle from `from` on, up to `to`.
+fn put_alone(bits: &[u8], at: usize, from: CirclePlace, to: CirclePlace, part: &mut [u8]) -> usize
+    requires { ⌜ (at ≤ length (now bits)) × (from .0 ≤ to .0 + 1) × (to .0 ≤ length (now part)) ⌝ }
+    ensures { λ r. ⌜ Put (tab ((to .0 + 1 - from .0) / 2) (everySecond (from .0))) (now (bits .entry)) at (now (part .entry)) (now (part .exit)) r ⌝ }
+{
+    let mut i = at;
+    let mut place = from;
+    while place.0 < to.0 {
+        let next = CirclePlace(place.0 + 1);
+        i = put_places(bits, i, place, next, part);
+        place = CirclePlace(next.0 + 1);
+    }
+    i
+}
+
+// Puts bits at the places of a unit that hold one.
+fn put_unit(unit: Unit, bits: &[u8], at: usize, part: &mut [u8]) -> usize
+    requires { ⌜ Lies unit × (unit .end .0 ≤ length (now part)) × (at ≤ length (now bits)) ⌝ }
+    ensures { λ r. ⌜ Put (unitPlaces unit) (now (bits .entry)) at (now (part .entry)) (now (part .exit)) r ⌝ }
+{
+    let i = put_alone(bits, at, unit.alone, unit.both, part);
+    put_places(bits, i, unit.both, unit.end, part)
+}
+
+// Puts bits in the units from unit `from` to unit `to`.
+fn put_units(
     d: usize,
     filler: usize,
     from: usize,
@@ -94,122 +130,28 @@ fn put_columns(
     at: usize,
     part: &mut [u8],
 ) -> usize
-    requires { ⌜ Walked d filler (length (now part)) × (from ≤ to) × (to ≤ 32) × (at ≤ length (now bits)) ⌝ }
-    ensures { λ r. ⌜ Put (bitPlaces (shape d filler) (from * rows d) (to * rows d))
+    requires { ⌜ Walked d filler (length (now part)) × (from ≤ to) × (to ≤ 64) × (at ≤ length (now bits)) ⌝ }
+    ensures { λ r. ⌜ Put (bitPlaces (shape d filler) (unitStart (rows d) from) (unitStart (rows d) to))
         (now (bits .entry)) at (now (part .entry)) (now (part .exit)) r ⌝ }
 {
-    let p = columns();
-    let rows = (d + 31) / 32;
-    let absent = 32 * rows - d + filler;
     let mut i = at;
-    let mut j = from * rows;
-    let mut c = from;
-    while c < to {
-        let start = j + rows_before(absent, p[c] as usize);
-        let end = j + rows;
-        i = put_run(bits, i, &mut part[start..end]);
-        j = end;
-        c += 1;
+    let mut u = from;
+    while u < to {
+        i = put_unit(unit_at(d, filler, u), bits, i, part);
+        u += 1;
     }
     i
 }
 
-// Puts bits in the places of stream 2 alone, from row `from` to row `to` of a column of streams 1 and 2.
-fn put_alone(from: usize, to: usize, bits: &[u8], at: usize, part: &mut [u8]) -> usize
-    requires { ⌜ (from ≤ to) × (2 * to ≤ length (now part)) × (at ≤ length (now bits)) ⌝ }
-    ensures { λ r. ⌜ Put (tabFrom from (to - from) second) (now (bits .entry)) at (now (part .entry)) (now (part .exit)) r ⌝ }
+// Puts bits at the first `rest` places that hold one of a unit that the cut shortens.
+fn put_rest(unit: Unit, rest: usize, bits: &[u8], at: usize, part: &mut [u8]) -> usize
+    requires { ⌜ Lies unit × (unit .end .0 ≤ length (now part)) × (at ≤ length (now bits)) ⌝ }
+    ensures { λ r. ⌜ Put (take rest (unitPlaces unit)) (now (bits .entry)) at (now (part .entry)) (now (part .exit)) r ⌝ }
 {
-    let mut i = at;
-    let mut q = from;
-    while q < to {
-        let start = 2 * q + 1;
-        let end = start + 1;
-        i = put_run(bits, i, &mut part[start..end]);
-        q += 1;
-    }
-    i
-}
-
-// Puts bits in a column of streams 1 and 2, which is the whole of `part`. Its last place is a dummy where the column is the last of all,
-// 31: the shift brings it there.
-fn put_pair(
-    rows: usize,
-    column: usize,
-    dummies: usize,
-    absent: usize,
-    bits: &[u8],
-    at: usize,
-    part: &mut [u8],
-) -> usize
-    requires { ⌜ Column rows column dummies absent (length (now part)) × (at ≤ length (now bits)) ⌝ }
-    ensures { λ r. ⌜ Put (pairPlaces (rowsBefore dummies (column + 1)) (rowsBefore absent column) (lastPlace rows column))
-        (now (bits .entry)) at (now (part .entry)) (now (part .exit)) r ⌝ }
-{
-    let first = rows_before(absent, column);
-    let i = put_alone(rows_before(dummies, column + 1), first, bits, at, part);
-    let start = 2 * first;
-    let last = 2 * rows - column / 31;
-    put_run(bits, i, &mut part[start..last])
-}
-
-// Puts bits in the columns of streams 1 and 2 from column `from` to column `to`.
-fn put_pairs(
-    d: usize,
-    filler: usize,
-    from: usize,
-    to: usize,
-    bits: &[u8],
-    at: usize,
-    part: &mut [u8],
-) -> usize
-    requires { ⌜ Walked d filler (length (now part)) × (from ≤ to) × (to ≤ 32) × (at ≤ length (now bits)) ⌝ }
-    ensures { λ r. ⌜ Put (bitPlaces (shape d filler) (32 * rows d + from * (2 * rows d)) (32 * rows d + to * (2 * rows d)))
-        (now (bits .entry)) at (now (part .entry)) (now (part .exit)) r ⌝ }
-{
-    let p = columns();
-    let rows = (d + 31) / 32;
-    let dummies = 32 * rows - d;
-    let mut i = at;
-    let mut j = 32 * rows + from * (2 * rows);
-    let mut c = from;
-    while c < to {
-        let end = j + 2 * rows;
-        i = put_pair(
-            rows,
-            p[c] as usize,
-            dummies,
-            dummies + filler,
-            bits,
-            i,
-            &mut part[j..end],
-        );
-        j = end;
-        c += 1;
-    }
-    i
-}
-
-// Puts bits in the first `rest` places that hold a bit of column c of streams 1 and 2: those before the cut.
-fn put_rest(
-    d: usize,
-    filler: usize,
-    c: usize,
-    rest: usize,
-    bits: &[u8],
-    at: usize,
-    part: &mut [u8],
-) -> usize
-    requires { ⌜ Walked d filler (length (now part)) × (0 < rest → c < 32) × (at ≤ length (now bits)) ⌝ }
-    ensures { λ r. ⌜ Put (take rest (bitPlaces (shape d filler) (32 * rows d + c * (2 * rows d)) (32 * rows d + (c + 1) * (2 * rows d))))
-        (now (bits .entry)) at (now (part .entry)) (now (part .exit)) r ⌝ }
-{
-    if rest == 0 {
-        return at;
-    }
     let left = bits.len() - at;
     let n = if left < rest { left } else { rest };
     let end = at + n;
-    put_pairs(d, filler, c, c + 1, &bits[..end], at, part)
+    put_unit(unit, &bits[..end], at, part)
 }
 
 // Puts the bits of one turn of redundancy version `version`, or as many as there are, and tells how many. The code block has a share `soft` of the soft
@@ -229,14 +171,8 @@ pub(crate) fn put_round(
         return 0;
     }
     let turn = rate_matching::turn_of(d, filler, soft, version);
-    let start = turn.start;
-    let whole = turn.whole - 32;
-    // the version starts at the head of a column: of stream 0, or past its 32 of streams 1 and 2
-    let s = if start < 32 { start } else { 32 };
-    let p = start - s;
-    let first = put_columns(d, filler, s, 32, bits, 0, part);
-    let second = put_pairs(d, filler, p, whole, bits, first, part);
-    let third = put_rest(d, filler, whole, turn.rest, bits, second, part);
-    let fourth = put_columns(d, filler, 0, s, bits, third, part);
-    put_pairs(d, filler, 0, p, bits, fourth, part)
+    let first = put_units(d, filler, turn.start, turn.whole, bits, 0, part);
+    let cut = unit_at(d, filler, turn.whole);
+    let second = put_rest(cut, turn.rest, bits, first, part);
+    put_units(d, filler, 0, turn.start, bits, second, part)
 }

@@ -50,10 +50,6 @@ pub record Sends (D F soft v long : ℕ) : Type 0 where
 unfoldable pub turnIn : ℕ → ℕ → ℕ → ℕ → List ℕ
 turnIn D F soft v = turn (take (cutAt soft (rows D)) (shape D F)) (startIn (cutAt soft (rows D)) (rows D) v)
 
--- a column of R rows of streams 1 and 2 from original position u, in a list of `long` entries: some places absent at least from stream 1, and not all
-pub record Column (R u N absent long : ℕ) : Type 0 where
-  pub few : R ≤ 193
-  pub position : u < 32
-  pub more : N ≤ absent
-  pub less : absent < 32 * R
-  pub fits : long ≡ 2 * R
+-- place k of every second one from a place on
+unfoldable pub everySecond : ℕ → ℕ → ℕ
+everySecond from k = from + 2 * k

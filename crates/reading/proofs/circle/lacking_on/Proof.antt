@@ -12,8 +12,6 @@ use Rattle.reading.proofs.Lacking.{inPart, parts-sum, column-there, col
 use Rattle.reading.proofs.circle.lacking_on.Statement.{statement}
 use Rattle.reading.proofs.circle.lacking_on.Tie as tie
 
-
-
 abbrev Inv-loop : tie.InvT-loop
 Inv-loop circle k f d n₀ c₀ n c = Summing (inPart circle k f) 32 193 c n
 

@@ -1,6 +1,6 @@
--- `circle::put_alone` meets its contract: one row a turn (`Walking`).
+-- `circle::put_alone` meets its contract: one place a turn (`Walking`).
 -- Assumes nothing.
-use Prim.Native.Nat.{_-_}
+use Prim.Native.Nat.{_+_, _-_}
 use native.Mathlib.Omega.{arith}
 use Rattle.reception.proofs.Along.{put-long, put-within}
 use Rattle.reception.proofs.Walking.{Alone, alone-start, alone-next, alone-finish}
@@ -8,52 +8,47 @@ use Rattle.reception.proofs.circle.put_alone.Statement.{statement}
 use Rattle.reception.proofs.circle.put_alone.Tie as tie
 
 abbrev Inv-loop : tie.InvT-loop
-Inv-loop from to bits at part₀ i₀ q₀ part i q = Alone from to bits at part₀ part i q
+Inv-loop bits at to part₀ i₀ place₀ part i place = Alone (place₀ .0) (to .0) bits at part₀ part i (place .0)
 
 abbrev μ-loop : tie.MeasureT-loop
-μ-loop from to bits at part₀ i₀ q₀ part i q = to - q
+μ-loop bits at to part₀ i₀ place₀ part i place = to .0 + 1 - place .0
+
+-- in the loop: where it goes on, and the function's entry
+abbrev at-loop : tie.Then1 Inv-loop μ-loop → tie.At-loop Inv-loop μ-loop
+at-loop c = c .before .before .before
+
+abbrev entry : tie.Then1 Inv-loop μ-loop → tie.Start Inv-loop μ-loop
+entry c = at-loop c .before .before .before
 
 loop-holds : tie.Need-loop-holds Inv-loop μ-loop
-loop-holds c = alone-start (c .before .before .pre .0) (c .before .before .pre .2)
+loop-holds c = let s = c .before .before in alone-start (s .pre .1) (s .pre .0)
 
-mul-start : tie.Need-mul-start Inv-loop μ-loop
-mul-start c = omega arith
+add-t10 : tie.Need-add-t10 Inv-loop μ-loop
+add-t10 c = omega (arith, c .before .if1 .taken)
 
-add-start : tie.Need-add-start Inv-loop μ-loop
-add-start c = omega arith
+put-places-requires : tie.Need-put-places-requires Inv-loop μ-loop
+put-places-requires c κs =
+    let t = c .before .before in
+    let l = at-loop t .loop .inv in
+    (put-within (l .put), omega arith, omega (arith, t .if1 .taken, entry t .pre .2, put-long (l .put)))
 
-add-end : tie.Need-add-end Inv-loop μ-loop
-add-end c = omega arith
-
-sub-put-run : tie.Need-sub-put-run Inv-loop μ-loop
-sub-put-run c = omega arith
-
-part-put-run-start : tie.Need-part-put-run-start Inv-loop μ-loop
-part-put-run-start c = omega arith
-
-part-put-run-end : tie.Need-part-put-run-end Inv-loop μ-loop
-part-put-run-end c = omega (arith, put-long (c .before .loop .inv .put))
-
-put-run-requires : tie.Need-put-run-requires Inv-loop μ-loop
-put-run-requires c κs = put-within (c .before .before .loop .inv .put)
-
-add-q : tie.Need-add-q Inv-loop μ-loop
-add-q c = omega arith
+add-t10-2 : tie.Need-add-t10-2 Inv-loop μ-loop
+add-t10-2 c = omega (arith, c .before .before .before .before .before .before .if1 .taken)
 
 loop-less : tie.Need-loop-less Inv-loop μ-loop
-loop-less c = omega arith
+loop-less c = omega (arith, c .before .before .before .before .before .before .if1 .taken)
 
 loop-again : tie.Need-loop-again Inv-loop μ-loop
 loop-again c =
-    let l = c .before .before .before .before .before in
-    let e = l .before .before .before in
-    alone-next (omega arith) (e .pre .1) (e .pre .2) (l .loop .inv) (c .before .before .put-run .ensures)
+    let p = c .before .before .before in
+    let t = p .before .before .before in
+    alone-next (t .if1 .taken) (entry t .pre .0) (at-loop t .loop .inv) (p .put-places .ensures)
 
 same-length : tie.Need-same-length Inv-loop μ-loop
-same-length c = put-long (c .before .loop .inv .put)
+same-length c = put-long (c .before .before .before .loop .inv .put)
 
 returns : tie.Need-returns Inv-loop μ-loop
-returns c = alone-finish (omega arith) (c .before .loop .inv)
+returns c = alone-finish (c .if1 .left) (c .before .before .before .loop .inv)
 
 pub put-alone-spec : {M : Type 1} → statement M
 put-alone-spec =
@@ -62,14 +57,9 @@ put-alone-spec =
     Inv-loop
     μ-loop
     loop-holds
-    mul-start
-    add-start
-    add-end
-    sub-put-run
-    part-put-run-start
-    part-put-run-end
-    put-run-requires
-    add-q
+    add-t10
+    put-places-requires
+    add-t10-2
     loop-less
     loop-again
     same-length
