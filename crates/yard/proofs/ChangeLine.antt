@@ -1,19 +1,18 @@
 -- Laws of a line that changes the form (`changeStep`): from what the calls gave to what the definitions say, refused and accepted.
 -- Assumes nothing.
-use mathlib.Core.Path.{_≡_, refl, sym, _∙_, ap}
-use mathlib.Core.Bool.{Bool, true, false, cond}
+use mathlib.Core.Path.{_≡_, _∙_}
+use mathlib.Core.Bool.{Bool}
 use mathlib.Core.List.{List}
 use Prim.Native.Nat.{ℕ}
-use lib.Dec.{eqb}
 use lib.ListN.{length}
 use borrow.Author.Tests.{eq-eqb, ne-eqb}
 use Rattle.slots.specs.declared.State.{State}
 use Rattle.slots.specs.declared.Answer.the-variants.{Done}
 use Rattle.lines.specs.Put.{putAt, endAt}
 use Rattle.answers.specs.Rows.{answerRow, refusalRow}
-use Rattle.forms.specs.Change.{roomsChanged}
 use Rattle.yard.specs.declared.Step.{Step}
-use Rattle.yard.specs.Change.{formNumber, changeRow, formAfter, plainChanged, packedChanged}
+use Rattle.yard.specs.Change.{changeRow, formAfter}
+use Rattle.form_changes.specs.Change.{formNumber, plainChanged, packedChanged}
 use Rattle.yard.specs.Step.{changeStep}
 use Rattle.yard.proofs.Steps.{same-step}
 
@@ -25,20 +24,18 @@ module _ (state : State) (four to : Bool) (plain packed out : List ℕ) {number 
       × ((plain′ ≡ plainChanged state four to plain packed)
       × ((packed′ ≡ packedChanged state four to plain packed) × (out′ ≡ putAt 0 (changeRow state (length plain) (length packed)) out)))
 
-  module _ (step : Step) (out′ : List ℕ) {written : ℕ} where
+  module _ (plain′ packed′ : List ℕ) (p : plain′ ≡ plainChanged state four to plain packed) (q : packed′ ≡ packedChanged state four to plain packed)
+      (step : Step) (out′ : List ℕ) {written : ℕ} where
     pub change-refused : (number ≡ 0 → ⊥) → (step .state ≡ state) × (step .four ≡ four) × (step .written ≡ written)
-        → (written ≡ endAt 0 (refusalRow number) out) × (out′ ≡ putAt 0 (refusalRow number) out) → Told step plain packed out′
-    unfolding changeStep changeRow formAfter plainChanged packedChanged
+        → (written ≡ endAt 0 (refusalRow number) out) × (out′ ≡ putAt 0 (refusalRow number) out) → Told step plain′ packed′ out′
+    unfolding changeStep changeRow formAfter
     change-refused h made put =
         let no = ne-eqb number 0 h in
-        rw (← e, no) (same-step (made .0) (made .1) (made .2 ∙ put .0), (refl, (refl, put .1)))
+        (rw (← e, no) (same-step (made .0) (made .1) (made .2 ∙ put .0)), (p, (q, rw (← e, no) (put .1))))
 
     pub change-accepted : number ≡ 0 → (step .state ≡ state) × (step .four ≡ to) × (step .written ≡ written)
-        → (written ≡ endAt 0 (answerRow Done) out) × (out′ ≡ putAt 0 (answerRow Done) out) → (plain′ packed′ : List ℕ)
-        → plain′ ≡ cond to plain (cond four (roomsChanged false (state .blocks) (state .slots) packed plain) plain)
-        → packed′ ≡ cond to (cond four packed (roomsChanged true (state .blocks) (state .slots) plain packed)) packed
-        → Told step plain′ packed′ out′
-    unfolding changeStep changeRow formAfter plainChanged packedChanged
-    change-accepted z made put plain′ packed′ p q =
+        → (written ≡ endAt 0 (answerRow Done) out) × (out′ ≡ putAt 0 (answerRow Done) out) → Told step plain′ packed′ out′
+    unfolding changeStep changeRow formAfter
+    change-accepted z made put =
         let yes = eq-eqb number 0 z in
-        rw (← e, yes) (same-step (made .0) (made .1) (made .2 ∙ put .0), (p, (q, put .1)))
+        (rw (← e, yes) (same-step (made .0) (made .1) (made .2 ∙ put .0)), (p, (q, rw (← e, yes) (put .1))))

@@ -1,5 +1,4 @@
 pub mod Given
 pub mod Steps
-pub mod Changed
 pub mod ChangeLine
 pub mod Lines

@@ -15,7 +15,8 @@ use Rattle.requests.specs.declared.Verb.{Verb}
 use Rattle.requests.specs.declared.Request.{Request}
 use Rattle.requests.specs.Request.{requestOf}
 use Rattle.yard.specs.declared.Step.{Step}
-use Rattle.yard.specs.Change.{changes, packs, changeRow, plainChanged, packedChanged}
+use Rattle.yard.specs.Change.{changes, packs, changeRow}
+use Rattle.form_changes.specs.Change.{plainChanged, packedChanged}
 use Rattle.yard.specs.Step.{callRow, callStep, callStore, rowOfLine, changeStep, stepOf, plainAfter, packedAfter, outAfter, longestRow, stepWithin, plainWithin, packedWithin, outWithin}
 
 module _ (state : State) (four : Bool) (plain packed line out : List ℕ) {request : Request} (read : request ≡ requestOf line) where

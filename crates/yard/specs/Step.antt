@@ -19,8 +19,9 @@ use Rattle.answers.specs.Rows.{answerRow, refusalRow}
 use Rattle.answers.specs.SizesRow.{sizesRow}
 use Rattle.answers.specs.WorstRow.{worstRow}
 use Rattle.yard.specs.declared.Step.{Step}
-use Rattle.yard.specs.Change.{changes, packs, changeRow, formAfter, plainChanged, packedChanged}
 use Rattle.codeword.specs.Shares.{grant}
+use Rattle.yard.specs.Change.{changes, packs, changeRow, formAfter}
+use Rattle.form_changes.specs.Change.{plainChanged, packedChanged}
 use Rattle.call_rows.specs.Rows.{at, shareRow, readRow, streamsRow, buildRow, buildDownRow}
 
 -- the row that answers a verb with its numbers n and bits on the places of the rooms: none for a line that asks for nothing, 15 for one that can't

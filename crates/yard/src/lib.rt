@@ -18,7 +18,8 @@ ghost use Rattle.lines.specs.Put.{putAt, endAt};
 ghost use Rattle.requests.specs.Request.{requestOf, bitsFrom, longestLine};
 ghost use Rattle.answers.specs.Rows.{answerRow};
 ghost use Rattle.call_rows.specs.Rows.{at, shareRow, buildRow, buildDownRow};
-ghost use Rattle.yard.specs.Change.{changeRow, plainChanged, packedChanged};
+ghost use Rattle.yard.specs.Change.{changeRow};
+ghost use Rattle.form_changes.specs.Change.{plainChanged, packedChanged};
 ghost use Rattle.yard.specs.Step.{callRow, callStep, callStore, changeStep, stepOf, plainAfter, packedAfter, outAfter, stepWithin, plainWithin, packedWithin, outWithin};
 
 // The state and the form of the rooms to hand to the next line, and the length of the row that answers this one.
@@ -101,12 +102,11 @@ fn change_line(
     ensures { λ r. ⌜ now (packed .exit) ≡ packedChanged state four to (now (plain .entry)) (now (packed .entry)) ⌝ }
     ensures { λ r. ⌜ now (out .exit) ≡ putAt 0 (changeRow state (length (now (plain .entry))) (length (now (packed .entry)))) (now (out .entry)) ⌝ }
 {
-    let number = change::form_number(state, plain.len(), packed.len());
+    let number = form_changes::change_form(state, four, to, plain, packed);
     if number != 0 {
         let refused = answers::put_refusal(number as usize, out);
         return unchanged(state, four, refused);
     }
-    change::move_rooms(state, four, to, plain, packed);
     let written = answers::put_answer(Answer::Done, out);
     unchanged(state, to, written)
 }

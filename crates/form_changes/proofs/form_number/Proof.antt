@@ -1,9 +1,9 @@
--- `yard::change::form_number` meets its contract: each test is the definition's own, by division.
+-- `form_changes::form_number` meets its contract: each test is the definition's own, by division.
 -- Assumes nothing.
 use borrow.Author.Needs.{needs}
-use Rattle.yard.proofs.Changed.{none-number, many-number, plain-short, packed-short, both-fit}
-use Rattle.yard.proofs.change.form_number.Statement.{statement}
-use Rattle.yard.proofs.change.form_number.Tie as tie
+use Rattle.form_changes.proofs.Changed.{none-number, many-number, plain-short, packed-short, both-fit}
+use Rattle.form_changes.proofs.form_number.Statement.{statement}
+use Rattle.form_changes.proofs.form_number.Tie as tie
 
 returns : tie.Need-returns
 returns c = none-number _ _ _ (c .if1 .taken)

@@ -1,4 +1,4 @@
--- `yard::change::change_rooms` meets its contract: a loop over the rooms, with the laws of `Changed`.
+-- `form_changes::change_rooms` meets its contract: a loop over the rooms, with the laws of `Changed`.
 -- Assumes nothing.
 use mathlib.Core.Path.{_≡_, refl, sym, _∙_, ap}
 use mathlib.Core.Bool.{Bool, true, false, not}
@@ -11,9 +11,9 @@ use mir.Val.{Fits}
 use denote.Ref.{now}
 use Rattle.packing.specs.Store.{bytesABlock}
 use Rattle.forms.specs.Change.{roomIn}
-use Rattle.yard.proofs.Changed.{Changing, begin, from-fits, to-fits, next, done}
-use Rattle.yard.proofs.change.change_rooms.Statement.{statement}
-use Rattle.yard.proofs.change.change_rooms.Tie as tie
+use Rattle.form_changes.proofs.Changed.{Changing, begin, from-fits, to-fits, next, done}
+use Rattle.form_changes.proofs.change_rooms.Statement.{statement}
+use Rattle.form_changes.proofs.change_rooms.Tie as tie
 
 -- a code block's bytes
 few : (four : Bool) → bytesABlock four ≤ 18528

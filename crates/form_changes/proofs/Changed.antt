@@ -18,7 +18,7 @@ use Rattle.refusals.proofs.Refusals.{passed, listed}
 use Rattle.packing.specs.Change.{badBlocks, blocksRule, bytesRule, changeNumber}
 use Rattle.packing.proofs.Rooms.{in-range, refused-13, refused-5, refused-5-too, accepted}
 use Rattle.forms.specs.Change.{roomIn, roomChanged, roomsChanged, roomsNumber}
-use Rattle.yard.specs.Change.{formNumber}
+use Rattle.form_changes.specs.Change.{formNumber}
 
 -- ---- the loop over the rooms
 

@@ -1,9 +1,9 @@
--- `yard::change::change_room` meets its contract: the change into each form.
+-- `form_changes::change_room` meets its contract: the change into each form.
 -- Assumes nothing.
 use borrow.Author.Needs.{needs}
 use Rattle.forms.specs.Change.{roomChanged}
-use Rattle.yard.proofs.change.change_room.Statement.{statement}
-use Rattle.yard.proofs.change.change_room.Tie as tie
+use Rattle.form_changes.proofs.change_room.Statement.{statement}
+use Rattle.form_changes.proofs.change_room.Tie as tie
 
 pack-room-requires : tie.Need-pack-room-requires
 pack-room-requires c κs = search needs

@@ -1,11 +1,11 @@
--- `yard::change::move_rooms` meets its contract: each way by its own, with the laws of `Changed`.
+-- `form_changes::move_rooms` meets its contract: each way by its own, with the laws of `Changed`.
 -- Assumes nothing.
 use mathlib.Core.Path.{_≡_, refl}
 use borrow.Author.Tests.{not-true, not-false}
 use borrow.Author.Needs.{needs}
-use Rattle.yard.proofs.Changed.{rooms-fit}
-use Rattle.yard.proofs.change.move_rooms.Statement.{statement}
-use Rattle.yard.proofs.change.move_rooms.Tie as tie
+use Rattle.form_changes.proofs.Changed.{rooms-fit}
+use Rattle.form_changes.proofs.move_rooms.Statement.{statement}
+use Rattle.form_changes.proofs.move_rooms.Tie as tie
 
 returns : tie.Need-returns
 returns c = search needs
