@@ -3,6 +3,7 @@
 use mathlib.Core.Path.{_≡_, sym, _∙_, ap}
 use mathlib.Core.List.{List, [], append-nil}
 use Prim.Native.Nat.{ℕ}
+use Rattle.codeword.specs.declared.Grant.{Grant}
 use Rattle.slots.specs.declared.State.{State}
 use Rattle.statements.specs.Outcome.{Given, Gives, SingleOutcome}
 use Rattle.statements.specs.Calls.{SizesStatement, BuildStatement, BuildTwoStatement, BuildDownStatement, SizesToCStatement, ReportBuildStatement, ReportPartStatement, DataPartStatement, ControlStatement, WhoseStatement, WhoseToCStatement, WorstStatement, PackStatement, UnpackStatement, NewStatement, OpenStatement, OpenDownStatement, ReceiveStatement, ReadStatement, StreamsStatement, CloseStatement, OpenPackedStatement, OpenDownPackedStatement, ReceivePackedStatement, ReadPackedStatement, StreamsPackedStatement}
@@ -15,24 +16,24 @@ single answer after x y p q =
 pub sizes-single : (A : ℕ) → SingleOutcome (SizesStatement A)
 sizes-single A = single _ _
 
-pub build-single : (a : List ℕ) (Q N v G : ℕ) (out : List ℕ) → SingleOutcome (BuildStatement a Q N v G out)
-build-single a Q N v G out = single _ _
+pub build-single : (a : List ℕ) (g : Grant) (out : List ℕ) → SingleOutcome (BuildStatement a g out)
+build-single a g out = single _ _
 
-pub build-two-single : (header payload : List ℕ) (Q N v G : ℕ) (out : List ℕ) → SingleOutcome (BuildTwoStatement header payload Q N v G out)
-build-two-single header payload Q N v G out = single _ _
+pub build-two-single : (header payload : List ℕ) (g : Grant) (out : List ℕ) → SingleOutcome (BuildTwoStatement header payload g out)
+build-two-single header payload g out = single _ _
 
-pub build-down-single : (a : List ℕ) (release kMIMO processes Nsoft layers Q N v G : ℕ) (out : List ℕ) → SingleOutcome (BuildDownStatement a release kMIMO processes Nsoft layers Q N v G out)
-build-down-single a release kMIMO processes Nsoft layers Q N v G out = single _ _
+pub build-down-single : (a : List ℕ) (release kMIMO processes Nsoft layers : ℕ) (g : Grant) (out : List ℕ) → SingleOutcome (BuildDownStatement a release kMIMO processes Nsoft layers g out)
+build-down-single a release kMIMO processes Nsoft layers g out = single _ _
 
 -- with an empty second slice it is Build
-pub empty-second : (a : List ℕ) (Q N v G : ℕ) (out : List ℕ) → BuildTwoStatement a [] Q N v G out ≡ BuildStatement a Q N v G out
-empty-second a Q N v G out = ap (λ (l : List ℕ). BuildStatement l Q N v G out) (append-nil a)
+pub empty-second : (a : List ℕ) (g : Grant) (out : List ℕ) → BuildTwoStatement a [] g out ≡ BuildStatement a g out
+empty-second a g out = ap (λ (l : List ℕ). BuildStatement l g out) (append-nil a)
 
 pub sizes-to-c-single : (A : ℕ) (out : List ℕ) → SingleOutcome (SizesToCStatement A out)
 sizes-to-c-single A out = single _ _
 
-pub report-build-single : (o : List ℕ) (control : ℕ) (a : List ℕ) (Q N v G : ℕ) (out : List ℕ) → SingleOutcome (ReportBuildStatement o control a Q N v G out)
-report-build-single o control a Q N v G out = single _ _
+pub report-build-single : (o : List ℕ) (control : ℕ) (a : List ℕ) (g : Grant) (out : List ℕ) → SingleOutcome (ReportBuildStatement o control a g out)
+report-build-single o control a g out = single _ _
 
 pub report-part-single : (A Q N O control : ℕ) (received out : List ℕ) → SingleOutcome (ReportPartStatement A Q N O control received out)
 report-part-single A Q N O control received out = single _ _

@@ -6,6 +6,7 @@ use Prim.Native.Nat.{ℕ}
 use lib.ListN.{length}
 use Rattle.segmentation.specs.declared.SizesAnswer.{SizesAnswer}
 use Rattle.segmentation.specs.Sizes.{sizesAnswer}
+use Rattle.codeword.specs.declared.Grant.{Grant}
 use Rattle.codeword.specs.Build.{buildNumber, buildOutput}
 use Rattle.codeword.specs.Downlink.{buildDownNumber, buildDownOutput}
 use Rattle.planning.specs.declared.WorstAnswer.{WorstAnswer}
@@ -25,25 +26,25 @@ use Rattle.statements.specs.Outcome.{Given, Gives}
 abbrev pub SizesStatement : ℕ → Given SizesAnswer (Unit {0}) → Type 0
 SizesStatement A = Gives (sizesAnswer A) tt
 
-abbrev pub BuildStatement : List ℕ → ℕ → ℕ → ℕ → ℕ → List ℕ → Given ℕ (List ℕ) → Type 0
-BuildStatement a Q N v G out = Gives (buildNumber a Q N v G (length out)) (buildOutput a Q N v G out)
+abbrev pub BuildStatement : List ℕ → Grant → List ℕ → Given ℕ (List ℕ) → Type 0
+BuildStatement a g out = Gives (buildNumber a g (length out)) (buildOutput a g out)
 
 -- Build of a block that lies in two slices: that of the joined slices
-abbrev pub BuildTwoStatement : List ℕ → List ℕ → ℕ → ℕ → ℕ → ℕ → List ℕ → Given ℕ (List ℕ) → Type 0
-BuildTwoStatement header payload Q N v G out = BuildStatement (header ++ payload) Q N v G out
+abbrev pub BuildTwoStatement : List ℕ → List ℕ → Grant → List ℕ → Given ℕ (List ℕ) → Type 0
+BuildTwoStatement header payload g out = BuildStatement (header ++ payload) g out
 
 -- Build for a downlink
-abbrev pub BuildDownStatement : List ℕ → ℕ → ℕ → ℕ → ℕ → ℕ → ℕ → ℕ → ℕ → ℕ → List ℕ → Given ℕ (List ℕ) → Type 0
-BuildDownStatement a release kMIMO processes Nsoft layers Q N v G out =
-    Gives (buildDownNumber a release kMIMO processes Nsoft layers Q N v G (length out)) (buildDownOutput a release kMIMO processes Nsoft layers Q N v G out)
+abbrev pub BuildDownStatement : List ℕ → ℕ → ℕ → ℕ → ℕ → ℕ → Grant → List ℕ → Given ℕ (List ℕ) → Type 0
+BuildDownStatement a release kMIMO processes Nsoft layers g out =
+    Gives (buildDownNumber a release kMIMO processes Nsoft layers g (length out)) (buildDownOutput a release kMIMO processes Nsoft layers g out)
 
 -- zemrukste_sizes; zemrukste_build_down is Build for a downlink; zemrukste_build and zemrukste_build_two are Build
 abbrev pub SizesToCStatement : ℕ → List ℕ → Given ℕ (List ℕ) → Type 0
 SizesToCStatement A out = Gives (sizesNumber A (length out)) (sizesBytes A out)
 
 -- Build with a report, also zemrukste_report_build
-abbrev pub ReportBuildStatement : List ℕ → ℕ → List ℕ → ℕ → ℕ → ℕ → ℕ → List ℕ → Given ℕ (List ℕ) → Type 0
-ReportBuildStatement o control a Q N v G out = Gives (reportBuildNumber o control a Q N v G (length out)) (reportBuildOutput o control a Q N v G out)
+abbrev pub ReportBuildStatement : List ℕ → ℕ → List ℕ → Grant → List ℕ → Given ℕ (List ℕ) → Type 0
+ReportBuildStatement o control a g out = Gives (reportBuildNumber o control a g (length out)) (reportBuildOutput o control a g out)
 
 -- the way back, also zemrukste_report_part; the data of a run lends nothing
 abbrev pub ReportPartStatement : ℕ → ℕ → ℕ → ℕ → ℕ → List ℕ → List ℕ → Given ℕ (List ℕ) → Type 0
