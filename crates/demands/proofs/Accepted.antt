@@ -13,6 +13,7 @@ use borrow.Author.Tests.{le-ltb, lt-ltb, eq-eqb, ne-eqb}
 use Rattle.laws.specs.Bits.{AreBits}
 use Rattle.refusals.specs.Refusals.{firstOf}
 use Rattle.segmentation.specs.Segmentation.{blocks, sizeOf}
+use Rattle.codeword.specs.Shares.{grant}
 use Rattle.slots.specs.declared.Answer.the-variants.{Done, Refused}
 use Rattle.slots.specs.declared.State.{State}
 use Rattle.slots.specs.declared.Outcome.{Outcome}
@@ -24,7 +25,7 @@ use Rattle.slots.specs.Calls.{openOutcome, openDownOutcome, receiveOutcome, rea
 use Rattle.slots.proofs.Admitted.{open-admitted, open-down-admitted, receive-admitted, read-admitted, streams-admitted, close-admitted}
 use Rattle.history.specs.Calls.{History}
 use Rattle.history.specs.After.{stateAfter, storeAfter}
-use Rattle.demands.specs.Ranges.{Size, Grant, Receiver}
+use Rattle.demands.specs.Ranges.{Size, Allowed, Receiver}
 use Rattle.demands.specs.Lent.{New, OpenFor}
 use Rattle.demands.proofs.Ranges.{size-good, bits-good, version-good, allocation-good, buffer-good}
 use Rattle.demands.proofs.Opened.{Ready, new-ready}
@@ -102,13 +103,13 @@ module _ (S M : ℕ) (store₀ : List ℕ) (new : New S M store₀) (h : History
     size-at = owner .size-is
 
     -- a Receive with Q, N, G, version and bits in range
-    pub receive-accepted : (Q N v : ℕ) (bits : List ℕ) → Grant (blocks (A + 24)) Q N v (length bits) → AreBits bits
+    pub receive-accepted : (Q N v : ℕ) (bits : List ℕ) → Allowed (blocks (A + 24)) (grant Q N v (length bits)) → AreBits bits
         → numberOf (receiveOutcome state slot terminal Q N v bits store .answer) ≡ 0
     unfolding receiveOutcome numberOf
-    receive-accepted Q N v bits grant given = ap (λ (o : Outcome). numberOf (o .answer))
+    receive-accepted Q N v bits allowed given = ap (λ (o : Outcome). numberOf (o .answer))
         (accepting _ state _
         (receive-admitted state (length store) slot (ok .sound) (ok .long past) here terminal (owner .opened) (owner .terminal-is) Q N v bits
-        (rw size-at (allocation-good grant)) (version-good grant) (bits-good bits given)))
+        (rw size-at (allocation-good allowed)) (version-good allowed) (bits-good bits given)))
 
     -- a Close
     pub close-accepted : numberOf (closeOutcome state slot terminal .answer) ≡ 0

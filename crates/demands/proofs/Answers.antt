@@ -10,6 +10,7 @@ use Rattle.laws.specs.Bits.{AreBits}
 use Rattle.segmentation.specs.declared.SizesAnswer.the-variants.{Given}
 use Rattle.segmentation.specs.Segmentation.{blocks}
 use Rattle.segmentation.specs.Sizes.{sizesOf, sizesAnswer}
+use Rattle.codeword.specs.declared.Grant.{Grant}
 use Rattle.codeword.specs.Build.{buildNumber, buildOutput}
 use Rattle.codeword.specs.Downlink.{buildDownNumber, buildDownOutput}
 use Rattle.codeword.proofs.Numbers.{accepted-is}
@@ -18,25 +19,25 @@ use Rattle.slots.specs.State.{newState}
 use Rattle.slots.specs.Answers.{numberOf}
 use Rattle.slots.specs.Calls.{newOutcome, openOutcome, openStore, openDownOutcome, openDownStore, receiveOutcome, receiveStore, readOutcome, readOutput, streamsOutcome, streamsOutput, closeOutcome}
 use Rattle.slots.proofs.Refused as refusing
-use Rattle.demands.specs.Ranges.{Size, Grant}
+use Rattle.demands.specs.Ranges.{Size, Allowed}
 use Rattle.demands.proofs.Ranges.{size-good, bits-good, version-good, allocation-good}
 
 -- ---- Build and Sizes
 
 -- A refused Build writes nothing.
-pub build-refused : (a : List ℕ) (Q N v G : ℕ) (out : List ℕ) → (buildNumber a Q N v G (length out) ≡ 0 → ⊥) → buildOutput a Q N v G out ≡ out
+pub build-refused : (a : List ℕ) (g : Grant) (out : List ℕ) → (buildNumber a g (length out) ≡ 0 → ⊥) → buildOutput a g out ≡ out
 unfolding buildOutput
-build-refused a Q N v G out h = rw (ne-eqb (buildNumber a Q N v G (length out)) 0 h)
+build-refused a g out h = rw (ne-eqb (buildNumber a g (length out)) 0 h)
 
-pub build-down-refused : (a : List ℕ) (release kMIMO processes Nsoft layers Q N v G : ℕ) (out : List ℕ)
-    → (buildDownNumber a release kMIMO processes Nsoft layers Q N v G (length out) ≡ 0 → ⊥)
-    → buildDownOutput a release kMIMO processes Nsoft layers Q N v G out ≡ out
+pub build-down-refused : (a : List ℕ) (release kMIMO processes Nsoft layers : ℕ) (g : Grant) (out : List ℕ)
+    → (buildDownNumber a release kMIMO processes Nsoft layers g (length out) ≡ 0 → ⊥)
+    → buildDownOutput a release kMIMO processes Nsoft layers g out ≡ out
 unfolding buildDownOutput
-build-down-refused a release kMIMO processes Nsoft layers Q N v G out h = rw (ne-eqb (buildDownNumber a release kMIMO processes Nsoft layers Q N v G (length out)) 0 h)
+build-down-refused a release kMIMO processes Nsoft layers g out h = rw (ne-eqb (buildDownNumber a release kMIMO processes Nsoft layers g (length out)) 0 h)
 
 -- A Build in range, of bits, into an output of at least G bytes, is accepted.
-pub build-accepted : (a : List ℕ) (Q N v G room : ℕ) → Size (length a) → Grant (blocks (length a + 24)) Q N v G → AreBits a → G ≤ room → buildNumber a Q N v G room ≡ 0
-build-accepted a Q N v G room size grant bits fits = sym (accepted-is a Q N v G room (size-good (length a) size) (allocation-good grant) (grant .version) fits (bits-good a bits))
+pub build-accepted : (a : List ℕ) (g : Grant) (room : ℕ) → Size (length a) → Allowed (blocks (length a + 24)) g → AreBits a → g .bits ≤ room → buildNumber a g room ≡ 0
+build-accepted a g room size allowed bits fits = sym (accepted-is a g room (size-good (length a) size) (allocation-good allowed) (allowed .version) fits (bits-good a bits))
 
 -- A Sizes in range is answered with the six numbers.
 pub sizes-accepted : (A : ℕ) → Size A → sizesAnswer A ≡ Given (sizesOf A)

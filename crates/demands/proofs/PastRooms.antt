@@ -9,6 +9,7 @@ use lib.Dec.{eqb}
 use lib.ListN.{length, getD}
 use borrow.Author.Tests.{eqb-true}
 use Rattle.segmentation.proofs.Segmentation.{good-size}
+use Rattle.codeword.specs.Shares.{grant}
 use Rattle.slots.specs.declared.State.{State}
 use Rattle.slots.specs.State.{storeLength}
 use Rattle.slots.specs.Room.{agreeing, roomAt, withRoom, cleared}
@@ -48,11 +49,11 @@ module _ (state : State) (slot : ℕ) (store : List ℕ) (at : ℕ) (past : stor
   past-receive terminal Q N v bits = stays (eqb (receiveNumber state (length store) slot terminal Q N v bits) 0) _ store at (λ t. put (eqb-true _ 0 t))
     where
       put : receiveNumber state (length store) slot terminal Q N v bits ≡ 0
-          → getD (withRoom (state .blocks) slot (received agreeing (shareAtHead state slot) (sizeAtHead state slot) Q N v bits (roomAt (state .blocks) slot store)) store) at 0 ≡ getD store at 0
+          → getD (withRoom (state .blocks) slot (received agreeing (shareAtHead state slot) (sizeAtHead state slot) (grant Q N v (length bits)) bits (roomAt (state .blocks) slot store)) store) at 0 ≡ getD store at 0
       put e =
           let k = receives state (length store) slot terminal Q N v bits e in
           let g = good state (k .sound) in
           let f = g .fits slot (k .below) (k .opened) in
-          stored-out (shareAtHead state slot) (state .blocks) slot (sizeAtHead state slot) Q N v bits store (omega (arith, room-within state (k .below), k .long)) (f .few)
-          (λ r. sent-below (sizeAtHead state slot) (good-size (sizeAtHead state slot) (f .size-some) (f .size-most)) (g .wide slot (k .below) (k .opened)) Q N v (length bits) r (k .version))
+          stored-out (shareAtHead state slot) (state .blocks) slot (sizeAtHead state slot) (grant Q N v (length bits)) bits store (omega (arith, room-within state (k .below), k .long)) (f .few)
+          (λ r. sent-below (sizeAtHead state slot) (good-size (sizeAtHead state slot) (f .size-some) (f .size-most)) (g .wide slot (k .below) (k .opened)) (grant Q N v (length bits)) r (k .version))
           at (outside (k .below))

@@ -14,11 +14,12 @@ use Rattle.segmentation.proofs.Segmentation.{in-range, good-size}
 use Rattle.segmentation.specs.Segmentation.{blocks}
 use Rattle.rate_matching.specs.Circle.{cutAt}
 use Rattle.rate_matching.specs.SoftBuffer.{softShare}
+use Rattle.codeword.specs.declared.Grant.{Grant}
 use Rattle.codeword.specs.Shares.{symbols}
 use Rattle.codeword.specs.Codeword.{blockRows, blockCut}
 use Rattle.codeword.specs.Downlink.{badReceiver, tooShort, badBuffer}
-use Rattle.codeword.specs.Build.{badModulation, badLayers, badAllocation, badVersion, badBits}
-use Rattle.demands.specs.Ranges.{Size, Grant, Receiver}
+use Rattle.codeword.specs.Build.{badModulation, badLayers, badSymbol, badLength, badAllocation, badVersion, badBits}
+use Rattle.demands.specs.Ranges.{Size, Allowed, Receiver}
 
 pub size-good : (A : ℕ) → Size A → badSize A ≡ false
 size-good A s = good-size A (s .least) (s .most)
@@ -28,9 +29,9 @@ unfolding badBits
 bits-good [] h = refl
 bits-good (x ∷ l) h = rw (le-ltb 1 x (omega (arith, h 0)), bits-good l (λ i. h (suc i)))
 
-pub version-good : {C Q N v G : ℕ} → Grant C Q N v G → badVersion v ≡ false
+pub version-good : {C : ℕ} {g : Grant} → Allowed C g → badVersion (g .version) ≡ false
 unfolding badVersion
-version-good {v = v} g = le-ltb 3 v (g .version)
+version-good {g = g} ok = le-ltb 3 (g .version) (ok .version)
 
 modulation-good : (Q : ℕ) → (Q ≡ 2) ⊎ ((Q ≡ 4) ⊎ (Q ≡ 6)) → badModulation Q ≡ false
 unfolding badModulation
@@ -40,10 +41,16 @@ layers-good : (N : ℕ) → 1 ≤ N → N ≤ 4 → badLayers N ≡ false
 unfolding badLayers
 layers-good N some few = rw (ne-eqb N 0 (λ e. omega arith), le-ltb 4 N few)
 
-pub allocation-good : {C Q N v G : ℕ} → Grant C Q N v G → badAllocation C Q N G ≡ false
-unfolding badAllocation symbols
-allocation-good {C} {Q} {N} {v} {G} g =
-    rw (modulation-good Q (g .modulation), layers-good N (g .some) (g .few), le-ltb 172800 G (g .most), eq-eqb (G % (N * Q)) 0 (g .multiple), le-ltb (G / (N * Q)) C (g .enough))
+pub allocation-good : {C : ℕ} {g : Grant} → Allowed C g → badAllocation C (g .modulation) (g .layers) (g .bits) ≡ false
+unfolding badAllocation badSymbol badLength symbols
+allocation-good {C} {g} ok =
+    rw (
+      modulation-good (g .modulation) (ok .modulation),
+      layers-good (g .layers) (ok .some) (ok .few),
+      le-ltb 172800 (g .bits) (ok .most),
+      eq-eqb (g .bits % (g .layers * g .modulation)) 0 (ok .multiple),
+      le-ltb (g .bits / (g .layers * g .modulation)) C (ok .enough),
+    )
 
 -- no code block's N_cb is too short
 wide-good : (soft B n : ℕ) → ((r : ℕ) → r < n → 32 * blockRows B r ≤ cutAt soft (blockRows B r)) → tooShort soft B n ≡ false

@@ -21,7 +21,8 @@ use Rattle.rate_matching.specs.Walk.{onCircle, isBit, holdsBit, loop}
 use Rattle.rate_matching.proofs.Places.{dummies-add, place-lt}
 use Rattle.rate_matching.proofs.Circle.{length-circle, start-below}
 use Rattle.rate_matching.proofs.Walk.{loop-is-selected}
-use Rattle.codeword.specs.Shares.{share, sharesBefore}
+use Rattle.codeword.specs.declared.Grant.{Grant}
+use Rattle.codeword.specs.Shares.{granted, grantedBefore}
 use Rattle.codeword.specs.Codeword.{blockCircle, blockRows, blockCut, sentBits, blockBits, codewordIn, codeword}
 use Rattle.codeword.specs.inner.Sending.{Accepted}
 use Rattle.codeword.proofs.Accepted.{given-bits}
@@ -31,7 +32,7 @@ use Rattle.codeword.proofs.Taken.{length-withCheck, stretch}
 use Rattle.slots.specs.Reception.{blockPlaces}
 use Rattle.history.proofs.ReleaseTrue.{block-bits}
 
-module _ (soft : ℕ) (a : List ℕ) (Q N v G : ℕ) (ok : Accepted soft a Q N v G) (r : ℕ) (below : r < blocks (length a + 24)) where
+module _ (soft : ℕ) (a : List ℕ) (g : Grant) (ok : Accepted soft a g) (r : ℕ) (below : r < blocks (length a + 24)) where
   abbrev B : ℕ
   B = length a + 24
 
@@ -89,25 +90,25 @@ module _ (soft : ℕ) (a : List ℕ) (Q N v G : ℕ) (ok : Accepted soft a Q N v
 
   -- E of the code block, and where its stretch of the codeword begins
   abbrev E : ℕ
-  E = share (blocks B) Q N G r
+  E = granted (blocks B) g r
 
   abbrev S : ℕ
-  S = sharesBefore (blocks B) Q N G r
+  S = grantedBefore (blocks B) g r
 
   -- The stretch of code block r is what the standard's own loop of 5.1.4.1.2 sends of its circle, cut at N_cb, from k0 on, with turns enough.
-  pub stretch-by-loop : (fuel : ℕ) → E * Ncb ≤ fuel → take E (drop S (codewordIn soft a Q N v G)) ≡ loop fuel w (startIn Ncb (blockRows B r) v) 0 E
+  pub stretch-by-loop : (fuel : ℕ) → E * Ncb ≤ fuel → take E (drop S (codewordIn soft a g)) ≡ loop fuel w (startIn Ncb (blockRows B r) (g .version)) 0 E
   unfolding blockBits sentBits
   stretch-by-loop fuel turns =
-      stretch soft a Q N v G r below
+      stretch soft a g r below
       ∙ rw (length-withCheck a)
-      (sym (loop-is-selected w (startIn Ncb (blockRows B r) v) (rw w-long (start-below cut v (ok .version))) fuel E first (rw w-long first-lies) first-holds (rw w-long turns)))
+      (sym (loop-is-selected w (startIn Ncb (blockRows B r) (g .version)) (rw w-long (start-below cut (g .version) (ok .version))) fuel E first (rw w-long first-lies) first-holds (rw w-long turns)))
 
   -- And it is what the circle holds at the places, in their order, where a reception with the same share puts its bits.
-  pub stretch-by-places : take E (drop S (codewordIn soft a Q N v G)) ≡ map (onCircle w) (blockPlaces soft B Q N v G r)
+  pub stretch-by-places : take E (drop S (codewordIn soft a g)) ≡ map (onCircle w) (blockPlaces soft B g r)
   stretch-by-places =
-      stretch soft a Q N v G r below
-      ∙ block-bits soft b B (omega arith) high (length-withCheck a) bits Q N v G r below
-      ∙ ap (λ (n : ℕ). map (onCircle (take (blockCut soft n r) (blockCircle b r))) (blockPlaces soft B Q N v G r)) (length-withCheck a)
+      stretch soft a g r below
+      ∙ block-bits soft b B (omega arith) high (length-withCheck a) bits g r below
+      ∙ ap (λ (n : ℕ). map (onCircle (take (blockCut soft n r) (blockCircle b r))) (blockPlaces soft B g r)) (length-withCheck a)
 
 -- N_cb of an uplink's code block is K_w
 pub uncut : (B : ℕ) → B ≤ 30600 → (r : ℕ) → blockCut wholeShare B r ≡ circleLength (blockRows B r)
