@@ -12,11 +12,15 @@ use Rattle.codeword.proofs.Accepted.{symbol-step}
 use Rattle.codeword.proofs.allocation.bad_allocation.Statement.{statement}
 use Rattle.codeword.proofs.allocation.bad_allocation.Tie as tie
 
+-- the ways back
+abbrev at-start : tie.After-bad-symbol → tie.Start
+at-start c = c .before
+
 -- what the test of Q and N told
-symbol : (c : tie.Else1) → let a = c .before .before .args in badSymbol (a .q) (a .n) ≡ false
+symbol : (c : tie.Else1) → let a = at-start (c .before) .args in badSymbol (a .q) (a .n) ≡ false
 symbol c = sym (c .before .bad-symbol .ensures) ∙ c .if1 .left
 
-step-fits : (c : tie.Else1) → let a = c .before .before .args in (0 < a .n * a .q) × (a .n * a .q ≤ 24)
+step-fits : (c : tie.Else1) → let a = at-start (c .before) .args in (0 < a .n * a .q) × (a .n * a .q ≤ 24)
 step-fits c = symbol-step _ _ (symbol c)
 
 bad-symbol-requires : tie.Need-bad-symbol-requires

@@ -10,6 +10,16 @@ use Rattle.codeword.proofs.Seen.{none-left, last-left, left-bad, left-g
 use Rattle.codeword.proofs.allocation.bad_bits.Statement.{statement}
 use Rattle.codeword.proofs.allocation.bad_bits.Tie as tie
 
+-- the ways back
+abbrev at-start-from-add-end : tie.After-shared-slice-known → tie.Start
+at-start-from-add-end c = c .before
+
+abbrev at-start : tie.Joined1 → tie.Start
+at-start c = at-start-from-add-end (c .before)
+
+abbrev at-joined1 : tie.After-bad-halves-arg2 → tie.Joined1
+at-joined1 c = c .before .before
+
 add-end : tie.Need-add-end
 add-end c = omega arith
 
@@ -18,7 +28,7 @@ shared-slice-read-if2 c = omega arith
 
 returns : tie.Need-returns
 returns c =
-    let bits = c .before .before .before .before .args .bits .now in
+    let bits = at-start-from-add-end (c .before .before .before) .args .bits .now in
     left-bad bits (length bits / 2) (last-left bits _ (omega arith) (omega arith) ∙ c .if2 .taken)
 
 slice-aggregate-bad-halves : tie.Need-slice-aggregate-bad-halves
@@ -35,19 +45,19 @@ part-bad-halves-end c = omega arith
 
 bad-halves-requires : tie.Need-bad-halves-requires
 bad-halves-requires c κs =
-    let bits = c .before .before .before .before .args .bits .now in
+    let bits = at-start (at-joined1 c) .args .bits .now in
     same-length bits (length bits / 2) (omega arith)
 
 returns-2 : tie.Need-returns-2
 returns-2 c =
-    let bits = c .before .before .before .before .before .args .bits .now in
+    let bits = at-start (at-joined1 (c .before)) .args .bits .now in
     let h = length bits / 2 in
     c .bad-halves .ensures
     ∙ left-good bits h (
     ⊎-elim
     (λ w. last-left bits (h + h) (w .0 .taken) (omega arith) ∙ w .2 .left)
     (λ w. none-left bits (h + h) (w .left))
-    (c .before .before .before .if1 .came)
+    (at-joined1 (c .before) .if1 .came)
     )
 
 pub bad-bits-spec : {M : Type 1} → statement M

@@ -13,9 +13,13 @@ use Rattle.codeword.proofs.Accepted.{Allocated, allocated, share-told}
 use Rattle.codeword.proofs.allocation.share_of.Statement.{statement}
 use Rattle.codeword.proofs.allocation.share_of.Tie as tie
 
+-- the ways back
+abbrev at-else1 : tie.After-bad-allocation → tie.Else1
+at-else1 c = c .before
+
 -- past the tests: the function's entry, and what the second test told
 abbrev entry : tie.Else2 → tie.Start
-entry c = c .before .before .before
+entry c = at-else1 (c .before) .before
 
 refused : (c : tie.Else2) → badAllocation (entry c .args .blocks) (entry c .args .q) (entry c .args .n) (entry c .args .g) ≡ false
 refused c = sym (c .before .bad-allocation .ensures) ∙ c .if2 .left
@@ -24,7 +28,7 @@ accepted : (c : tie.Else2) → Allocated (entry c .args .blocks) (entry c .args 
 accepted c = allocated _ _ _ _ (refused c)
 
 is-share : (c : tie.Else2) → let e = entry c .args in shareOf (e .blocks) (e .q) (e .n) (e .g) (e .r) ≡ share (e .blocks) (e .q) (e .n) (e .g) (e .r)
-is-share c = share-told _ _ _ _ _ (c .before .before .if1 .left) (refused c)
+is-share c = share-told _ _ _ _ _ (at-else1 (c .before) .if1 .left) (refused c)
 
 -- G' and C are at most 172,800
 few : (c : tie.Else2) → let e = entry c .args in (e .g / (e .n * e .q) ≤ 172800) × (e .blocks ≤ 172800)
@@ -39,7 +43,7 @@ few c =
 first : (c : tie.Else2) → let e = entry c .args in e .r + e .g / (e .n * e .q) % e .blocks < 345600
 first c =
     let e = entry c .args in
-    let below : e .r < e .blocks = c .before .before .if1 .left in
+    let below : e .r < e .blocks = at-else1 (c .before) .if1 .left in
     omega (arith, mod-lt (e .g / (e .n * e .q)) {m = e .blocks} (omega arith), few c)
 
 -- N·Q times what is at most 345,600
@@ -55,7 +59,7 @@ bad-allocation-requires c κs = search needs
 
 returns-2 : tie.Need-returns-2
 unfolding shareOf
-returns-2 c = simp (lt-ltb _ _ (c .before .before .if1 .left), sym (c .before .bad-allocation .ensures), c .if2 .taken)
+returns-2 c = simp (lt-ltb _ _ (at-else1 (c .before) .if1 .left), sym (c .before .bad-allocation .ensures), c .if2 .taken)
 
 mul-step : tie.Need-mul-step
 mul-step c = omega (arith, accepted c .step-fits)

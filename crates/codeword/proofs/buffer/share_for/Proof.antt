@@ -13,6 +13,16 @@ use Rattle.codeword.proofs.SoftShares.{Receiver, receiver, divisor-few}
 use Rattle.codeword.proofs.buffer.share_for.Statement.{statement}
 use Rattle.codeword.proofs.buffer.share_for.Tie as tie
 
+-- the ways back
+abbrev at-else1 : tie.After-bad-receiver → tie.Else1
+at-else1 c = c .before
+
+abbrev at-else2 : tie.After-divisor-in → tie.Else2
+at-else2 c = c .before
+
+abbrev at-divisor-in : tie.After-limited → tie.After-divisor-in
+at-divisor-in c = c .before
+
 returns : tie.Need-returns
 unfolding shareFor
 returns c = simp (eq-eqb _ _ (c .if1 .taken))
@@ -22,37 +32,37 @@ bad-receiver-requires c κs = search needs
 
 returns-2 : tie.Need-returns-2
 unfolding shareFor
-returns-2 c = simp (ne-eqb _ _ (c .before .before .if1 .left), sym (c .before .bad-receiver .ensures) ∙ c .if2 .taken)
+returns-2 c = simp (ne-eqb _ _ (at-else1 (c .before) .if1 .left), sym (c .before .bad-receiver .ensures) ∙ c .if2 .taken)
 
 -- past both tests
-good : (c : tie.Else2) → badReceiver (c .before .before .before .args .release) (c .before .before .before .args .mimo) (c .before .before .before .args .processes) ≡ false
+good : (c : tie.Else2) → badReceiver (at-else1 (c .before) .before .args .release) (at-else1 (c .before) .before .args .mimo) (at-else1 (c .before) .before .args .processes) ≡ false
 good c = sym (c .before .bad-receiver .ensures) ∙ c .if2 .left
 
 divisor-in-requires : tie.Need-divisor-in-requires
 divisor-in-requires c κs = search needs
 
 -- K_C · K_MIMO
-product : (c : tie.After-divisor-in) → (1 ≤ c .divisor-in .result * c .before .before .before .before .args .mimo) × (c .divisor-in .result * c .before .before .before .before .args .mimo ≤ 10)
+product : (c : tie.After-divisor-in) → (1 ≤ c .divisor-in .result * at-else1 (at-else2 c .before) .before .args .mimo) × (c .divisor-in .result * at-else1 (at-else2 c .before) .before .args .mimo ≤ 10)
 product c =
-    let few = divisor-few (c .before .before .before .before .args .release) (c .before .before .before .before .args .soft) (c .before .before .before .before .args .layers) in
-    let r = receiver _ _ _ (good (c .before)) in
+    let few = divisor-few (at-else1 (at-else2 c .before) .before .args .release) (at-else1 (at-else2 c .before) .before .args .soft) (at-else1 (at-else2 c .before) .before .args .layers) in
+    let r = receiver _ _ _ (good (at-else2 c)) in
     let least : 1 ≤ c .divisor-in .result = rw (c .divisor-in .ensures) (few .0) in
     let most : c .divisor-in .result ≤ 5 = rw (c .divisor-in .ensures) (few .1) in
-    let low : 1 * 1 ≤ c .divisor-in .result * c .before .before .before .before .args .mimo = mul-le-mul least (r .some) in
-    let top : c .divisor-in .result * c .before .before .before .before .args .mimo ≤ 5 * 2 = mul-le-mul most (r .few) in
+    let low : 1 * 1 ≤ c .divisor-in .result * at-else1 (at-else2 c .before) .before .args .mimo = mul-le-mul least (r .some) in
+    let top : c .divisor-in .result * at-else1 (at-else2 c .before) .before .args .mimo ≤ 5 * 2 = mul-le-mul most (r .few) in
     (omega arith, omega arith)
 
 -- times min(M_DL_HARQ, M_limit)
-all : (c : tie.After-limited) → (1 ≤ c .before .divisor-in .result * c .before .before .before .before .before .args .mimo * c .limited .result)
-    × (c .before .divisor-in .result * c .before .before .before .before .before .args .mimo * c .limited .result ≤ 80)
+all : (c : tie.After-limited) → (1 ≤ at-divisor-in c .divisor-in .result * at-else1 (at-else2 (at-divisor-in c) .before) .before .args .mimo * c .limited .result)
+    × (at-divisor-in c .divisor-in .result * at-else1 (at-else2 (at-divisor-in c) .before) .before .args .mimo * c .limited .result ≤ 80)
 unfolding mLimit
 all c =
-    let p = product (c .before) in
-    let r = receiver _ _ _ (good (c .before .before)) in
+    let p = product (at-divisor-in c) in
+    let r = receiver _ _ _ (good (at-else2 (at-divisor-in c))) in
     let some : 1 ≤ c .limited .result = omega (arith, c .limited .ensures, r .running) in
     let few : c .limited .result ≤ 8 = omega (arith, c .limited .ensures) in
-    let low : 1 * 1 ≤ c .before .divisor-in .result * c .before .before .before .before .before .args .mimo * c .limited .result = mul-le-mul (p .0) some in
-    let top : c .before .divisor-in .result * c .before .before .before .before .before .args .mimo * c .limited .result ≤ 10 * 8 = mul-le-mul (p .1) few in
+    let low : 1 * 1 ≤ at-divisor-in c .divisor-in .result * at-else1 (at-else2 (at-divisor-in c) .before) .before .args .mimo * c .limited .result = mul-le-mul (p .0) some in
+    let top : at-divisor-in c .divisor-in .result * at-else1 (at-else2 (at-divisor-in c) .before) .before .args .mimo * c .limited .result ≤ 10 * 8 = mul-le-mul (p .1) few in
     (omega arith, omega arith)
 
 mul-shared : tie.Need-mul-shared

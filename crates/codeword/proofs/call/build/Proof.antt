@@ -21,8 +21,9 @@ same-length c = search needs
 
 returns : tie.Need-returns
 returns c =
-    let a = c .before .before .before .before .before .before .before .args in
-    let two = c .before .before .build-two .ensures in (
+    let build-two = c .before .before in
+    let a = build-two .before .before .before .before .before .args in
+    let two = build-two .build-two .ensures in (
       two .0 ∙ ap (λ (l : List ℕ). buildNumber l (a .grant) (length (now (a .out)))) (append-nil (now (a .block))),
       two .1 ∙ ap (λ (l : List ℕ). buildOutput l (a .grant) (now (a .out))) (append-nil (now (a .block))),
     )

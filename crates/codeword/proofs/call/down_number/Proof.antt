@@ -15,24 +15,37 @@ use Rattle.codeword.proofs.SoftShares.{rows-told}
 use Rattle.codeword.proofs.call.down_number.Statement.{statement}
 use Rattle.codeword.proofs.call.down_number.Tie as tie
 
+-- the ways back
+abbrev at-start-from-struct-known : tie.After-struct-known → tie.Start
+at-start-from-struct-known c = c .before .before
+
+abbrev at-start : tie.Else1 → tie.Start
+at-start c = at-start-from-struct-known (c .before)
+
+abbrev at-else1-from-add-if2 : tie.After-struct-known2 → tie.Else1
+at-else1-from-add-if2 c = c .before
+
+abbrev at-else1 : tie.Else2 → tie.Else1
+at-else1 c = at-else1-from-add-if2 (c .before)
+
 returns : tie.Need-returns
 unfolding numberWith
-returns c = simp (unsized _ _ (c .before .before .before .pre) (c .if1 .taken))
+returns c = simp (unsized _ _ (at-start-from-struct-known (c .before) .pre) (c .if1 .taken))
 
 -- past the first test the size is in range
-in-range : (c : tie.Else1) → Sized (length (now (c .before .before .before .args .block))) (c .before .before .before .args .s)
-in-range c = sized _ _ (c .before .before .before .pre) (c .if1 .left)
+in-range : (c : tie.Else1) → Sized (length (now (at-start c .args .block))) (at-start c .args .s)
+in-range c = sized _ _ (at-start c .pre) (c .if1 .left)
 
 add-if2 : tie.Need-add-if2
-add-if2 c = let k = in-range (c .before) in omega (arith, long-told _ (k .size) (k .told))
+add-if2 c = let k = in-range (at-else1-from-add-if2 c) in omega (arith, long-told _ (k .size) (k .told))
 
 mul-if2 : tie.Need-mul-if2
-mul-if2 c = let k = in-range (c .before) in omega (arith, long-told _ (k .size) (k .told))
+mul-if2 c = let k = in-range (at-else1-from-add-if2 c) in omega (arith, long-told _ (k .size) (k .told))
 
 returns-2 : tie.Need-returns-2
 unfolding numberWith
 returns-2 c =
-    let k = in-range (c .before .before) in
+    let k = in-range (at-else1-from-add-if2 (c .before)) in
     simp (k .size, lt-ltb _ _ (rw (rows-told _ (k .told)) at (c .if2 .taken)))
 
 slice-aggregate-build-number : tie.Need-slice-aggregate-build-number
@@ -44,9 +57,10 @@ build-number-requires c κs = search needs
 returns-3 : tie.Need-returns-3
 unfolding numberWith
 returns-3 c =
-    let k = in-range (c .before .before .before .before) in
-    let a = c .before .before .before .before .before .before .before .args in
-    simp (k .size, le-ltb _ _ (rw (rows-told _ (k .told)) at (c .before .before .if2 .left)))
+    let else2 = c .before .before in
+    let k = in-range (at-else1 else2) in
+    let a = at-start (at-else1 else2) .args in
+    simp (k .size, le-ltb _ _ (rw (rows-told _ (k .told)) at (else2 .if2 .left)))
     (c .build-number .ensures ∙ ap (λ (l : List ℕ). buildNumber l (a .grant) (a .room)) (append-nil (now (a .block))))
 
 pub down-number-spec : {M : Type 1} → statement M

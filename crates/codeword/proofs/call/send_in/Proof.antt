@@ -16,14 +16,27 @@ use Rattle.codeword.proofs.Sent.{size-most-told, row-told, filler-told,
 use Rattle.codeword.proofs.call.send_in.Statement.{statement}
 use Rattle.codeword.proofs.call.send_in.Tie as tie
 
+-- the ways back
+abbrev at-start-from-cut-at-requires : tie.After-slice-known4 → tie.Start
+at-start-from-cut-at-requires c = c .before .before .before .before .before .before
+
+abbrev at-start : tie.After-cut-at → tie.Start
+at-start c = at-start-from-cut-at-requires (c .before)
+
+abbrev at-cut-at : tie.After-code-block → tie.After-cut-at
+at-cut-at c = c .before .before
+
+abbrev at-row-of : tie.After-filler-of → tie.After-row-of
+at-row-of c = c .before
+
 cut-at-requires : tie.Need-cut-at-requires
-cut-at-requires c κs = let s = c .before .before .before .before .before .before in omega (arith, s .pre .1 .first, size-most-told (s .pre .0))
+cut-at-requires c κs = let s = at-start-from-cut-at-requires c in omega (arith, s .pre .1 .first, size-most-told (s .pre .0))
 
 -- N_cb is the code block's
-cut-is : (c : tie.After-cut-at) → let s = c .before .before .before .before .before .before .before in c .cut-at .result ≡ blockCut (s .args .soft) (length (now (s .args .header) ++ now (s .args .payload)) + 24) (s .args .r)
+cut-is : (c : tie.After-cut-at) → let s = at-start c in c .cut-at .result ≡ blockCut (s .args .soft) (length (now (s .args .header) ++ now (s .args .payload)) + 24) (s .args .r)
 unfolding blockCut blockRows
 cut-is c =
-    let s = c .before .before .before .before .before .before .before in
+    let s = at-start c in
     c .cut-at .ensures ∙ ap (λ (d : ℕ). cutAt (s .args .soft) (rows d)) (s .pre .1 .first)
 
 sub-k : tie.Need-sub-k
@@ -67,14 +80,14 @@ returns c =
     let matched = c .before .before in
     let streams = matched .before .before .before .before .before .before .before .before .before .before .before in
     let filled = streams .before .before .before .before in
-    let block = filled .before .before .before .before in
-    let start = block .before .before .before .before .before .before .before .before .before in
+    let block = at-row-of filled .before .before .before in
+    let start = at-start (at-cut-at block) in
     let rooms = start .pre .1 in
     let x = start .args .remainder in
     let empty = now (start .args .d0) in
     let d0 = block .code-block .last .1 .1 .1 .1 .0 ++ drop (length empty - 4) empty in
     let room = fronted (start .pre .0) x empty (rooms .first) (block .code-block .ensures) in
-    let row = row-told (start .pre .0) (filled .before .row-of .ensures) in
+    let row = row-told (start .pre .0) (at-row-of filled .row-of .ensures) in
     let filler = filler-told (start .pre .0) (filled .filler-of .ensures) in
     let fits = encoded (start .pre .0) x (blockIn d0) (room .bits) row filler d0 (now (start .args .d1)) (now (start .args .d2)) (room .long) (rooms .second) (rooms .third) in
     sent-is (start .pre .0) x (blockIn d0) (room .bits) row filler
@@ -82,7 +95,7 @@ returns c =
     (rw fits at (streams .encode .ensures .1 .0))
     (rw fits at (streams .encode .ensures .1 .1))
     _
-    (cut-is (block .before .before))
+    (cut-is (at-cut-at block))
     (matched .rate-match .ensures)
 
 pub send-in-spec : {M : Type 1} → statement M

@@ -12,24 +12,34 @@ use Rattle.codeword.proofs.Segmented.{sized-in}
 use Rattle.codeword.proofs.call.write_codeword.Statement.{statement}
 use Rattle.codeword.proofs.call.write_codeword.Tie as tie
 
+-- the ways back
+abbrev at-start : tie.After-segments-for-both → tie.Start
+at-start c = c .before .before .before .before
+
+abbrev at-segments-for-both-from-struct-known : tie.After-struct-known → tie.After-segments-for-both
+at-segments-for-both-from-struct-known c = c .before
+
+abbrev at-segments-for-both : tie.After-struct-known2 → tie.After-segments-for-both
+at-segments-for-both c = at-segments-for-both-from-struct-known (c .before .before)
+
 -- the segmentation is the block's
-told : (c : tie.After-segments-for-both) → let a = c .before .before .before .before .args in
+told : (c : tie.After-segments-for-both) → let a = at-start c .args in
     c .segments-for-both .result ≡ segmentsOf (length (now (a .header) ++ now (a .payload)) + 24)
 told c =
-    let start = c .before .before .before .before in
+    let start = at-start c in
     sized-in _ _ (start .pre .accepted .size) (of-joined (now (start .args .header)) (now (start .args .payload)) (c .segments-for-both .ensures)) .told
 
 segments-for-both-requires : tie.Need-segments-for-both-requires
 segments-for-both-requires c κs = search needs
 
 write-short-requires : tie.Need-write-short-requires
-write-short-requires c κs = let sized = c .before .before .before in (sized .before .before .before .before .pre, (told sized, c .before .if1 .taken))
+write-short-requires c κs = let sized = at-segments-for-both-from-struct-known (c .before .before) in (at-start sized .pre, (told sized, c .before .if1 .taken))
 
 write-middle-requires : tie.Need-write-middle-requires
-write-middle-requires c κs = let sized = c .before .before .before .before .before in (sized .before .before .before .before .pre, (told sized, c .before .if2 .taken))
+write-middle-requires c κs = let sized = at-segments-for-both (c .before .before) in (at-start sized .pre, (told sized, c .before .if2 .taken))
 
 write-long-requires : tie.Need-write-long-requires
-write-long-requires c κs = let sized = c .before .before .before .before .before in (sized .before .before .before .before .pre, told sized)
+write-long-requires c κs = let sized = at-segments-for-both (c .before .before) in (at-start sized .pre, told sized)
 
 same-length : tie.Need-same-length
 same-length c = search needs

@@ -20,6 +20,37 @@ Inv-loop header payload soft grant s d0₀ d1₀ d2₀ out₀ remainder at₀ r�
 abbrev μ-loop : tie.MeasureT-loop
 μ-loop header payload soft grant s d0₀ d1₀ d2₀ out₀ remainder at₀ r₀ d0 d1 d2 out at r = s .blocks - r
 
+-- the ways back
+abbrev at-loop-from-struct-known : tie.After-struct-known Inv-loop μ-loop → tie.At-loop Inv-loop μ-loop
+at-loop-from-struct-known c = c .before
+
+abbrev at-loop : tie.Then1 Inv-loop μ-loop → tie.At-loop Inv-loop μ-loop
+at-loop c = at-loop-from-struct-known (c .before)
+
+abbrev at-then1 : tie.After-share-of Inv-loop μ-loop → tie.Then1 Inv-loop μ-loop
+at-then1 c = c .before
+
+abbrev at-share-of-from-send-within-arg3 : tie.After-send-within-arg3 Inv-loop μ-loop → tie.After-share-of Inv-loop μ-loop
+at-share-of-from-send-within-arg3 c = c .before .before .before
+
+abbrev at-share-of : tie.After-send-within-arg4 Inv-loop μ-loop → tie.After-share-of Inv-loop μ-loop
+at-share-of c = at-share-of-from-send-within-arg3 (c .before)
+
+abbrev at-send-within : tie.After-d0 Inv-loop μ-loop → tie.After-send-within Inv-loop μ-loop
+at-send-within c = c .before
+
+abbrev at-d0 : tie.After-d1 Inv-loop μ-loop → tie.After-d0 Inv-loop μ-loop
+at-d0 c = c .before .before
+
+abbrev at-d1 : tie.After-d2 Inv-loop μ-loop → tie.After-d1 Inv-loop μ-loop
+at-d1 c = c .before .before
+
+abbrev at-d2 : tie.After-out Inv-loop μ-loop → tie.After-d2 Inv-loop μ-loop
+at-d2 c = c .before .before
+
+abbrev at-out : tie.After-slice-known8 Inv-loop μ-loop → tie.After-out Inv-loop μ-loop
+at-out c = c .before
+
 crc24a-two-requires : tie.Need-crc24a-two-requires Inv-loop μ-loop
 crc24a-two-requires c κs = search needs
 
@@ -32,7 +63,7 @@ share-of-requires : tie.Need-share-of-requires Inv-loop μ-loop
 share-of-requires c κs = search needs
 
 add-end : tie.Need-add-end Inv-loop μ-loop
-add-end c = omega (arith, within (c .before .before .before .loop .inv .0) (c .before .if1 .taken) (c .share-of .ensures))
+add-end c = omega (arith, within (at-loop (at-then1 c) .loop .inv .0) (at-then1 c .if1 .taken) (c .share-of .ensures))
 
 sub-send-within : tie.Need-sub-send-within Inv-loop μ-loop
 sub-send-within c = omega arith
@@ -42,50 +73,50 @@ part-send-within-start c = omega arith
 
 part-send-within-end : tie.Need-part-send-within-end Inv-loop μ-loop
 part-send-within-end c =
-    let shared = c .before .before .before in
-    within (shared .before .before .before .loop .inv .0) (shared .before .if1 .taken) (shared .share-of .ensures)
+    let shared = at-share-of-from-send-within-arg3 c in
+    within (at-loop (at-then1 shared) .loop .inv .0) (at-then1 shared .if1 .taken) (shared .share-of .ensures)
 
 send-within-requires : tie.Need-send-within-requires Inv-loop μ-loop
 send-within-requires c κs =
-    let test = c .before .before .before .before .before in
-    let sent = sending (test .before .before .loop .inv .0) (test .if1 .taken) in
-    (sent, enough (test .before .before .loop .inv .1) (size-within sent))
+    let test = at-then1 (at-share-of c) in
+    let sent = sending (at-loop test .loop .inv .0) (test .if1 .taken) in
+    (sent, enough (at-loop test .loop .inv .1) (size-within sent))
 
 add-r : tie.Need-add-r Inv-loop μ-loop
-add-r c = let test = c .before .before .before .before .before .before .before .before .before .before .before .before .before .before in omega (arith, test .if1 .taken, few (test .before .before .loop .inv .0))
+add-r c = let test = at-then1 (at-share-of (at-send-within (at-d0 (at-d1 (at-d2 (at-out c)))) .before)) in omega (arith, test .if1 .taken, few (at-loop test .loop .inv .0))
 
 loop-less : tie.Need-loop-less Inv-loop μ-loop
-loop-less c = omega (arith, c .before .before .before .before .before .before .before .before .before .before .before .before .before .before .if1 .taken)
+loop-less c = omega (arith, at-then1 (at-share-of (at-send-within (at-d0 (at-d1 (at-d2 (at-out c)))) .before)) .if1 .taken)
 
 loop-again : tie.Need-loop-again Inv-loop μ-loop
 loop-again c =
-    let sent = c .before .before .before .before .before .before .before .before in
-    let shared = sent .before .before .before .before .before in
-    let turn = shared .before .before .before .loop .inv in (
-      next (turn .0) (shared .before .if1 .taken) (shared .share-of .ensures) (sent .send-within .ensures)
-          (c .before .out .given .0 ∙ sym (sent .before .send-within-arg4 .given .1)),
+    let sent = at-send-within (at-d0 (at-d1 (at-d2 (at-out c)))) in
+    let shared = at-share-of (sent .before) in
+    let turn = at-loop (at-then1 shared) .loop .inv in (
+      next (turn .0) (at-then1 shared .if1 .taken) (shared .share-of .ensures) (sent .send-within .ensures)
+          (at-out c .out .given .0 ∙ sym (sent .before .send-within-arg4 .given .1)),
       record {
         spacious = turn .1 .spacious;
-        first = c .before .before .before .before .before .before .before .d0 .given ∙ turn .1 .first;
-        second = c .before .before .before .before .before .d1 .given ∙ turn .1 .second;
-        third = c .before .before .before .d2 .given ∙ turn .1 .third;
+        first = at-d0 (at-d1 (at-d2 (at-out c))) .d0 .given ∙ turn .1 .first;
+        second = at-d1 (at-d2 (at-out c)) .d1 .given ∙ turn .1 .second;
+        third = at-d2 (at-out c) .d2 .given ∙ turn .1 .third;
       },
     )
 
 same-length : tie.Need-same-length Inv-loop μ-loop
-same-length c = c .before .before .loop .inv .1 .first
+same-length c = at-loop-from-struct-known (c .before) .loop .inv .1 .first
 
 same-length-2 : tie.Need-same-length-2 Inv-loop μ-loop
-same-length-2 c = c .before .before .loop .inv .1 .second
+same-length-2 c = at-loop-from-struct-known (c .before) .loop .inv .1 .second
 
 same-length-3 : tie.Need-same-length-3 Inv-loop μ-loop
-same-length-3 c = c .before .before .loop .inv .1 .third
+same-length-3 c = at-loop-from-struct-known (c .before) .loop .inv .1 .third
 
 same-length-4 : tie.Need-same-length-4 Inv-loop μ-loop
-same-length-4 c = c .before .before .loop .inv .0 .written .long
+same-length-4 c = at-loop-from-struct-known (c .before) .loop .inv .0 .written .long
 
 returns : tie.Need-returns Inv-loop μ-loop
-returns c = finish (c .before .before .loop .inv .0) (c .if1 .left)
+returns c = finish (at-loop-from-struct-known (c .before) .loop .inv .0) (c .if1 .left)
 
 pub write-in-spec : {M : Type 1} → statement M
 write-in-spec =
