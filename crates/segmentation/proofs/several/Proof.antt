@@ -8,6 +8,13 @@ use borrow.Author.Needs.{needs}
 use Rattle.segmentation.proofs.several.Statement.{statement}
 use Rattle.segmentation.proofs.several.Tie as tie
 
+-- the ways back
+abbrev at-start : tie.After-first-row → tie.Start
+at-start c = c .before
+
+abbrev at-first-row : tie.After-size-at → tie.After-first-row
+at-first-row c = c .before
+
 add-blocks : tie.Need-add-blocks
 add-blocks c = search needs
 
@@ -21,15 +28,15 @@ first-row-requires : tie.Need-first-row-requires
 first-row-requires c κs = search needs
 
 sub-size-at : tie.Need-sub-size-at
-sub-size-at c = row-positive (c .before .pre .0) (c .before .pre .1) (c .first-row .ensures .0) (c .first-row .ensures .1)
+sub-size-at c = row-positive (at-start c .pre .0) (at-start c .pre .1) (c .first-row .ensures .0) (c .first-row .ensures .1)
 
 size-at-requires : tie.Need-size-at-requires
 size-at-requires c κs = search needs
 
 -- at the sums
-here : (c : tie.After-size-at) → Sums (blocksBy (c .before .before .args .b)) (needBy (c .before .before .args .b))
-    (c .before .first-row .result .size) (c .size-at .result) (shortsBy (c .before .before .args .b) (c .before .first-row .result .size) (c .size-at .result))
-here c = sums (c .before .before .pre .0) (c .before .before .pre .1) (c .before .first-row .ensures .0) (c .before .first-row .ensures .1) (c .size-at .ensures)
+here : (c : tie.After-size-at) → Sums (blocksBy (at-start (at-first-row c) .args .b)) (needBy (at-start (at-first-row c) .args .b))
+    (at-first-row c .first-row .result .size) (c .size-at .result) (shortsBy (at-start (at-first-row c) .args .b) (at-first-row c .first-row .result .size) (c .size-at .result))
+here c = sums (at-start (at-first-row c) .pre .0) (at-start (at-first-row c) .pre .1) (at-first-row c .first-row .ensures .0) (at-first-row c .first-row .ensures .1) (c .size-at .ensures)
 
 mul-shorts : tie.Need-mul-shorts
 mul-shorts c = omega (arith, mul-le-mul (here c .few) (here c .most))
@@ -60,7 +67,7 @@ sub-t13 c = here c .total
 
 returns : tie.Need-returns
 returns c =
-    worked (c .before .before .pre .0) (c .before .before .pre .1) (c .before .first-row .ensures .0) (c .before .first-row .ensures .1) (c .size-at .ensures)
+    worked (at-start (at-first-row c) .pre .0) (at-start (at-first-row c) .pre .1) (at-first-row c .first-row .ensures .0) (at-first-row c .first-row .ensures .1) (c .size-at .ensures)
 
 pub several-spec : {M : Type 1} → statement M
 several-spec =

@@ -34,10 +34,11 @@ same-length c = search needs
 
 returns : tie.Need-returns
 returns c =
-    let cleared = c .before .before .before .before .before .before in
+    let copy = c .before .before in
+    let cleared = copy .before .before .before .before in
     let at-start = cleared .before .before .before .before in
-    filled (at-start .args .zeros) (at-start .args .part .now) (at-start .args .c .now) (cleared .clear .last .0) (c .before .before .copy .last .1 .0)
-    (at-start .pre) (cleared .clear .ensures) (copied (at-start .args .part .now) _ (c .before .before .copy .ensures .1))
+    filled (at-start .args .zeros) (at-start .args .part .now) (at-start .args .c .now) (cleared .clear .last .0) (copy .copy .last .1 .0)
+    (at-start .pre) (cleared .clear .ensures) (copied (at-start .args .part .now) _ (copy .copy .ensures .1))
 
 pub fill-spec : {M : Type 1} → statement M
 fill-spec =
