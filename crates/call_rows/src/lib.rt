@@ -2,8 +2,8 @@
 pub mod rooms;
 
 use codeword::Grant;
+use slot_calls::states;
 use slots::State;
-use slots::states;
 ghost use mathlib.Core.Path.{_≡_};
 ghost use Prim.Native.Nat.{_+_, _-_, _*_, _≤_};
 ghost use lib.ListN.{length, take, drop};
@@ -49,7 +49,7 @@ pub fn put_read(
     let mut block = block_room();
     let outcome = rooms::read_in(state, four, slot, terminal, store, &mut block);
     let answer = outcome.answer;
-    if slots::is_done(answer) {
+    if slot_calls::is_done(answer) {
         let head = states::head_at(state, slot);
         let size = head.size;
         answers::put_run(&block[..size], out)
@@ -74,7 +74,7 @@ pub fn put_streams(
     let mut runs = streams_room();
     let outcome = rooms::streams_in(state, four, slot, terminal, block, store, &mut runs);
     let answer = outcome.answer;
-    if slots::is_done(answer) {
+    if slot_calls::is_done(answer) {
         let head = states::head_at(state, slot);
         let s = segmentation::segments_for(head.size);
         put_three(&runs, segmentation::block::size_of(s, block) + 4, out)

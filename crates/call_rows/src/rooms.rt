@@ -21,7 +21,7 @@ pub fn open_in(
     if four {
         packing::open_packed(state, slot, terminal, size, store)
     } else {
-        slots::open(state, slot, terminal, size, store)
+        slot_calls::open(state, slot, terminal, size, store)
     }
 }
 
@@ -56,7 +56,7 @@ pub fn open_down_in(
             store,
         )
     } else {
-        slots::open_down(
+        slot_calls::open_down(
             state,
             slot,
             terminal,

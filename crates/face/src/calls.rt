@@ -15,7 +15,7 @@ pub extern "C" fn zemrukste_new(bytes: &mut [u8], s: usize, m: usize) -> u32
     if bytes.len() < state::STATE_LEN {
         return 5;
     }
-    let outcome = slots::new(s, m);
+    let outcome = slot_calls::new(s, m);
     state::put_new(outcome, s, m, bytes);
     let answer = outcome.answer;
     state::number(answer)
@@ -36,7 +36,7 @@ pub extern "C" fn zemrukste_open(
     ensures stored { λ r. ⌜ now (store .exit) ≡ openStore (stateIn (now (bytes .entry))) slot a (now (store .entry)) ⌝ }
 {
     let state = state::state_in(bytes);
-    let outcome = slots::open(state, slot, terminal, a, store);
+    let outcome = slot_calls::open(state, slot, terminal, a, store);
     state::finish(outcome, slot, bytes)
 }
 
@@ -62,7 +62,7 @@ pub extern "C" fn zemrukste_open_down(
         ≡ openDownStore (stateIn (now (bytes .entry))) slot a release mimo processes soft layers (now (store .entry)) ⌝ }
 {
     let state = state::state_in(bytes);
-    let outcome = slots::open_down(
+    let outcome = slot_calls::open_down(
         state,
         slot,
         terminal,
@@ -161,6 +161,6 @@ pub extern "C" fn zemrukste_close(bytes: &mut [u8], slot: usize, terminal: u16) 
     ensures state { λ r. ⌜ now (bytes .exit)
         ≡ bytesAfter (closeOutcome (stateIn (now (bytes .entry))) slot terminal) slot (now (bytes .entry)) ⌝ }
 {
-    let outcome = slots::close(state::state_in(bytes), slot, terminal);
+    let outcome = slot_calls::close(state::state_in(bytes), slot, terminal);
     state::finish(outcome, slot, bytes)
 }

@@ -1,10 +1,10 @@
 // The state of the slots in the bytes that a C caller keeps.
 use crate::numbers;
+use slot_calls::states;
 use slots::Answer;
 use slots::Head;
 use slots::Outcome;
 use slots::State;
-use slots::states;
 ghost use mathlib.Core.Path.{_≡_};
 ghost use mathlib.Core.Bool.{cond};
 ghost use Prim.Native.Nat.{_+_, _≤_};
@@ -22,7 +22,7 @@ pub(crate) fn state_in(bytes: &[u8]) -> State
     ensures { λ r. ⌜ r ≡ stateIn (now (bytes .entry)) ⌝ }
 {
     if bytes.len() < STATE_LEN {
-        let refused = slots::new(0, 0);
+        let refused = slot_calls::new(0, 0);
         return refused.state;
     }
     whole_state(bytes)

@@ -1,7 +1,7 @@
 // Every room of a state changes its form, from one of two stores into the other (02, E7).
 use packing::PACKED_PER_BLOCK;
+use slot_calls::states::PER_BLOCK;
 use slots::State;
-use slots::states::PER_BLOCK;
 ghost use mathlib.Core.Path.{_≡_};
 ghost use mathlib.Core.Bool.{cond, not, true, false};
 ghost use Prim.Native.Nat.{_*_, _≤_};

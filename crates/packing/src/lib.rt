@@ -2,7 +2,7 @@
 mod opening;
 mod small;
 
-use slots::states::PER_BLOCK;
+use slot_calls::states::PER_BLOCK;
 ghost use mathlib.Core.Path.{_≡_};
 ghost use Prim.Native.Nat.{_*_, _/_, _≤_, min};
 ghost use lib.ListN.{length};

@@ -24,16 +24,16 @@ pub fn open_packed(
     ensures { λ r. ⌜ now (store .exit) ≡ inForm true (openStore state slot size (placesIn true (now (store .entry)))) ⌝ }
 {
     let room = places_asked(true, store.len());
-    let after = slots::open_outcome(state, room, slot, terminal, size);
+    let after = slot_calls::open_outcome(state, room, slot, terminal, size);
     let answer = after.answer;
-    if !slots::is_done(answer) {
+    if !slot_calls::is_done(answer) {
         return after;
     }
     clear_room(state.blocks, slot, store);
     after
 }
 
-// Opens a slot for a downlink, as `slots::open_down` does.
+// Opens a slot for a downlink, as `slot_calls::open_down` does.
 pub fn open_down_packed(
     state: State,
     slot: usize,
@@ -50,7 +50,7 @@ pub fn open_down_packed(
     ensures { λ r. ⌜ now (store .exit) ≡ inForm true (openDownStore state slot size release mimo processes soft layers (placesIn true (now (store .entry)))) ⌝ }
 {
     let room = places_asked(true, store.len());
-    let after = slots::open_down_outcome(
+    let after = slot_calls::open_down_outcome(
         state,
         room,
         slot,
@@ -63,7 +63,7 @@ pub fn open_down_packed(
         layers,
     );
     let answer = after.answer;
-    if !slots::is_done(answer) {
+    if !slot_calls::is_done(answer) {
         return after;
     }
     clear_room(state.blocks, slot, store);

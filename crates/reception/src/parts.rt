@@ -1,7 +1,7 @@
 // The parts of Receive: the bits of a code block are put turn after turn, code block after code block.
 use crate::circle;
 use codeword::Grant;
-use slots::states::PER_BLOCK;
+use slot_calls::states::PER_BLOCK;
 ghost use mathlib.Core.Path.{_≡_};
 ghost use Prim.Native.Nat.{_+_, _≤_, _<_};
 ghost use lib.ListN.{length};

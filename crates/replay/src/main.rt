@@ -88,7 +88,7 @@ fn replay_reads(text: &mut [u8], plain: &mut [u8], packed: &mut [u8], out: &mut 
     requires { ⌜ 200001 < length (now text) ⌝ }
     ensures { λ r. ⌜ r .have ≤ length (now (text .exit)) ⌝ }
 {
-    let begun = slots::new(0, 0);
+    let begun = slot_calls::new(0, 0);
     let state = begun.state;
     let got = first_read(text);
     let mut read = Read {

@@ -1,14 +1,4 @@
 // The slots of 01: a state by value, and a store of rooms that the caller lends.
-mod opening;
-pub mod states;
-
-pub use opening::close;
-pub use opening::is_done;
-pub use opening::new;
-pub use opening::open;
-pub use opening::open_down;
-pub use opening::open_down_outcome;
-pub use opening::open_outcome;
 
 // A slot's head: closed, or open for a terminal with a block of `size` bits (A), each code block having `share` places of the soft buffer:
 // 18,528 in an uplink, the floor of N_IR / C in a downlink, 0 in a closed head.

@@ -4,10 +4,10 @@ mod change;
 use codeword::Grant;
 use requests::Request;
 use requests::Verb;
+use slot_calls::states;
 use slots::Answer;
 use slots::Outcome;
 use slots::State;
-use slots::states;
 ghost use mathlib.Core.Path.{_≡_};
 ghost use Prim.Native.Nat.{_≤_};
 ghost use lib.ListN.{length};
@@ -129,14 +129,14 @@ fn call_line(
     let n = request.numbers;
     let bits = request.bits;
     match verb {
-        Verb::New => told(slots::new(n[0], n[1]), four, out),
+        Verb::New => told(slot_calls::new(n[0], n[1]), four, out),
         Verb::Open => told(
             call_rows::rooms::open_in(state, four, n[0], n[1] as u16, n[2], store),
             four,
             out,
         ),
         Verb::OpenDown => told_share(opened_down(state, four, n, store), n[0], four, out),
-        Verb::Close => told(slots::close(state, n[0], n[1] as u16), four, out),
+        Verb::Close => told(slot_calls::close(state, n[0], n[1] as u16), four, out),
         Verb::Receive => told(received(state, four, n, line, bits, store), four, out),
         Verb::Read => unchanged(
             state,
@@ -200,7 +200,7 @@ fn told_share(outcome: Outcome, slot: usize, four: bool, out: &mut [u8]) -> Step
 {
     let answer = outcome.answer;
     let state = outcome.state;
-    if !slots::is_done(answer) {
+    if !slot_calls::is_done(answer) {
         return told(outcome, four, out);
     }
     let head = states::head_at(state, slot);

@@ -1,0 +1,57 @@
+-- `opening::clear_room` meets its contract: the part that was lent came back unheard.
+-- Assumes nothing.
+use Prim.Native.Nat.{_+_, _≤_}
+use lib.ListN.{length}
+use denote.Ref.{now}
+use borrow.Author.Needs.{needs}
+use Rattle.slots.proofs.Cleared.{room-cleared}
+use Rattle.slot_calls.proofs.opening.clear_room.Statement.{statement}
+use Rattle.slot_calls.proofs.opening.clear_room.Tie as tie
+
+-- the room lies within the store
+ends : (c : tie.After-room-length) → c .before .room-start .result + c .room-length .result ≤ length (now (c .before .before .before .args .store))
+ends c = rw (c .before .room-start .ensures, c .room-length .ensures) (c .before .before .before .pre .1)
+
+room-start-requires : tie.Need-room-start-requires
+room-start-requires c κs = search needs
+
+room-length-requires : tie.Need-room-length-requires
+room-length-requires c κs = search needs
+
+add-to : tie.Need-add-to
+add-to c = search needs
+
+sub-fill : tie.Need-sub-fill
+sub-fill c = search needs
+
+part-fill-start : tie.Need-part-fill-start
+part-fill-start c = search needs
+
+part-fill-end : tie.Need-part-fill-end
+part-fill-end c = search needs
+
+fill-requires : tie.Need-fill-requires
+fill-requires c κs = search needs
+
+same-length : tie.Need-same-length
+same-length c = search needs
+
+returns : tie.Need-returns
+returns c =
+    let lent = c .before .before .before .before in
+    let entry = lent .before .before .before .args in
+    room-cleared (entry .m) (entry .slot) (now (entry .store)) (c .before .before .fill .last .0) (lent .before .room-start .ensures) (lent .room-length .ensures) (ends lent) (c .before .before .fill .ensures)
+
+pub clear-room-spec : {M : Type 1} → statement M
+clear-room-spec =
+    tie.close
+    (tie.spec
+    room-start-requires
+    room-length-requires
+    add-to
+    sub-fill
+    part-fill-start
+    part-fill-end
+    fill-requires
+    same-length
+    returns)

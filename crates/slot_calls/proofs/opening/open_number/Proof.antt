@@ -1,0 +1,50 @@
+-- `opening::open_number` meets its contract: the chain over `storeRules` goes on over 7, 1 and 10.
+-- Assumes nothing.
+use borrow.Author.Needs.{needs}
+use Rattle.refusals.proofs.Refusals.{chained-on, next, done}
+use Rattle.slots.specs.Calls.{storeRules, openRules, openNumber}
+use Rattle.slot_calls.proofs.opening.open_number.Statement.{statement}
+use Rattle.slot_calls.proofs.opening.open_number.Tie as tie
+
+head-at-requires : tie.Need-head-at-requires
+head-at-requires c κs = search needs
+
+store-number-requires : tie.Need-store-number-requires
+store-number-requires c κs = search needs
+
+or-else-requires : tie.Need-or-else-requires
+or-else-requires c κs = search needs
+
+bad-size-requires : tie.Need-bad-size-requires
+bad-size-requires c κs = search needs
+
+or-else-requires-2 : tie.Need-or-else-requires-2
+or-else-requires-2 c κs = search needs
+
+too-many-requires : tie.Need-too-many-requires
+too-many-requires c κs = search needs
+
+or-else-requires-3 : tie.Need-or-else-requires-3
+or-else-requires-3 c κs = search needs
+
+returns : tie.Need-returns
+unfolding openNumber openRules storeRules
+returns c =
+    let entry = c .before .before .before .before .before .before .before .args in
+    let opened = rw (c .before .before .before .before .before .before .head-at .ensures) at (c .before .before .before .before .or-else .ensures) in
+    let sized = rw (c .before .before .before .bad-size .ensures) at (c .before .before .or-else2 .ensures) in
+    let many = rw (c .before .too-many .ensures) at (c .or-else3 .ensures) in
+    chained-on (storeRules (entry .state) (entry .room) (entry .slot)) (c .before .before .before .before .before .store-number .ensures) (next opened (next sized (next many done))) tt tt
+
+pub open-number-spec : {M : Type 1} → statement M
+open-number-spec =
+    tie.close
+    (tie.spec
+    head-at-requires
+    store-number-requires
+    or-else-requires
+    bad-size-requires
+    or-else-requires-2
+    too-many-requires
+    or-else-requires-3
+    returns)

@@ -1,0 +1,47 @@
+-- `states::store_number` meets its contract: 13 by itself, then a chain over the other rules of `storeRules`.
+-- Assumes nothing.
+use mathlib.Core.Path.{_≡_, sym, _∙_}
+use borrow.Author.Needs.{needs}
+use Rattle.refusals.specs.Refusals.{firstOf, orElse}
+use Rattle.refusals.proofs.Refusals.{chained, next, done}
+use Rattle.slots.specs.State.{roomStart, storeLength, badState}
+use Rattle.slots.specs.Calls.{storeRules}
+use Rattle.slots.proofs.Accepted.{good}
+use Rattle.slot_calls.proofs.states.store_number.Statement.{statement}
+use Rattle.slot_calls.proofs.states.store_number.Tie as tie
+
+bad-state-requires : tie.Need-bad-state-requires
+bad-state-requires c κs = search needs
+
+returns : tie.Need-returns
+unfolding storeRules firstOf
+returns c = rw (← (c .before .bad-state .ensures), c .if1 .taken)
+
+room-start-requires : tie.Need-room-start-requires
+room-start-requires c κs =
+    let shape = good (c .before .before .args .state) (sym (c .before .bad-state .ensures) ∙ c .if1 .left) .shape in
+    (shape .blocks-most, shape .slots-most)
+
+or-else-requires : tie.Need-or-else-requires
+or-else-requires c κs = search needs
+
+or-else-requires-2 : tie.Need-or-else-requires-2
+or-else-requires-2 c κs = search needs
+
+returns-2 : tie.Need-returns-2
+unfolding storeRules orElse storeLength roomStart
+returns-2 c =
+    let asked = c .before .before .before in
+    let sound : 0 ≡ orElse 0 (badState (asked .before .before .args .state)) 13 = rw (← (asked .before .bad-state .ensures), asked .if1 .left) in
+    chained (next sound (next (rw (c .before .before .room-start .ensures) at (c .before .or-else .ensures)) (next (c .or-else2 .ensures) done))) tt
+
+pub store-number-spec : {M : Type 1} → statement M
+store-number-spec =
+    tie.close
+    (tie.spec
+    bad-state-requires
+    returns
+    room-start-requires
+    or-else-requires
+    or-else-requires-2
+    returns-2)

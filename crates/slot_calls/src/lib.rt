@@ -1,0 +1,11 @@
+// The calls New, Open for either link, and Close, and what every call on slots asks of a state first.
+mod opening;
+pub mod states;
+
+pub use opening::close;
+pub use opening::is_done;
+pub use opening::new;
+pub use opening::open;
+pub use opening::open_down;
+pub use opening::open_down_outcome;
+pub use opening::open_outcome;
