@@ -1,11 +1,11 @@
 -- Laws of the matcher's loops and of its ring: the bits of columns and of units put into it one after another, until there are as many as are sent.
 -- Assumes nothing.
-use mathlib.Core.Path.{_≡_, refl, sym, _∙_, ap, subst}
+use mathlib.Core.Path.{_≡_, refl, sym, _∙_, ap, ap₂, subst}
 use mathlib.Core.Bool.{Bool, true, false, cond, _&&_, and-eq-true-iff}
 use mathlib.Core.Logic.{⊎-elim}
 use mathlib.Core.List.{List, _∷_, _++_, append-nil, append-assoc}
-use Prim.Native.Nat.{ℕ, suc, _+_, _-_, _*_, _/_, _%_, _≤_, _<_}
-use native.Mathlib.Nat.{add-sub-cancel-left, eq-zero-or-pos, mod-eq-of-lt}
+use Prim.Native.Nat.{ℕ, zero, suc, _+_, _-_, _*_, _/_, _%_, _≤_, _<_}
+use native.Mathlib.Nat.{add-sub-cancel-left, add-zero, zero-add, eq-zero-or-pos, mod-eq-of-lt}
 use native.Mathlib.Numerals.{add-one}
 use native.Mathlib.Omega.{arith}
 use mir.Val.{Fits}
@@ -23,7 +23,7 @@ use Rattle.rate_matching.specs.Walk.{turnAfterTurn}
 use Rattle.rate_matching.specs.declared.Unit.{Unit}
 use Rattle.rate_matching.specs.SubBlocks.{rows}
 use Rattle.rate_matching.specs.Places.{longest}
-use Rattle.rate_matching.specs.Units.{everyRow, pairRow, unitWithin, aloneCount, bothCount, bitsOf, unitBits, unitsFrom, unitStart, Lies, Reads, Holds, Put, PutTo}
+use Rattle.rate_matching.specs.Units.{everyRow, pairRow, unitWithin, aloneCount, bothCount, columnBits, pairBits, bitsOf, unitBits, unitsFrom, unitStart, Lies, Reads, Holds, Put, PutTo}
 use Rattle.rate_matching.proofs.UnitPlaces.{unit-few}
 use Rattle.rate_matching.proofs.Units.{low-next, high-next, starts-rise}
 
@@ -125,12 +125,10 @@ module _ {U : Unit} (l : Lies U) (n : ℕ) (ring : List ℕ) (room : n + (aloneC
   unfolding bothCount
   column-lent = length-mid n (n + (U .end .0 - U .both .0)) ring (omega arith) ∙ add-sub-cancel-left n (U .end .0 - U .both .0)
 
-  pub put-column : (d0 d1 d2 part : List ℕ) → U .first .0 ≡ 0 → part ≡ tab (length (midOf n (n + (U .end .0 - U .both .0) - n) ring)) (everyRow d0 (U .first .1))
-      → Put (bitsOf d0 d1 d2 U) ring n (putMid n (n + (U .end .0 - U .both .0) - n) ring part) (n + (U .end .0 - U .both .0))
-  unfolding bitsOf bothCount
-  put-column d0 d1 d2 part z s =
-      simp (eq-eqb (U .first .0) 0 z)
-      (put-part n (n + (U .end .0 - U .both .0)) ring (U .end .0 - U .both .0) (everyRow d0 (U .first .1)) refl (omega arith) s)
+  pub put-column : (d0 part : List ℕ) → part ≡ tab (length (midOf n (n + (U .end .0 - U .both .0) - n) ring)) (everyRow d0 (U .first .1))
+      → Put (columnBits d0 U) ring n (putMid n (n + (U .end .0 - U .both .0) - n) ring part) (n + (U .end .0 - U .both .0))
+  unfolding bothCount
+  put-column d0 part s = put-part n (n + (U .end .0 - U .both .0)) ring (U .end .0 - U .both .0) (everyRow d0 (U .first .1)) refl (omega arith) s
 
   -- stream 2 alone
   pub alone-within : mid ≤ length ring
@@ -160,14 +158,22 @@ module _ {U : Unit} (l : Lies U) (n : ℕ) (ring : List ℕ) (room : n + (aloneC
     both-ask a b r z = rw (both-lent, a, b) (r .first z, r .second z)
 
     -- then both by turns
-    pub put-pairs : (d0 d1 d2 pairs : List ℕ) → (U .first .0 ≡ 0 → ⊥) → part ≡ tab (length (midOf n (mid - n) ring)) (everyRow d2 (U .early .1))
+    pub put-pairs : (d1 d2 pairs : List ℕ) → part ≡ tab (length (midOf n (mid - n) ring)) (everyRow d2 (U .early .1))
         → pairs ≡ tab (length (midOf mid (end - mid) (putMid n (mid - n) ring part))) (pairRow d1 d2 (U .first .1))
-        → Put (bitsOf d0 d1 d2 U) ring n (putMid mid (end - mid) (putMid n (mid - n) ring part) pairs) end
-    unfolding bitsOf aloneCount bothCount
-    put-pairs d0 d1 d2 pairs z s t =
-        simp (ne-eqb (U .first .0) 0 z)
-        (put-join (put-part n mid ring ((U .both .0 + 1 - U .alone .0) / 2) (everyRow d2 (U .early .1)) refl alone-within s)
-        (put-part mid end (putMid n (mid - n) ring part) (U .end .0 - U .both .0) (pairRow d1 d2 (U .first .1)) refl both-within t))
+        → Put (pairBits d1 d2 U) ring n (putMid mid (end - mid) (putMid n (mid - n) ring part) pairs) end
+    unfolding aloneCount bothCount
+    put-pairs d1 d2 pairs s t =
+        put-join (put-part n mid ring ((U .both .0 + 1 - U .alone .0) / 2) (everyRow d2 (U .early .1)) refl alone-within s)
+        (put-part mid end (putMid n (mid - n) ring part) (U .end .0 - U .both .0) (pairRow d1 d2 (U .first .1)) refl both-within t)
+
+-- the bits of either kind of unit
+pub bits-column : (d0 d1 d2 : List ℕ) (U : Unit) → U .first .0 ≡ 0 → columnBits d0 U ≡ bitsOf d0 d1 d2 U
+unfolding bitsOf
+bits-column d0 d1 d2 U z = rw (eq-eqb (U .first .0) 0 z)
+
+pub bits-pair : (d0 d1 d2 : List ℕ) (U : Unit) → (U .first .0 ≡ 0 → ⊥) → pairBits d1 d2 U ≡ bitsOf d0 d1 d2 U
+unfolding bitsOf
+bits-pair d0 d1 d2 U z = rw (ne-eqb (U .first .0) 0 z)
 
 -- how many bits it has
 length-bits : (d0 d1 d2 : List ℕ) (U : Unit) → length (bitsOf d0 d1 d2 U) ≤ aloneCount U + bothCount U
@@ -187,6 +193,14 @@ pub unit-put : (D F u : ℕ) (d0 d1 d2 : List ℕ) {U : Unit} {ring : List ℕ} 
     → Put (unitBits D d0 d1 d2 F u) ring n ring′ r
 unfolding unitBits
 unit-put D F u d0 d1 d2 {U} {ring} {n} {ring′} {r} is p = subst (λ (x : Unit). Put (bitsOf d0 d1 d2 x) ring n ring′ r) is p
+
+pub column-unit-put : (D F u : ℕ) (d0 d1 d2 : List ℕ) {U : Unit} {ring : List ℕ} {n : ℕ} {ring′ : List ℕ} {r : ℕ} → U ≡ unitWithin D F u → U .first .0 ≡ 0
+    → Put (columnBits d0 U) ring n ring′ r → Put (unitBits D d0 d1 d2 F u) ring n ring′ r
+column-unit-put D F u d0 d1 d2 {U} {ring} {n} {ring′} {r} is z p = unit-put D F u d0 d1 d2 is (subst (λ (l : List ℕ). Put l ring n ring′ r) (bits-column d0 d1 d2 U z) p)
+
+pub pair-unit-put : (D F u : ℕ) (d0 d1 d2 : List ℕ) {U : Unit} {ring : List ℕ} {n : ℕ} {ring′ : List ℕ} {r : ℕ} → U ≡ unitWithin D F u → (U .first .0 ≡ 0 → ⊥)
+    → Put (pairBits d1 d2 U) ring n ring′ r → Put (unitBits D d0 d1 d2 F u) ring n ring′ r
+pair-unit-put D F u d0 d1 d2 {U} {ring} {n} {ring′} {r} is z p = unit-put D F u d0 d1 d2 is (subst (λ (l : List ℕ). Put l ring n ring′ r) (bits-pair d0 d1 d2 U z) p)
 
 pub unit-most : (R u : ℕ) → unitStart R (u + 1) - unitStart R u ≤ 2 * R
 unit-most R u = go (ltb u 32) refl
@@ -323,6 +337,44 @@ putTo-join {most} {xs = xs} {ys = ys} {ring₀} {ring₁} {n = n} {m = m} p q = 
       ∙ cut-join most (take n ring₀ ++ xs) ys
       ∙ ap (take most) (append-assoc (take n ring₀) xs ys);
 }
+
+-- columns, and then pairs
+units-split : (D : ℕ) (d0 d1 d2 : List ℕ) (F u a b : ℕ) → unitsFrom D d0 d1 d2 F u (a + b) ≡ unitsFrom D d0 d1 d2 F u a ++ unitsFrom D d0 d1 d2 F (u + a) b
+unfolding unitsFrom
+units-split D d0 d1 d2 F u zero b = ap₂ (unitsFrom D d0 d1 d2 F) (sym (add-zero u)) (zero-add b)
+units-split D d0 d1 d2 F u (suc a) b =
+    let one : suc a + b ≡ suc (a + b) = omega arith in
+    let on : suc u + a ≡ u + suc a = omega arith in
+    ap (unitsFrom D d0 d1 d2 F u) one
+    ∙ ap (λ (l : List ℕ). unitBits D d0 d1 d2 F u ++ l) (units-split D d0 d1 d2 F (suc u) a b ∙ ap (λ (k : ℕ). unitsFrom D d0 d1 d2 F (suc u) a ++ unitsFrom D d0 d1 d2 F k b) on)
+    ∙ sym (append-assoc (unitBits D d0 d1 d2 F u) (unitsFrom D d0 d1 d2 F (suc u) a) (unitsFrom D d0 d1 d2 F (u + suc a) b))
+
+module _ {R most from to : ℕ} (n : ℕ) {room : ℕ} (low : from ≤ 32) (high : 32 ≤ to) (h : Holds R most (n + (unitStart R to - unitStart R from)) room) where
+  pub columns-room : Holds R most (n + (unitStart R 32 - unitStart R from)) room
+  columns-room = record { fits = λ g. omega (arith, h .fits g, starts-rise R from 32 low, starts-rise R 32 to high) }
+
+  pub pairs-room : {xs ring₀ ring₁ : List ℕ} {m k : ℕ} → PutTo most xs (unitStart R 32 - unitStart R from) ring₀ n ring₁ m → k ≡ room
+      → Holds R most (m + (unitStart R to - unitStart R 32)) k
+  pairs-room p e = rw e record { fits = λ g. omega (arith, h .fits g, p .within, starts-rise R from 32 low, starts-rise R 32 to high) }
+
+pub columns-pairs : (D : ℕ) (d0 d1 d2 : List ℕ) (F from to : ℕ) {most n m r : ℕ} {ring₀ ring₁ ring₂ : List ℕ} → from ≤ 32 → 32 ≤ to
+    → PutTo most (unitsFrom D d0 d1 d2 F from (32 - from)) (unitStart (rows D) 32 - unitStart (rows D) from) ring₀ n ring₁ m
+    → PutTo most (unitsFrom D d0 d1 d2 F 32 (to - 32)) (unitStart (rows D) to - unitStart (rows D) 32) ring₁ m ring₂ r
+    → PutTo most (unitsFrom D d0 d1 d2 F from (to - from)) (unitStart (rows D) to - unitStart (rows D) from) ring₀ n ring₂ r
+columns-pairs D d0 d1 d2 F from to {most} {n} {r = r} {ring₀} {ring₂ = ring₂} low high p q =
+    subst (λ (k : ℕ). PutTo most (unitsFrom D d0 d1 d2 F from (to - from)) k ring₀ n ring₂ r) sizes
+    (subst (λ (l : List ℕ). PutTo most l (unitStart (rows D) 32 - unitStart (rows D) from + (unitStart (rows D) to - unitStart (rows D) 32)) ring₀ n ring₂ r) bits (putTo-join p q))
+  where
+    sizes : unitStart (rows D) 32 - unitStart (rows D) from + (unitStart (rows D) to - unitStart (rows D) 32) ≡ unitStart (rows D) to - unitStart (rows D) from
+    sizes = omega (arith, starts-rise (rows D) from 32 low, starts-rise (rows D) 32 to high)
+
+    bits : unitsFrom D d0 d1 d2 F from (32 - from) ++ unitsFrom D d0 d1 d2 F 32 (to - 32) ≡ unitsFrom D d0 d1 d2 F from (to - from)
+    bits =
+        let count : 32 - from + (to - 32) ≡ to - from = omega arith in
+        let on : from + (32 - from) ≡ 32 = omega arith in
+        ap (λ (k : ℕ). unitsFrom D d0 d1 d2 F from (32 - from) ++ unitsFrom D d0 d1 d2 F k (to - 32)) (sym on)
+        ∙ sym (units-split D d0 d1 d2 F from (32 - from) (to - 32))
+        ∙ ap (unitsFrom D d0 d1 d2 F from) count
 
 -- the units from the start on are put, then those before it
 module _ {most size₁ size₂ : ℕ} {xs ys ring₀ ring₁ ring₂ : List ℕ} {n r : ℕ} (p : PutTo most xs size₁ ring₀ 0 ring₁ n) (q : PutTo most ys size₂ ring₁ n ring₂ r) where

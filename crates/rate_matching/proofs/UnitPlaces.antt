@@ -49,6 +49,22 @@ pub unit-high : (D F : ℕ) {u : ℕ} → 32 ≤ u → unitAt D F u ≡ pairUnit
 unfolding unitAt
 unit-high D F {u} h = rw (le-ltb u 32 h)
 
+-- as it is found
+pub column-within : {D F u : ℕ} {U : Unit} → D ≤ longest → F < D → u < 32 → U ≡ columnUnit D F u → U ≡ unitWithin D F u
+column-within {D} {F} {u} most few low e = e ∙ sym (unit-there most few (omega arith) ∙ unit-low D F low)
+
+pub pair-within : {D F u : ℕ} {U : Unit} → D ≤ longest → F < D → 32 ≤ u → u < 64 → U ≡ pairUnit D F (u - 32) → U ≡ unitWithin D F u
+pair-within {D} {F} {u} most few high low e = e ∙ sym (unit-there most few low ∙ unit-high D F high)
+
+-- which stream its first place is of
+pub column-stream : (D F c : ℕ) {U : Unit} → U ≡ columnUnit D F c → U .first .0 ≡ 0
+unfolding columnUnit
+column-stream D F c e = ap (λ (x : Unit). x .first .0) e
+
+pub pair-stream : (D F c : ℕ) {U : Unit} → U ≡ pairUnit D F c → U .first .0 ≡ 0 → ⊥
+unfolding pairUnit
+pair-stream D F c {U} e z = let one : U .first .0 ≡ 1 = ap (λ (x : Unit). x .first .0) e in omega arith
+
 -- ---- the rows of a column
 
 -- e is the first row of stream 2, f that of a stream with filler

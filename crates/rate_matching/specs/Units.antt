@@ -79,12 +79,16 @@ everyRow d from q = getD d (from + 32 * q) 0
 unfoldable pub pairRow : List ℕ → List ℕ → ℕ → ℕ → ℕ
 pairRow d1 d2 from k = cond (eqb (k % 2) 0) (everyRow d1 from (k / 2)) (everyRow d2 (from + 1) (k / 2))
 
--- the bits of a unit: those of a column of d(0), or those of d(2) alone and then of d(1) and d(2) by turns
+-- the bits of a column of d(0), and those of a column of d(1) and d(2): of d(2) alone, and then of both by turns
+abbrev pub columnBits : List ℕ → Unit → List ℕ
+columnBits d0 U = tab (bothCount U) (everyRow d0 (U .first .1))
+
+abbrev pub pairBits : List ℕ → List ℕ → Unit → List ℕ
+pairBits d1 d2 U = tab (aloneCount U) (everyRow d2 (U .early .1)) ++ tab (bothCount U) (pairRow d1 d2 (U .first .1))
+
+-- the bits of a unit
 unfoldable pub bitsOf : List ℕ → List ℕ → List ℕ → Unit → List ℕ
-bitsOf d0 d1 d2 U =
-    cond (eqb (U .first .0) 0)
-    (tab (bothCount U) (everyRow d0 (U .first .1)))
-    (tab (aloneCount U) (everyRow d2 (U .early .1)) ++ tab (bothCount U) (pairRow d1 d2 (U .first .1)))
+bitsOf d0 d1 d2 U = cond (eqb (U .first .0) 0) (columnBits d0 U) (pairBits d1 d2 U)
 
 -- the bits of unit u of streams of D places with F filler bits
 unfoldable pub unitBits : ℕ → List ℕ → List ℕ → List ℕ → ℕ → ℕ → List ℕ

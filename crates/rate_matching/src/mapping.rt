@@ -31,7 +31,7 @@ fn rows_before(i: usize, p: usize) -> usize
 }
 
 // Column c of stream 0: its bits begin behind the dummies and the filler.
-fn column_unit(d: usize, filler: usize, c: usize) -> Unit
+pub(crate) fn column_unit(d: usize, filler: usize, c: usize) -> Unit
     requires { ⌜ (d ≤ 6148) × (filler < d) × (c < 32) ⌝ }
     ensures { λ r. ⌜ r ≡ columnUnit d filler c ⌝ }
 {
@@ -53,7 +53,7 @@ fn column_unit(d: usize, filler: usize, c: usize) -> Unit
 }
 
 // Column c of streams 1 and 2. Stream 2 has no filler and is read one further, so that its bits begin earlier; the last place of column 31 wraps to a dummy.
-fn pair_unit(d: usize, filler: usize, c: usize) -> Unit
+pub(crate) fn pair_unit(d: usize, filler: usize, c: usize) -> Unit
     requires { ⌜ (d ≤ 6148) × (filler < d) × (c < 32) ⌝ }
     ensures { λ r. ⌜ r ≡ pairUnit d filler c ⌝ }
 {

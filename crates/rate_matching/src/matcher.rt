@@ -3,18 +3,21 @@
 use crate::StreamPlace;
 use crate::Unit;
 use crate::mapping::LONGEST;
+use crate::mapping::column_unit;
+use crate::mapping::pair_unit;
 use crate::mapping::rows_of;
 use crate::mapping::unit_at;
 use crate::shortened::turn_in;
 ghost use mathlib.Core.Path.{_≡_};
 ghost use mathlib.Core.Bool.{true};
-ghost use Prim.Native.Nat.{_+_, _-_, _*_, _/_, _%_, _^_, _≤_, _<_};
+ghost use mathlib.Core.List.{List};
+ghost use Prim.Native.Nat.{ℕ, _+_, _-_, _*_, _/_, _%_, _^_, _≤_, _<_};
 ghost use lib.ListN.{length, take};
 ghost use Rattle.laws.specs.Lists.{tab};
 ghost use Rattle.rate_matching.specs.SubBlocks.{rows};
 ghost use Rattle.rate_matching.specs.Circle.{circleLength};
 ghost use Rattle.rate_matching.specs.Walk.{turnAfterTurn};
-ghost use Rattle.rate_matching.specs.Units.{everyRow, pairRow, aloneCount, bothCount, bitsOf, unitsFrom, unitStart, Reads, Fitting, Holds, ringRoom, Put, PutTo};
+ghost use Rattle.rate_matching.specs.Units.{everyRow, pairRow, aloneCount, bothCount, columnBits, pairBits, bitsOf, unitsFrom, unitStart, Reads, Fitting, Holds, ringRoom, Put, PutTo};
 ghost use Rattle.rate_matching.specs.Matcher.{matchable, matchedInto, repeatedInto, TurnIn};
 
 // The room for a turn is filled when it is made, so there are three: for the circle of a short block, with R up to 5, or few bits of any block;
@@ -62,27 +65,95 @@ fn read_pairs(d1: &[u8], d2: &[u8], from: StreamPlace, part: &mut [u8])
     }
 }
 
-// Puts the bits of a unit into the ring from its place n on, and tells where they end: a column of d(0), or one of d(2) alone and then of d(1) and d(2) by
-// turns.
+// Puts the bits of a column of d(0) into the ring from its place n on, and tells where they end.
+fn put_column(d0: &[u8], unit: Unit, ring: &mut [u8], n: usize) -> usize
+    requires { ⌜ Reads (length (now d0)) unit × (unit .first .0 ≡ 0) × (n + (aloneCount unit + bothCount unit) ≤ length (now ring)) ⌝ }
+    ensures { λ r. ⌜ Put (columnBits (now (d0 .entry)) unit) (now (ring .entry)) n (now (ring .exit)) r ⌝ }
+{
+    let end = n + (unit.end.0 - unit.both.0);
+    read_column(d0, unit.first, &mut ring[n..end]);
+    end
+}
+
+// The same of a column of d(1) and d(2): those of d(2) alone, and then of both by turns.
+fn put_pair(d1: &[u8], d2: &[u8], unit: Unit, ring: &mut [u8], n: usize) -> usize
+    requires { ⌜ (length (now d2) ≡ length (now d1)) × Reads (length (now d1)) unit × (unit .first .0 ≡ 0 → ⊥)
+        × (n + (aloneCount unit + bothCount unit) ≤ length (now ring)) ⌝ }
+    ensures { λ r. ⌜ Put (pairBits (now (d1 .entry)) (now (d2 .entry)) unit) (now (ring .entry)) n (now (ring .exit)) r ⌝ }
+{
+    let mid = n + (unit.both.0 + 1 - unit.alone.0) / 2;
+    read_column(d2, unit.early, &mut ring[n..mid]);
+    let end = mid + (unit.end.0 - unit.both.0);
+    read_pairs(d1, d2, unit.first, &mut ring[mid..end]);
+    end
+}
+
+// The same of a unit of either kind.
 fn put_unit(d0: &[u8], d1: &[u8], d2: &[u8], unit: Unit, ring: &mut [u8], n: usize) -> usize
     requires { ⌜ (length (now d1) ≡ length (now d0)) × (length (now d2) ≡ length (now d0)) × Reads (length (now d0)) unit
         × (n + (aloneCount unit + bothCount unit) ≤ length (now ring)) ⌝ }
     ensures { λ r. ⌜ Put (bitsOf (now (d0 .entry)) (now (d1 .entry)) (now (d2 .entry)) unit) (now (ring .entry)) n (now (ring .exit)) r ⌝ }
 {
-    let both = unit.end.0 - unit.both.0;
     if unit.first.0 == 0 {
-        let end = n + both;
-        read_column(d0, unit.first, &mut ring[n..end]);
-        return end;
+        return put_column(d0, unit, ring, n);
     }
-    let mid = n + (unit.both.0 + 1 - unit.alone.0) / 2;
-    read_column(d2, unit.early, &mut ring[n..mid]);
-    let end = mid + both;
-    read_pairs(d1, d2, unit.first, &mut ring[mid..end]);
+    put_pair(d1, d2, unit, ring, n)
+}
+
+// Puts the bits of the columns of d(0) from `from` to `to` into the ring from its place n on until it holds `most`, and tells where they end. Columns and
+// pairs have loops of their own: in each the compiler knows the kind of unit, and works out once what all of them share.
+fn put_columns(
+    d0: &[u8],
+    filler: usize,
+    from: usize,
+    to: usize,
+    ring: &mut [u8],
+    n: usize,
+    most: usize,
+) -> usize
+    requires { ⌜ (length (now d0) ≤ 6148) × (filler < length (now d0)) × (from ≤ to) × (to ≤ 32) × (n ≤ length (now ring))
+        × Holds (rows (length (now d0))) most (n + (unitStart (rows (length (now d0))) to - unitStart (rows (length (now d0))) from)) (length (now ring)) ⌝ }
+    ensures { λ r. ⌜ ((d1 d2 : List ℕ) → PutTo most (unitsFrom (length (now (d0 .entry))) (now (d0 .entry)) d1 d2 filler from (to - from))
+        (unitStart (rows (length (now (d0 .entry)))) to - unitStart (rows (length (now (d0 .entry)))) from)
+        (now (ring .entry)) n (now (ring .exit)) r) ⌝ }
+{
+    let mut end = n;
+    let mut u = from;
+    while (u < to) & (end < most) {
+        end = put_column(d0, column_unit(d0.len(), filler, u), ring, end);
+        u += 1;
+    }
     end
 }
 
-// Puts the bits of the units from `from` to `to` into the ring from its place n on until it holds `most`, and tells where they end.
+// The same of the columns of d(1) and d(2), which are the units from 32 on.
+fn put_pairs(
+    d1: &[u8],
+    d2: &[u8],
+    filler: usize,
+    from: usize,
+    to: usize,
+    ring: &mut [u8],
+    n: usize,
+    most: usize,
+) -> usize
+    requires { ⌜ (length (now d2) ≡ length (now d1)) × (length (now d1) ≤ 6148) × (filler < length (now d1)) × (32 ≤ from) × (from ≤ to) × (to ≤ 64)
+        × (n ≤ length (now ring))
+        × Holds (rows (length (now d1))) most (n + (unitStart (rows (length (now d1))) to - unitStart (rows (length (now d1))) from)) (length (now ring)) ⌝ }
+    ensures { λ r. ⌜ ((d0 : List ℕ) → PutTo most (unitsFrom (length (now (d1 .entry))) d0 (now (d1 .entry)) (now (d2 .entry)) filler from (to - from))
+        (unitStart (rows (length (now (d1 .entry)))) to - unitStart (rows (length (now (d1 .entry)))) from)
+        (now (ring .entry)) n (now (ring .exit)) r) ⌝ }
+{
+    let mut end = n;
+    let mut u = from;
+    while (u < to) & (end < most) {
+        end = put_pair(d1, d2, pair_unit(d1.len(), filler, u - 32), ring, end);
+        u += 1;
+    }
+    end
+}
+
+// Puts the bits of the units from `from` to `to` in the same way.
 fn put_units(
     d0: &[u8],
     d1: &[u8],
@@ -101,13 +172,14 @@ fn put_units(
         (unitStart (rows (length (now (d0 .entry)))) to - unitStart (rows (length (now (d0 .entry)))) from)
         (now (ring .entry)) n (now (ring .exit)) r ⌝ }
 {
-    let mut end = n;
-    let mut u = from;
-    while (u < to) & (end < most) {
-        end = put_unit(d0, d1, d2, unit_at(d0.len(), filler, u), ring, end);
-        u += 1;
+    if to <= 32 {
+        return put_columns(d0, filler, from, to, ring, n, most);
     }
-    end
+    if 32 <= from {
+        return put_pairs(d1, d2, filler, from, to, ring, n, most);
+    }
+    let mid = put_columns(d0, filler, from, 32, ring, n, most);
+    put_pairs(d1, d2, filler, 32, to, ring, mid, most)
 }
 
 // Puts the first `rest` bits of a unit that the cut shortens into the ring from its place n on, unless it holds `most`, and tells where they end. All bits

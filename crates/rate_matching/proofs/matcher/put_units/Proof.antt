@@ -1,73 +1,97 @@
--- `matcher::put_units` meets its contract: unit after unit, until there are enough bits or no more units.
+-- `matcher::put_units` meets its contract: columns, pairs, or columns and then pairs.
 -- Assumes nothing.
-use Prim.Native.Nat.{_-_, _<_}
+use mathlib.Core.Path.{sym, _∙_}
+use Prim.Native.Nat.{_≤_}
 use native.Mathlib.Omega.{arith}
-use lib.ListN.{length}
-use Rattle.rate_matching.proofs.UnitPlaces.{unit-reads, unit-few}
-use Rattle.rate_matching.proofs.MatcherRing.{unit-long, unit-put, Filling, filling-start, filling-goes, filling-room, filling-next, filling-ends}
+use Rattle.rate_matching.proofs.MatcherRing.{columns-room, pairs-room, columns-pairs}
+use borrow.Author.Needs.{needs}
 use Rattle.rate_matching.proofs.matcher.put_units.Statement.{statement}
 use Rattle.rate_matching.proofs.matcher.put_units.Tie as tie
 
-abbrev Inv-loop : tie.InvT-loop
-Inv-loop d0 d1 d2 filler from to ring₀ n most end₀ u₀ ring end u = Filling (length d0) d0 d1 d2 filler from to ring₀ n ring end u
+-- from where all slices are known to the function's entry
+abbrev entry : tie.After-slice-known → tie.Start
+entry c = c .before .before .before .before
 
-abbrev μ-loop : tie.MeasureT-loop
-μ-loop d0 d1 d2 filler from to ring₀ n most end₀ u₀ ring end u = to - u
+put-columns-requires : tie.Need-put-columns-requires
+put-columns-requires c κs = search needs
 
--- in the loop: the function's entry, what the loop's test tells, and the unit that was found
-abbrev entry : tie.In-loop Inv-loop μ-loop → tie.Start Inv-loop μ-loop
-entry c = c .before .before .before .before .before .before
+same-length : tie.Need-same-length
+same-length c = search needs
 
-goes : (c : tie.In-loop Inv-loop μ-loop) → (c .before .loop .u < entry c .args .to) × (c .before .loop .end < entry c .args .most)
-goes c = filling-goes (c .before .loop .inv) _ (c .loop-test .taken)
+returns : tie.Need-returns
+returns c =
+    let p = c .before .before in
+    let s = entry (p .before .before .before) in
+    p .put-columns .ensures (s .args .d1 .now) (s .args .d2 .now)
 
-below : (c : tie.In-loop Inv-loop μ-loop) → c .before .loop .u < 64
-below c = omega (arith, goes c .0, entry c .pre .2)
+put-pairs-requires : tie.Need-put-pairs-requires
+put-pairs-requires c κs =
+    let s = entry (c .before .before .before) in
+    let f = s .pre .0 in
+    (f .second ∙ sym (f .first), rw (f .first) (f .most), rw (f .first) (f .filler), c .before .if2 .taken, s .pre .1, s .pre .2, s .pre .3, rw (f .first) (s .pre .4))
 
-loop-holds : tie.Need-loop-holds Inv-loop μ-loop
-loop-holds c = let s = c .before .before .before .before in filling-start (s .pre .1) (s .pre .3)
+same-length-2 : tie.Need-same-length-2
+same-length-2 c = search needs
 
-unit-at-requires : tie.Need-unit-at-requires Inv-loop μ-loop
-unit-at-requires c κs = tt
+returns-2 : tie.Need-returns-2
+returns-2 c =
+    let p = c .before .before in
+    let s = entry (p .before .before .before .before) in
+    rw (sym (s .pre .0 .first)) (p .put-pairs .ensures (s .args .d0 .now))
 
-put-unit-requires : tie.Need-put-unit-requires Inv-loop μ-loop
-put-unit-requires c κs =
-    let l = c .before .before in
-    let f = entry l .pre .0 in
-    let found = c .before .unit-at .ensures in
-    (f .first, f .second, unit-reads _ (f .most) (f .filler) found, omega (arith, unit-few _ (f .most) (f .filler) found (below l), filling-room (l .before .loop .inv) (goes l .0) (goes l .1) (entry l .pre .4)))
+-- columns and then pairs: the units lie on both sides of unit 32
+low : (c : tie.Else2) → entry (c .before .before) .args .from ≤ 32
+low c = omega (arith, c .if2 .left)
 
-add-u : tie.Need-add-u Inv-loop μ-loop
-add-u c = omega (arith, below (c .before .before .before .before .before))
+high : (c : tie.Else2) → 32 ≤ entry (c .before .before) .args .to
+high c = omega (arith, c .before .if1 .left)
 
-loop-less : tie.Need-loop-less Inv-loop μ-loop
-loop-less c = omega (arith, goes (c .before .before .before .before .before) .0)
+put-columns-requires-2 : tie.Need-put-columns-requires-2
+put-columns-requires-2 c κs =
+    let e = c .before in
+    let s = entry (e .before .before) in
+    (s .pre .0 .most, s .pre .0 .filler, low e, omega arith, s .pre .3, columns-room (s .args .n) (low e) (high e) (s .pre .4))
 
-loop-again : tie.Need-loop-again Inv-loop μ-loop
-loop-again c =
-    let put = c .before .before in
-    let l = put .before .before .before in
-    let f = entry l .pre .0 in
-    filling-next (l .before .loop .inv) (goes l .0) (unit-long _ _ _ _ (f .most) (f .filler) (below l)) (filling-room (l .before .loop .inv) (goes l .0) (goes l .1) (entry l .pre .4))
-    (put .put-unit .kept .1 .1 .1 .1 .0) (unit-put _ _ _ _ _ _ (put .before .before .unit-at .ensures) (put .put-unit .ensures))
+put-pairs-requires-2 : tie.Need-put-pairs-requires-2
+put-pairs-requires-2 c κs =
+    let q = c .before .before .before in
+    let e = q .before .before in
+    let s = entry (e .before .before) in
+    let f = s .pre .0 in
+    let put = q .put-columns2 .ensures (s .args .d1 .now) (s .args .d2 .now) in (
+      f .second ∙ sym (f .first),
+      rw (f .first) (f .most),
+      rw (f .first) (f .filler),
+      omega arith,
+      high e,
+      s .pre .2,
+      put .inside,
+      rw (f .first) (pairs-room (s .args .n) (low e) (high e) (s .pre .4) put (q .put-columns2 .kept .1 .1 .1 .1 .0)),
+    )
 
-same-length : tie.Need-same-length Inv-loop μ-loop
-same-length c = c .before .loop .inv .long
+same-length-3 : tie.Need-same-length-3
+same-length-3 c = search needs
 
-returns : tie.Need-returns Inv-loop μ-loop
-returns c = filling-ends (c .before .loop .inv) _ (c .loop-test .left)
+returns-3 : tie.Need-returns-3
+returns-3 c =
+    let p = c .before .before in
+    let q = p .before .before .before .before in
+    let e = q .before .before in
+    let s = entry (e .before .before) in
+    columns-pairs _ (s .args .d0 .now) (s .args .d1 .now) (s .args .d2 .now) _ _ _ (low e) (high e) (q .put-columns2 .ensures (s .args .d1 .now) (s .args .d2 .now))
+    (rw (sym (s .pre .0 .first)) (p .put-pairs2 .ensures (s .args .d0 .now)))
 
 pub put-units-spec : {M : Type 1} → statement M
 put-units-spec =
     tie.close
     (tie.spec
-    Inv-loop
-    μ-loop
-    loop-holds
-    unit-at-requires
-    put-unit-requires
-    add-u
-    loop-less
-    loop-again
+    put-columns-requires
     same-length
-    returns)
+    returns
+    put-pairs-requires
+    same-length-2
+    returns-2
+    put-columns-requires-2
+    put-pairs-requires-2
+    same-length-3
+    returns-3)

@@ -1,0 +1,78 @@
+-- `matcher::put_columns` meets its contract: column after column, until there are enough bits or no more columns.
+-- Assumes nothing.
+use mathlib.Core.List.{List, []}
+use Prim.Native.Nat.{ℕ, _-_, _<_}
+use native.Mathlib.Omega.{arith}
+use lib.ListN.{length}
+use Rattle.rate_matching.proofs.UnitPlaces.{column-within, column-stream, unit-reads, unit-few}
+use Rattle.rate_matching.proofs.MatcherRing.{unit-long, column-unit-put, Filling, filling-start, filling-goes, filling-room, filling-next, filling-ends}
+use Rattle.rate_matching.proofs.matcher.put_columns.Statement.{statement}
+use Rattle.rate_matching.proofs.matcher.put_columns.Tie as tie
+
+abbrev Inv-loop : tie.InvT-loop
+Inv-loop d0 filler from to ring₀ n most end₀ u₀ ring end u = (d1 d2 : List ℕ) → Filling (length d0) d0 d1 d2 filler from to ring₀ n ring end u
+
+abbrev μ-loop : tie.MeasureT-loop
+μ-loop d0 filler from to ring₀ n most end₀ u₀ ring end u = to - u
+
+-- in the loop: the function's entry, and what the loop's test tells
+abbrev entry : tie.In-loop Inv-loop μ-loop → tie.Start Inv-loop μ-loop
+entry c = c .before .before .before .before
+
+goes : (c : tie.In-loop Inv-loop μ-loop) → (c .before .loop .u < entry c .args .to) × (c .before .loop .end < entry c .args .most)
+goes c = filling-goes (c .before .loop .inv [] []) _ (c .loop-test .taken)
+
+below : (c : tie.In-loop Inv-loop μ-loop) → c .before .loop .u < 32
+below c = omega (arith, goes c .0, entry c .pre .3)
+
+loop-holds : tie.Need-loop-holds Inv-loop μ-loop
+loop-holds c = let s = c .before .before in λ d1 d2. filling-start (s .pre .2) (s .pre .4)
+
+column-unit-requires : tie.Need-column-unit-requires Inv-loop μ-loop
+column-unit-requires c κs = (entry c .pre .0, entry c .pre .1, below c)
+
+put-column-requires : tie.Need-put-column-requires Inv-loop μ-loop
+put-column-requires c κs =
+    let l = c .before .before in
+    let e = entry l in
+    let unit = c .before .column-unit .ensures in
+    let found = column-within (e .pre .0) (e .pre .1) (below l) unit in
+    let low : l .before .loop .u < 64 = omega (arith, below l) in
+    (unit-reads _ (e .pre .0) (e .pre .1) found, column-stream _ _ _ unit, omega (arith, unit-few _ (e .pre .0) (e .pre .1) found low, filling-room (l .before .loop .inv [] []) (goes l .0) (goes l .1) (e .pre .5)))
+
+add-u : tie.Need-add-u Inv-loop μ-loop
+add-u c = omega (arith, below (c .before .before .before .before .before))
+
+loop-less : tie.Need-loop-less Inv-loop μ-loop
+loop-less c = omega (arith, goes (c .before .before .before .before .before) .0)
+
+loop-again : tie.Need-loop-again Inv-loop μ-loop
+loop-again c =
+    let put = c .before .before in
+    let l = put .before .before .before in
+    let e = entry l in
+    let unit = put .before .before .column-unit .ensures in
+    let low : l .before .loop .u < 64 = omega (arith, below l) in
+    λ d1 d2. filling-next (l .before .loop .inv d1 d2) (goes l .0) (unit-long _ d1 d2 _ (e .pre .0) (e .pre .1) low) (filling-room (l .before .loop .inv d1 d2) (goes l .0) (goes l .1) (e .pre .5))
+    (put .put-column .kept .1 .1 .0) (column-unit-put _ _ _ _ d1 d2 (column-within (e .pre .0) (e .pre .1) (below l) unit) (column-stream _ _ _ unit) (put .put-column .ensures))
+
+same-length : tie.Need-same-length Inv-loop μ-loop
+same-length c = c .before .loop .inv [] [] .long
+
+returns : tie.Need-returns Inv-loop μ-loop
+returns c = λ d1 d2. filling-ends (c .before .loop .inv d1 d2) _ (c .loop-test .left)
+
+pub put-columns-spec : {M : Type 1} → statement M
+put-columns-spec =
+    tie.close
+    (tie.spec
+    Inv-loop
+    μ-loop
+    loop-holds
+    column-unit-requires
+    put-column-requires
+    add-u
+    loop-less
+    loop-again
+    same-length
+    returns)

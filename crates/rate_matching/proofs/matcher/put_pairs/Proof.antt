@@ -1,0 +1,83 @@
+-- `matcher::put_pairs` meets its contract: pair of columns after pair, until there are enough bits or no more pairs.
+-- Assumes nothing.
+use mathlib.Core.List.{List, []}
+use Prim.Native.Nat.{ℕ, _-_, _≤_, _<_}
+use native.Mathlib.Omega.{arith}
+use lib.ListN.{length}
+use Rattle.rate_matching.proofs.UnitPlaces.{pair-within, pair-stream, unit-reads, unit-few}
+use Rattle.rate_matching.proofs.MatcherRing.{unit-long, pair-unit-put, Filling, filling-start, filling-goes, filling-room, filling-next, filling-ends}
+use Rattle.rate_matching.proofs.matcher.put_pairs.Statement.{statement}
+use Rattle.rate_matching.proofs.matcher.put_pairs.Tie as tie
+
+abbrev Inv-loop : tie.InvT-loop
+Inv-loop d1 d2 filler from to ring₀ n most end₀ u₀ ring end u = (d0 : List ℕ) → Filling (length d1) d0 d1 d2 filler from to ring₀ n ring end u
+
+abbrev μ-loop : tie.MeasureT-loop
+μ-loop d1 d2 filler from to ring₀ n most end₀ u₀ ring end u = to - u
+
+-- in the loop: the function's entry, and what the loop's test tells
+abbrev entry : tie.In-loop Inv-loop μ-loop → tie.Start Inv-loop μ-loop
+entry c = c .before .before .before .before .before
+
+goes : (c : tie.In-loop Inv-loop μ-loop) → (c .before .loop .u < entry c .args .to) × (c .before .loop .end < entry c .args .most)
+goes c = filling-goes (c .before .loop .inv []) _ (c .loop-test .taken)
+
+high : (c : tie.In-loop Inv-loop μ-loop) → 32 ≤ c .before .loop .u
+high c = omega (arith, c .before .loop .inv [] .passed .0, entry c .pre .3)
+
+below : (c : tie.In-loop Inv-loop μ-loop) → c .before .loop .u < 64
+below c = omega (arith, goes c .0, entry c .pre .5)
+
+loop-holds : tie.Need-loop-holds Inv-loop μ-loop
+loop-holds c = let s = c .before .before .before in λ d0. filling-start (s .pre .4) (s .pre .6)
+
+sub-pair-unit : tie.Need-sub-pair-unit Inv-loop μ-loop
+sub-pair-unit c = high c
+
+pair-unit-requires : tie.Need-pair-unit-requires Inv-loop μ-loop
+pair-unit-requires c κs = (entry c .pre .1, entry c .pre .2, omega (arith, high c, below c))
+
+put-pair-requires : tie.Need-put-pair-requires Inv-loop μ-loop
+put-pair-requires c κs =
+    let l = c .before .before in
+    let e = entry l in
+    let unit = c .before .pair-unit .ensures in
+    let found = pair-within (e .pre .1) (e .pre .2) (high l) (below l) unit in
+    (e .pre .0, unit-reads _ (e .pre .1) (e .pre .2) found, pair-stream _ _ _ unit, omega (arith, unit-few _ (e .pre .1) (e .pre .2) found (below l), filling-room (l .before .loop .inv []) (goes l .0) (goes l .1) (e .pre .7)))
+
+add-u : tie.Need-add-u Inv-loop μ-loop
+add-u c = omega (arith, below (c .before .before .before .before .before))
+
+loop-less : tie.Need-loop-less Inv-loop μ-loop
+loop-less c = omega (arith, goes (c .before .before .before .before .before) .0)
+
+loop-again : tie.Need-loop-again Inv-loop μ-loop
+loop-again c =
+    let put = c .before .before in
+    let l = put .before .before .before in
+    let e = entry l in
+    let unit = put .before .before .pair-unit .ensures in
+    λ d0. filling-next (l .before .loop .inv d0) (goes l .0) (unit-long d0 _ _ _ (e .pre .1) (e .pre .2) (below l)) (filling-room (l .before .loop .inv d0) (goes l .0) (goes l .1) (e .pre .7))
+    (put .put-pair .kept .1 .1 .1 .0) (pair-unit-put _ _ _ d0 _ _ (pair-within (e .pre .1) (e .pre .2) (high l) (below l) unit) (pair-stream _ _ _ unit) (put .put-pair .ensures))
+
+same-length : tie.Need-same-length Inv-loop μ-loop
+same-length c = c .before .loop .inv [] .long
+
+returns : tie.Need-returns Inv-loop μ-loop
+returns c = λ d0. filling-ends (c .before .loop .inv d0) _ (c .loop-test .left)
+
+pub put-pairs-spec : {M : Type 1} → statement M
+put-pairs-spec =
+    tie.close
+    (tie.spec
+    Inv-loop
+    μ-loop
+    loop-holds
+    sub-pair-unit
+    pair-unit-requires
+    put-pair-requires
+    add-u
+    loop-less
+    loop-again
+    same-length
+    returns)
