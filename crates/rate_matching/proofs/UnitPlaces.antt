@@ -20,7 +20,7 @@ use Rattle.rate_matching.specs.Circle.{circle, circleLength}
 use Rattle.rate_matching.specs.Places.{longest}
 use Rattle.rate_matching.specs.Walk.{onCircle, itself}
 use Rattle.rate_matching.specs.Shape.{shape, bitPlaces, second, pairPlaces, lastPlace}
-use Rattle.rate_matching.specs.Units.{columnUnit, pairUnit, unitAt, noUnit, unitWithin, alonePlace, aloneCount, bothCount, unitPlaces, everyRow, pairRow, bitsBefore, bitsOf, unitBits, unitsFrom, unitStart, Lies, Reads}
+use Rattle.rate_matching.specs.Units.{columnUnit, pairUnit, unitAt, noUnit, unitWithin, columnWithin, pairWithin, alonePlace, aloneCount, bothCount, unitPlaces, everyRow, pairRow, bitsBefore, bitsOf, unitBits, unitsFrom, unitStart, Lies, Reads}
 use Rattle.rate_matching.proofs.Columns.{column-rule}
 use Rattle.rate_matching.proofs.Places.{dummies-add}
 use Rattle.rate_matching.proofs.ShapeColumns.{bitPlaces-split, column-places, pair-places}
@@ -48,6 +48,30 @@ unit-low D F {u} h = rw (lt-ltb u 32 h)
 pub unit-high : (D F : ℕ) {u : ℕ} → 32 ≤ u → unitAt D F u ≡ pairUnit D F (u - 32)
 unfolding unitAt
 unit-high D F {u} h = rw (le-ltb u 32 h)
+
+-- unit u is column u of stream 0, or column u - 32 of streams 1 and 2
+pub column-is : (D F : ℕ) {u : ℕ} → u < 32 → columnWithin D F u ≡ unitWithin D F u
+unfolding columnWithin unitWithin unitAt
+column-is D F {u} low = let high : u < 64 = omega arith in rw (lt-ltb u 32 low, lt-ltb u 64 high)
+
+pub pair-is : (D F : ℕ) {u : ℕ} → 32 ≤ u → pairWithin D F (u - 32) ≡ unitWithin D F u
+unfolding pairWithin unitWithin unitAt
+pair-is D F {u} high = go (ltb u 64) refl
+  where
+    past : (b : Bool) → cond (b && false) (pairUnit D F (u - 32)) noUnit ≡ cond (b && false) (cond (ltb u 32) (columnUnit D F u) (pairUnit D F (u - 32))) noUnit
+    past true = refl
+    past false = refl
+
+    go : (t : Bool) → ltb u 64 ≡ t → cond (leb D longest && ltb F D && ltb (u - 32) 32) (pairUnit D F (u - 32)) noUnit
+        ≡ cond (leb D longest && ltb F D && ltb u 64) (cond (ltb u 32) (columnUnit D F u) (pairUnit D F (u - 32))) noUnit
+    go true t =
+        let low = ltb-true u 64 t in
+        let few : u - 32 < 32 = omega arith in
+        rw (lt-ltb (u - 32) 32 few, lt-ltb u 64 low, le-ltb u 32 high)
+    go false t =
+        let low = ltb-false u 64 t in
+        let many : 32 ≤ u - 32 = omega arith in
+        rw (le-ltb (u - 32) 32 many, le-ltb u 64 low) (past (leb D longest && ltb F D))
 
 -- as it is found
 pub column-within : {D F u : ℕ} {U : Unit} → D ≤ longest → F < D → u < 32 → U ≡ columnUnit D F u → U ≡ unitWithin D F u

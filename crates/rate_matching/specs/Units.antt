@@ -49,6 +49,13 @@ noUnit = record { alone = circlePlace 0; both = circlePlace 0; end = circlePlace
 unfoldable pub unitWithin : ℕ → ℕ → ℕ → Unit
 unitWithin D F u = cond (leb D longest && ltb F D && ltb u 64) (unitAt D F u) noUnit
 
+-- the same of column c of stream 0, and of column c of streams 1 and 2
+unfoldable pub columnWithin : ℕ → ℕ → ℕ → Unit
+columnWithin D F c = cond (leb D longest && ltb F D && ltb c 32) (columnUnit D F c) noUnit
+
+unfoldable pub pairWithin : ℕ → ℕ → ℕ → Unit
+pairWithin D F c = cond (leb D longest && ltb F D && ltb c 32) (pairUnit D F c) noUnit
+
 -- place k of those where stream 2 stands alone
 unfoldable pub alonePlace : Unit → ℕ → ℕ
 alonePlace U k = U .alone .0 + 2 * k

@@ -4,7 +4,9 @@ mod matcher;
 mod shortened;
 pub mod table;
 
+pub use mapping::column_unit_at;
 pub use mapping::first_places;
+pub use mapping::pair_unit_at;
 pub use mapping::unit_at;
 pub use matcher::rate_match;
 pub use matcher::turn_after_turn;

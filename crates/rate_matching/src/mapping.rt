@@ -10,7 +10,7 @@ ghost use Prim.Native.Nat.{_*_, _≤_, _<_};
 ghost use Rattle.rate_matching.specs.Columns.{columnTable};
 ghost use Rattle.rate_matching.specs.SubBlocks.{rows, rowsBefore};
 ghost use Rattle.rate_matching.specs.Places.{plainPlace, shiftedPlace, placeOf, firstPlaces, firstsWithin, InStreams};
-ghost use Rattle.rate_matching.specs.Units.{columnUnit, pairUnit, unitWithin};
+ghost use Rattle.rate_matching.specs.Units.{columnUnit, pairUnit, noUnit, unitWithin, columnWithin, pairWithin};
 
 // The largest D: that of K = 6,144.
 pub(crate) const LONGEST: usize = 6148;
@@ -72,26 +72,51 @@ pub(crate) fn pair_unit(d: usize, filler: usize, c: usize) -> Unit
     }
 }
 
+// A unit that has no place.
+fn no_unit() -> Unit
+    ensures { λ r. ⌜ r ≡ noUnit ⌝ }
+{
+    let place = CirclePlace(0);
+    let none = StreamPlace(0, 0);
+    Unit {
+        alone: place,
+        both: place,
+        end: place,
+        early: none,
+        first: none,
+    }
+}
+
 // Unit u of the circle of streams of d places, the first `filler` of streams 0 and 1 absent; all at place 0 where there is no such unit.
 pub fn unit_at(d: usize, filler: usize, u: usize) -> Unit
     ensures { λ r. ⌜ r ≡ unitWithin d filler u ⌝ }
 {
-    let there = (d <= LONGEST) & (filler < d) & (u < 64);
-    if !there {
-        let place = CirclePlace(0);
-        let none = StreamPlace(0, 0);
-        return Unit {
-            alone: place,
-            both: place,
-            end: place,
-            early: none,
-            first: none,
-        };
-    }
     if u < 32 {
-        return column_unit(d, filler, u);
+        return column_unit_at(d, filler, u);
     }
-    pair_unit(d, filler, u - 32)
+    pair_unit_at(d, filler, u - 32)
+}
+
+// The unit of column c of stream 0, unit c, and that of column c of streams 1 and 2, unit 32 + c. A loop over one kind of unit asks for these: they are
+// small enough that the compiler takes them into the loop and works out once what all units share.
+pub fn column_unit_at(d: usize, filler: usize, c: usize) -> Unit
+    ensures { λ r. ⌜ r ≡ columnWithin d filler c ⌝ }
+{
+    let there = (d <= LONGEST) & (filler < d) & (c < 32);
+    if !there {
+        return no_unit();
+    }
+    column_unit(d, filler, c)
+}
+
+pub fn pair_unit_at(d: usize, filler: usize, c: usize) -> Unit
+    ensures { λ r. ⌜ r ≡ pairWithin d filler c ⌝ }
+{
+    let there = (d <= LONGEST) & (filler < d) & (c < 32);
+    if !there {
+        return no_unit();
+    }
+    pair_unit(d, filler, c)
 }
 
 // Where the plain rule reads y place p. The table is lent, since a constant is copied whole wherever it is read.
