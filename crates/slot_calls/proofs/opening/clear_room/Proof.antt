@@ -8,6 +8,10 @@ use Rattle.slots.proofs.Cleared.{room-cleared}
 use Rattle.slot_calls.proofs.opening.clear_room.Statement.{statement}
 use Rattle.slot_calls.proofs.opening.clear_room.Tie as tie
 
+-- the ways back
+abbrev at-room-start : tie.After-room-length → tie.After-room-start
+at-room-start c = c .before
+
 -- the room lies within the store
 ends : (c : tie.After-room-length) → c .before .room-start .result + c .room-length .result ≤ length (now (c .before .before .before .args .store))
 ends c = rw (c .before .room-start .ensures, c .room-length .ensures) (c .before .before .before .pre .1)
@@ -38,9 +42,10 @@ same-length c = search needs
 
 returns : tie.Need-returns
 returns c =
-    let lent = c .before .before .before .before in
-    let entry = lent .before .before .before .args in
-    room-cleared (entry .m) (entry .slot) (now (entry .store)) (c .before .before .fill .last .0) (lent .before .room-start .ensures) (lent .room-length .ensures) (ends lent) (c .before .before .fill .ensures)
+    let fill = c .before .before in
+    let lent = fill .before .before in
+    let entry = at-room-start lent .before .before .args in
+    room-cleared (entry .m) (entry .slot) (now (entry .store)) (fill .fill .last .0) (at-room-start lent .room-start .ensures) (lent .room-length .ensures) (ends lent) (fill .fill .ensures)
 
 pub clear-room-spec : {M : Type 1} → statement M
 clear-room-spec =

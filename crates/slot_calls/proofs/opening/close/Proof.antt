@@ -9,6 +9,10 @@ use Rattle.slots.proofs.Accepted.{closing}
 use Rattle.slot_calls.proofs.opening.close.Statement.{statement}
 use Rattle.slot_calls.proofs.opening.close.Tie as tie
 
+-- the ways back
+abbrev at-else1 : tie.After-closed-head → tie.Else1
+at-else1 c = c .before
+
 close-number-requires : tie.Need-close-number-requires
 close-number-requires c κs = search needs
 
@@ -21,13 +25,13 @@ closed-head-requires c κs = search needs
 
 with-head-requires : tie.Need-with-head-requires
 with-head-requires c κs =
-    let entry = c .before .before .before .args in
-    let mine = closing (entry .state) (entry .slot) (entry .terminal) (c .before .before .close-number .ensures) (c .before .if1 .left) in
+    let entry = at-else1 c .before .before .args in
+    let mine = closing (entry .state) (entry .slot) (entry .terminal) (at-else1 c .before .close-number .ensures) (at-else1 c .if1 .left) in
     omega (arith, mine .present, mine .state-good .shape .slots-most)
 
 returns-2 : tie.Need-returns-2
 unfolding closeOutcome unlessRefused
-returns-2 c = rw (c .with-head .ensures, c .before .closed-head .ensures, ← (c .before .before .before .close-number .ensures), c .before .before .if1 .left)
+returns-2 c = rw (c .with-head .ensures, c .before .closed-head .ensures, ← (at-else1 (c .before) .before .close-number .ensures), at-else1 (c .before) .if1 .left)
 
 pub close-spec : {M : Type 1} → statement M
 close-spec =

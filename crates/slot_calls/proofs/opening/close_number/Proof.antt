@@ -21,8 +21,9 @@ owner-after-requires c κs = search needs
 returns : tie.Need-returns
 unfolding closeNumber ownerRules
 returns c =
-    let bad = rw (c .before .before .before .before .bad-state .ensures) at (c .before .before .before .or-else .ensures) in
-    chained (next bad (next (c .before .or-else2 .ensures) (record { is = λ t. c .owner-after .ensures }))) tt
+    let or-else2 = c .before in
+    let bad = rw (or-else2 .before .before .before .bad-state .ensures) at (or-else2 .before .before .or-else .ensures) in
+    chained (next bad (next (or-else2 .or-else2 .ensures) (record { is = λ t. c .owner-after .ensures }))) tt
 
 pub close-number-spec : {M : Type 1} → statement M
 close-number-spec =

@@ -15,15 +15,25 @@ use Rattle.slots.proofs.Done.{open-told, open-stored, eight}
 use Rattle.slot_calls.proofs.opening.open.Statement.{statement}
 use Rattle.slot_calls.proofs.opening.open.Tie as tie
 
+-- the ways back
+abbrev at-start : tie.After-open-outcome → tie.Start
+at-start c = c .before .before
+
+abbrev at-open-outcome : tie.After-is-done → tie.After-open-outcome
+at-open-outcome c = c .before
+
+abbrev at-else1 : tie.After-clear-room-arg → tie.Else1
+at-else1 c = c .before
+
 -- the answer is done where the number is 0
-told : (c : tie.After-is-done) → let entry = c .before .before .before .args in
+told : (c : tie.After-is-done) → let entry = at-start (at-open-outcome c) .args in
     c .is-done .result ≡ eqb (openNumber (entry .state) (length (now (entry .store))) (entry .slot) (entry .size)) 0
-told c = c .is-done .ensures ∙ ap (λ (o : Outcome). isDone (o .answer)) (c .before .open-outcome .ensures) ∙ open-told _ _ _ _ _
+told c = c .is-done .ensures ∙ ap (λ (o : Outcome). isDone (o .answer)) (at-open-outcome c .open-outcome .ensures) ∙ open-told _ _ _ _ _
 
 -- what number 0 says
-accepted : (c : tie.Else1) → let entry = c .before .before .before .before .args in Stored (entry .state) (length (now (entry .store))) (entry .slot)
+accepted : (c : tie.Else1) → let entry = at-start (at-open-outcome (c .before)) .args in Stored (entry .state) (length (now (entry .store))) (entry .slot)
 accepted c =
-    let entry = c .before .before .before .before .args in
+    let entry = at-start (at-open-outcome (c .before)) .args in
     open-stored _ _ _ (entry .terminal) (entry .size) (eqb-true _ 0 (sym (told (c .before)) ∙ not-false (c .before .is-done .result) (c .if1 .left)))
 
 open-outcome-requires : tie.Need-open-outcome-requires
@@ -34,11 +44,11 @@ is-done-requires c κs = search needs
 
 returns : tie.Need-returns
 unfolding openStore
-returns c = (c .before .before .open-outcome .ensures, rw (← told (c .before), not-true (c .before .is-done .result) (c .if1 .taken)))
+returns c = (at-open-outcome (c .before) .open-outcome .ensures, rw (← told (c .before), not-true (c .before .is-done .result) (c .if1 .taken)))
 
 clear-room-requires : tie.Need-clear-room-requires
 clear-room-requires c κs =
-    let there = accepted (c .before) in ((there .state-good .shape .blocks-most, omega (arith, eight there)), there .within)
+    let there = accepted (at-else1 c) in ((there .state-good .shape .blocks-most, omega (arith, eight there)), there .within)
 
 same-length : tie.Need-same-length
 same-length c = search needs
@@ -46,9 +56,10 @@ same-length c = search needs
 returns-2 : tie.Need-returns-2
 unfolding openStore
 returns-2 c =
-    let chosen = c .before .before .before .before in (
-      chosen .before .before .open-outcome .ensures,
-      rw (← told (chosen .before), not-false (chosen .before .is-done .result) (chosen .if1 .left)) (c .before .before .clear-room .ensures),
+    let clear-room = c .before .before in
+    let chosen = at-else1 (clear-room .before) in (
+      at-open-outcome (chosen .before) .open-outcome .ensures,
+      rw (← told (chosen .before), not-false (chosen .before .is-done .result) (chosen .if1 .left)) (clear-room .clear-room .ensures),
     )
 
 pub open-spec : {M : Type 1} → statement M

@@ -22,9 +22,10 @@ told c = c .down-number .ensures ∙ rw (c .before .share-for .ensures, c .befor
 share-is : (c : tie.After-down-number) → c .down-number .result ≡ 0 → let entry = c .before .before .before .args in
     c .before .share-for .result ≡ softShare (blocks (entry .size + 24)) (entry .release) (entry .mimo) (entry .processes) (entry .soft) (entry .layers)
 share-is c z =
+    let share-for = c .before in
     let number = sym (told c) ∙ z in
-    c .before .share-for .ensures
-    ∙ rw (c .before .before .block-count .ensures)
+    share-for .share-for .ensures
+    ∙ rw (share-for .before .block-count .ensures)
     (share-found _ (open-admitted _ _ _ _ refl (down-open _ _ _ _ _ _ _ _ _ number)) _ _ _ _ _ (down-buffer _ _ _ _ _ _ _ _ _ number))
 
 block-count-requires : tie.Need-block-count-requires

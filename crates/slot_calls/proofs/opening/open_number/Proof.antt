@@ -30,11 +30,17 @@ or-else-requires-3 c κs = search needs
 returns : tie.Need-returns
 unfolding openNumber openRules storeRules
 returns c =
-    let entry = c .before .before .before .before .before .before .before .args in
-    let opened = rw (c .before .before .before .before .before .before .head-at .ensures) at (c .before .before .before .before .or-else .ensures) in
-    let sized = rw (c .before .before .before .bad-size .ensures) at (c .before .before .or-else2 .ensures) in
-    let many = rw (c .before .too-many .ensures) at (c .or-else3 .ensures) in
-    chained-on (storeRules (entry .state) (entry .room) (entry .slot)) (c .before .before .before .before .before .store-number .ensures) (next opened (next sized (next many done))) tt tt
+    let too-many = c .before in
+    let or-else2 = too-many .before in
+    let bad-size = or-else2 .before in
+    let or-else = bad-size .before in
+    let store-number = or-else .before in
+    let head-at = store-number .before in
+    let entry = head-at .before .args in
+    let opened = rw (head-at .head-at .ensures) at (or-else .or-else .ensures) in
+    let sized = rw (bad-size .bad-size .ensures) at (or-else2 .or-else2 .ensures) in
+    let many = rw (too-many .too-many .ensures) at (c .or-else3 .ensures) in
+    chained-on (storeRules (entry .state) (entry .room) (entry .slot)) (store-number .store-number .ensures) (next opened (next sized (next many done))) tt tt
 
 pub open-number-spec : {M : Type 1} → statement M
 open-number-spec =

@@ -16,6 +16,13 @@ Inv-loop state s m i₀ i = (s ≤ 8) × Looking m s (state .heads) i
 abbrev μ-loop : tie.MeasureT-loop
 μ-loop state s m i₀ i = s - i
 
+-- the ways back
+abbrev at-else1 : tie.At-loop Inv-loop μ-loop → tie.Else1 Inv-loop μ-loop
+at-else1 c = c .before
+
+abbrev at-turn : tie.After-bad-head Inv-loop μ-loop → tie.In-loop Inv-loop μ-loop
+at-turn c = c .before .before
+
 bad-shape-requires : tie.Need-bad-shape-requires Inv-loop μ-loop
 bad-shape-requires c κs = tt
 
@@ -38,8 +45,8 @@ bad-head-requires c κs = tt
 returns-2 : tie.Need-returns-2 Inv-loop μ-loop
 unfolding badState closedHead
 returns-2 c =
-    let turn = c .before .before .before in
-    let shape = turn .before .before in
+    let turn = at-turn (c .before) in
+    let shape = at-else1 (turn .before) in
     rw (← (shape .before .bad-shape .ensures), shape .if1 .left)
     (sym (heads.found (turn .loop-test .taken) (sym (c .before .bad-head .ensures) ∙ c .if2 .taken) (turn .before .loop .inv .1)))
 
@@ -52,13 +59,13 @@ loop-less c = omega arith
 loop-again : tie.Need-loop-again Inv-loop μ-loop
 unfolding closedHead
 loop-again c =
-    let turn = c .before .before .before in
+    let turn = at-turn (c .before) in
     (turn .before .loop .inv .0, heads.next (turn .loop-test .taken) (sym (c .before .bad-head .ensures) ∙ c .if2 .left) (turn .before .loop .inv .1))
 
 returns-3 : tie.Need-returns-3 Inv-loop μ-loop
 unfolding badState
 returns-3 c =
-    let shape = c .before .before in
+    let shape = at-else1 (c .before) in
     rw (← (shape .before .bad-shape .ensures), shape .if1 .left) (sym (heads.finish (c .loop-test .left) (c .before .loop .inv .1)))
 
 pub bad-state-spec : {M : Type 1} → statement M

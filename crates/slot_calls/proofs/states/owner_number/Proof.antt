@@ -15,8 +15,9 @@ owner-after-requires c κs = search needs
 returns : tie.Need-returns
 unfolding storeRules ownerRules
 returns c =
-    let entry = c .before .before .args in
-    chained-on (storeRules (entry .state) (entry .room) (entry .slot)) (c .before .store-number .ensures) (record { is = λ t. c .owner-after .ensures }) tt tt
+    let store-number = c .before in
+    let entry = store-number .before .args in
+    chained-on (storeRules (entry .state) (entry .room) (entry .slot)) (store-number .store-number .ensures) (record { is = λ t. c .owner-after .ensures }) tt tt
 
 pub owner-number-spec : {M : Type 1} → statement M
 owner-number-spec = tie.close (tie.spec store-number-requires owner-after-requires returns)

@@ -12,6 +12,13 @@ use Rattle.slots.proofs.Buffers.{long-share}
 use Rattle.slot_calls.proofs.states.too_short.Statement.{statement}
 use Rattle.slot_calls.proofs.states.too_short.Tie as tie
 
+-- the ways back
+abbrev at-start : tie.After-segments-for → tie.Start
+at-start c = c .before .before
+
+abbrev at-segments-for : tie.After-struct-known → tie.After-segments-for
+at-segments-for c = c .before
+
 returns : tie.Need-returns
 returns c = sym (long-share _ (c .before .pre) _ (c .if1 .taken))
 
@@ -19,11 +26,11 @@ segments-for-requires : tie.Need-segments-for-requires
 segments-for-requires c κs = search needs
 
 -- the segmentation that was found
-found : (c : tie.After-struct-known) → Sized (c .before .before .before .args .a) (c .before .segments-for .result)
-found c = sized-in _ _ (c .before .before .before .pre) (c .before .segments-for .ensures)
+found : (c : tie.After-struct-known) → Sized (at-start (at-segments-for c) .args .a) (at-segments-for c .segments-for .result)
+found c = sized-in _ _ (at-start (at-segments-for c) .pre) (at-segments-for c .segments-for .ensures)
 
-long-few : (c : tie.After-struct-known) → c .before .segments-for .result .long ≤ 6144
-long-few c = long-told _ (c .before .before .before .pre) (found c .told)
+long-few : (c : tie.After-struct-known) → at-segments-for c .segments-for .result .long ≤ 6144
+long-few c = long-told _ (at-start (at-segments-for c) .pre) (found c .told)
 
 add-result : tie.Need-add-result
 add-result c = omega (arith, long-few c)
@@ -33,7 +40,7 @@ mul-result c = omega (arith, long-few c)
 
 returns-2 : tie.Need-returns-2
 returns-2 c =
-    let entry = c .before .before .before in
+    let entry = at-start (at-segments-for c) in
     let high : entry .args .a + 24 ≤ 30600 = omega (arith, in-range _ (entry .pre) .1) in
     ap (λ (R : ℕ). ltb (entry .args .share) (32 * R)) (rows-told _ (found c .told)) ∙ sym (short-told _ high _)
 
