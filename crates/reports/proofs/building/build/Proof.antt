@@ -11,6 +11,19 @@ use Rattle.reports.proofs.Built.{Accepted, accepted, refused-output, da
 use Rattle.reports.proofs.building.build.Statement.{statement}
 use Rattle.reports.proofs.building.build.Tie as tie
 
+-- the ways back
+abbrev at-else1 : tie.After-struct-known → tie.Else1
+at-else1 c = c .before
+
+abbrev at-number-of-from-control-bits-arg : tie.After-control-bits-arg → tie.After-number-of
+at-number-of-from-control-bits-arg c = c .before
+
+abbrev at-number-of : tie.After-control-bits → tie.After-number-of
+at-number-of c = at-number-of-from-control-bits-arg (c .before)
+
+abbrev at-control-bits : tie.After-slice-known2 → tie.After-control-bits
+at-control-bits c = c .before .before
+
 -- the way back to the start
 abbrev start : tie.Else1 → tie.Start
 start c = c .before .before .before .before .before
@@ -32,33 +45,33 @@ returns c = (
 )
 
 mul-ahead : tie.Need-mul-ahead
-mul-ahead c = omega (arith, rules (c .before) .shape .few)
+mul-ahead c = omega (arith, rules (at-else1 c) .shape .few)
 
 number-of-requires : tie.Need-number-of-requires
-number-of-requires c κs = (rules (c .before) .report-bits, rules (c .before) .shape .short)
+number-of-requires c κs = (rules (at-else1 c) .report-bits, rules (at-else1 c) .shape .short)
 
 -- the way back to the test from where the front is lent
 abbrev test : tie.After-number-of → tie.Else1
-test c = c .before .before
+test c = at-else1 (c .before)
 
 slice-relend-prefix-control-bits : tie.Need-slice-relend-prefix-control-bits
 slice-relend-prefix-control-bits c = omega (arith, rules (test c) .enough)
 
 slice-aggregate-control-bits : tie.Need-slice-aggregate-control-bits
-slice-aggregate-control-bits c = front-count _ _ (omega (arith, rules (test (c .before)) .enough))
+slice-aggregate-control-bits c = front-count _ _ (omega (arith, rules (test (at-number-of-from-control-bits-arg c)) .enough))
 
 control-bits-requires : tie.Need-control-bits-requires
 control-bits-requires c κs = search needs
 
 sub-build : tie.Need-sub-build
 sub-build c =
-    let lent = c .before .before in
-    data-start _ _ _ _ _ (none (test (lent .before .before))) (lent .before .before .number-of .ensures) (lent .control-bits .ensures)
+    let lent = at-control-bits c in
+    data-start _ _ _ _ _ (none (test (at-number-of lent))) (at-number-of lent .number-of .ensures) (lent .control-bits .ensures)
 
 part-build-start : tie.Need-part-build-start
 part-build-start c =
-    let lent = c .before .before in
-    data-start _ _ _ _ _ (none (test (lent .before .before))) (lent .before .before .number-of .ensures) (lent .control-bits .ensures)
+    let lent = at-control-bits c in
+    data-start _ _ _ _ _ (none (test (at-number-of lent))) (at-number-of lent .number-of .ensures) (lent .control-bits .ensures)
 
 part-build-end : tie.Need-part-build-end
 part-build-end c = search needs
@@ -71,10 +84,11 @@ same-length c = search needs
 
 returns-2 : tie.Need-returns-2
 returns-2 c =
-    let lent = c .before .before .before .before .before .before in
-    let counted = lent .before .before in
+    let build = c .before .before in
+    let lent = at-control-bits (build .before .before) in
+    let counted = at-number-of lent in
     let zero = none (test counted) in
-    (sym zero, built-output _ _ _ _ _ zero (counted .number-of .ensures) (lent .control-bits .ensures) (c .before .before .build .ensures .1))
+    (sym zero, built-output _ _ _ _ _ zero (counted .number-of .ensures) (lent .control-bits .ensures) (build .build .ensures .1))
 
 pub build-spec : {M : Type 1} → statement M
 build-spec =

@@ -17,21 +17,40 @@ use Rattle.reports.proofs.Built.{bad-data-is, bad-version-is, short-out
 use Rattle.reports.proofs.building.build_number.Statement.{statement}
 use Rattle.reports.proofs.building.build_number.Tie as tie
 
+-- the ways back
+abbrev at-else1 : tie.After-bad-data → tie.Else1
+at-else1 c = c .before
+
+abbrev at-else2 : tie.After-struct-known → tie.Else2
+at-else2 c = c .before
+
+abbrev at-else3-from-mul-if4 : tie.After-struct-known2 → tie.Else3
+at-else3-from-mul-if4 c = c .before
+
+abbrev at-else3 : tie.After-struct-known3 → tie.Else3
+at-else3 c = at-else3-from-mul-if4 (c .before)
+
+abbrev at-else4 : tie.After-bad-bits → tie.Else4
+at-else4 c = c .before
+
+abbrev at-else5 : tie.After-bad-bits2 → tie.Else5
+at-else5 c = c .before
+
 -- the ways back from a later test to an earlier one, and to the start
 abbrev start : tie.Else1 → tie.Start
 start c = c .before .before .before .before
 
 abbrev past-length : tie.Else2 → tie.Else1
-past-length c = c .before .before
+past-length c = at-else1 (c .before)
 
 abbrev past-version : tie.Else3 → tie.Else2
-past-version c = c .before .before
+past-version c = at-else2 (c .before)
 
 abbrev past-output : tie.Else4 → tie.Else3
-past-output c = c .before .before .before
+past-output c = at-else3 (c .before)
 
 abbrev past-report : tie.Else5 → tie.Else4
-past-report c = c .before .before
+past-report c = at-else4 (c .before)
 
 -- what each test told
 shape : (c : tie.Else1) → let a = start c .args in Shaped (length (now (a .block))) (a .grant .modulation) (a .grant .layers) (length (now (a .report))) (a .control)
@@ -56,27 +75,27 @@ bad-data-requires c κs = (shape c .size, shape c .symbol)
 
 returns-2 : tie.Need-returns-2
 returns-2 c =
-    let first = c .before .before in
+    let first = at-else1 (c .before) in
     bad-data-is _ _ _ _ _ (first .before .shape-number .ensures) (first .if1 .left) (sym (c .before .bad-data .ensures) ∙ c .if2 .taken)
 
 returns-3 : tie.Need-returns-3
 returns-3 c =
-    let second = c .before .before in
+    let second = at-else2 (c .before) in
     let first = past-length second in
     bad-version-is _ _ _ _ _ (first .before .shape-number .ensures) (first .if1 .left) (fits second) (c .if3 .taken)
 
 mul-if4 : tie.Need-mul-if4
-mul-if4 c = omega (arith, shape (past-length (past-version (c .before))) .few)
+mul-if4 c = omega (arith, shape (past-length (past-version (at-else3-from-mul-if4 c))) .few)
 
 add-if4 : tie.Need-add-if4
 add-if4 c =
-    let second = past-version (c .before .before) in
+    let second = past-version (at-else3 c) in
     let first = shape (past-length second) in
     omega (arith, first .few, allocated _ _ _ _ (allocation-of _ _ _ _ (first .symbol) (fits second)) .most)
 
 returns-4 : tie.Need-returns-4
 returns-4 c =
-    let third = c .before .before .before in
+    let third = at-else3 (c .before) in
     let second = past-version third in
     let first = past-length second in
     short-output-is _ _ _ _ _ (first .before .shape-number .ensures) (first .if1 .left) (fits second) (third .if3 .left) (c .if4 .taken)
@@ -86,7 +105,7 @@ bad-bits-requires c κs = search needs
 
 returns-5 : tie.Need-returns-5
 returns-5 c =
-    let fourth = c .before .before in
+    let fourth = at-else4 (c .before) in
     let third = past-output fourth in
     let second = past-version third in
     let first = past-length second in
@@ -98,7 +117,7 @@ bad-bits-requires-2 c κs = search needs
 
 returns-6 : tie.Need-returns-6
 returns-6 c =
-    let fifth = c .before .before in
+    let fifth = at-else5 (c .before) in
     let fourth = past-report fifth in
     let third = past-output fourth in
     let second = past-version third in
@@ -108,7 +127,7 @@ returns-6 c =
 
 returns-7 : tie.Need-returns-7
 returns-7 c =
-    let fifth = c .before .before in
+    let fifth = at-else5 (c .before) in
     let fourth = past-report fifth in
     let third = past-output fourth in
     let second = past-version third in

@@ -16,11 +16,18 @@ Inv-loop report number₀ i₀ number i = (i ≤ length report) × (number ≡ n
 abbrev μ-loop : tie.MeasureT-loop
 μ-loop report number₀ i₀ number i = i
 
+-- the ways back
+abbrev at-start : tie.At-loop Inv-loop μ-loop → tie.Start Inv-loop μ-loop
+at-start c = c .before
+
+abbrev at-turn : tie.After-shared-slice-known Inv-loop μ-loop → tie.In-loop Inv-loop μ-loop
+at-turn c = c .before
+
 -- what one more bit gives, and that it fits
 turn : (c : tie.In-loop Inv-loop μ-loop)
-    → (2 * c .before .loop .number + getD (c .before .before .args .report .now) (c .before .loop .i - 1) 0 ≡ numberOf (drop (c .before .loop .i - 1) (c .before .before .args .report .now)))
-    × (2 * c .before .loop .number + getD (c .before .before .args .report .now) (c .before .loop .i - 1) 0 < 4294967296)
-turn c = packed-more (c .before .before .args .report .now) (c .before .before .pre .0) (omega (arith, c .before .before .pre .1)) (c .before .loop .i) (c .before .loop .number) (omega arith) (c .before .loop .inv .0) (c .before .loop .inv .1)
+    → (2 * c .before .loop .number + getD (at-start (c .before) .args .report .now) (c .before .loop .i - 1) 0 ≡ numberOf (drop (c .before .loop .i - 1) (at-start (c .before) .args .report .now)))
+    × (2 * c .before .loop .number + getD (at-start (c .before) .args .report .now) (c .before .loop .i - 1) 0 < 4294967296)
+turn c = packed-more (at-start (c .before) .args .report .now) (at-start (c .before) .pre .0) (omega (arith, at-start (c .before) .pre .1)) (c .before .loop .i) (c .before .loop .number) (omega arith) (c .before .loop .inv .0) (c .before .loop .inv .1)
 
 loop-holds : tie.Need-loop-holds Inv-loop μ-loop
 unfolding numberOf
@@ -36,19 +43,19 @@ shared-slice-read-number : tie.Need-shared-slice-read-number Inv-loop μ-loop
 shared-slice-read-number c = omega arith
 
 cast-number : tie.Need-cast-number Inv-loop μ-loop
-cast-number c = omega (arith, c .before .before .before .pre .0 (c .before .before .loop .i - 1))
+cast-number c = omega (arith, at-start (at-turn c .before) .pre .0 (at-turn c .before .loop .i - 1))
 
 add-number : tie.Need-add-number Inv-loop μ-loop
-add-number c = omega (arith, turn (c .before) .1)
+add-number c = omega (arith, turn (at-turn c) .1)
 
 loop-less : tie.Need-loop-less Inv-loop μ-loop
 loop-less c = omega arith
 
 loop-again : tie.Need-loop-again Inv-loop μ-loop
-loop-again c = (omega arith, turn (c .before) .0)
+loop-again c = (omega arith, turn (at-turn c) .0)
 
 returns : tie.Need-returns Inv-loop μ-loop
-returns c = let none : c .before .loop .i ≡ 0 = omega arith in c .before .loop .inv .1 ∙ ap (λ (k : ℕ). numberOf (drop k (c .before .before .args .report .now))) none
+returns c = let none : c .before .loop .i ≡ 0 = omega arith in c .before .loop .inv .1 ∙ ap (λ (k : ℕ). numberOf (drop k (at-start (c .before) .args .report .now))) none
 
 pub number-of-spec : {M : Type 1} → statement M
 number-of-spec =

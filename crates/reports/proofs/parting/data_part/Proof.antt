@@ -14,14 +14,27 @@ use Rattle.reports.proofs.Parted.{number-told, run-accepted, no-data, t
 use Rattle.reports.proofs.parting.data_part.Statement.{statement}
 use Rattle.reports.proofs.parting.data_part.Tie as tie
 
+-- the ways back
+abbrev at-start : tie.After-read-run → tie.Start
+at-start c = c .before .before
+
+abbrev at-read-run-from-struct-known : tie.After-struct-known → tie.After-read-run
+at-read-run-from-struct-known c = c .before
+
+abbrev at-read-run : tie.Else1 → tie.After-read-run
+at-read-run c = at-read-run-from-struct-known (c .before)
+
+abbrev at-read-run-from-then1 : tie.Then1 → tie.After-read-run
+at-read-run-from-then1 c = at-read-run-from-struct-known (c .before)
+
 -- the number is 0 past the test
 none : (c : tie.Else1)
-    → partNumber (c .before .before .before .before .args .a) (c .before .before .before .before .args .q)
-    (c .before .before .before .before .args .n) (c .before .before .before .before .args .o)
-    (c .before .before .before .before .args .control) (now (c .before .before .before .before .args .received))
-    (c .before .before .before .before .args .o)
+    → partNumber (at-start (at-read-run c) .args .a) (at-start (at-read-run c) .args .q)
+    (at-start (at-read-run c) .args .n) (at-start (at-read-run c) .args .o)
+    (at-start (at-read-run c) .args .control) (now (at-start (at-read-run c) .args .received))
+    (at-start (at-read-run c) .args .o)
     ≡ 0
-none c = sym (number-told _ _ _ _ _ _ _ (c .before .before .read-run .ensures)) ∙ c .if1 .left
+none c = sym (number-told _ _ _ _ _ _ _ (at-read-run c .read-run .ensures)) ∙ c .if1 .left
 
 read-run-requires : tie.Need-read-run-requires
 read-run-requires c κs = search needs
@@ -37,10 +50,11 @@ part-result-end c = search needs
 
 returns : tie.Need-returns
 returns c =
-    let run = c .before .before .before .before .before .args .received .now in
+    let then1 = c .before in
+    let run = at-start (at-read-run-from-then1 then1) .args .received .now in
     ap (take (length run - length run)) (drop-length run)
     ∙ ap (λ (k : ℕ). take {A = ℕ} k []) (sub-self (length run))
-    ∙ no-data _ _ _ _ _ _ (λ e. c .before .if1 .taken (number-told _ _ _ _ _ _ _ (c .before .before .before .read-run .ensures) ∙ e))
+    ∙ no-data _ _ _ _ _ _ (λ e. then1 .if1 .taken (number-told _ _ _ _ _ _ _ (at-read-run-from-then1 then1 .read-run .ensures) ∙ e))
 
 mul-ahead : tie.Need-mul-ahead
 mul-ahead c = omega (arith, run-accepted _ _ _ _ _ _ _ (none c) .shape .few)

@@ -14,12 +14,22 @@ use Rattle.reports.proofs.Parted.{bad-data-is, short-output-is, bad-bit
 use Rattle.reports.proofs.parting.part_number.Statement.{statement}
 use Rattle.reports.proofs.parting.part_number.Tie as tie
 
+-- the ways back
+abbrev at-else1 : tie.After-left-after → tie.Else1
+at-else1 c = c .before
+
+abbrev at-left-after : tie.After-bad-data → tie.After-left-after
+at-left-after c = c .before
+
+abbrev at-else3 : tie.After-bad-bits → tie.Else3
+at-else3 c = c .before
+
 -- the ways back from a later test to an earlier one, and to the start
 abbrev start : tie.Else1 → tie.Start
 start c = c .before .before .before
 
 abbrev past-length : tie.Else2 → tie.Else1
-past-length c = c .before .before .before
+past-length c = at-else1 (at-left-after (c .before))
 
 abbrev past-output : tie.Else3 → tie.Else2
 past-output c = c .before
@@ -28,11 +38,11 @@ past-output c = c .before
 shape : (c : tie.Else1) → let a = start c .args in Shaped (a .a) (a .q) (a .n) (a .o) (a .control)
 shape c = shaped _ _ _ _ _ (c .before .shape-number .ensures) (c .if1 .left)
 
-length-told : (c : tie.After-bad-data) → let a = start (c .before .before) .args in
+length-told : (c : tie.After-bad-data) → let a = start (at-else1 (at-left-after c)) .args in
     c .bad-data .result ≡ badLength (blocks (a .a + 24)) (a .q) (a .n) (length (now (a .received)) - a .n * a .control)
 length-told c =
-    let a = start (c .before .before) .args in
-    c .bad-data .ensures ∙ ap (badLength (blocks (a .a + 24)) (a .q) (a .n)) (c .before .left-after .ensures)
+    let a = start (at-else1 (at-left-after c)) .args in
+    c .bad-data .ensures ∙ ap (badLength (blocks (a .a + 24)) (a .q) (a .n)) (at-left-after c .left-after .ensures)
 
 shape-number-requires : tie.Need-shape-number-requires
 shape-number-requires c κs = search needs
@@ -48,11 +58,11 @@ left-after-requires : tie.Need-left-after-requires
 left-after-requires c κs = search needs
 
 bad-data-requires : tie.Need-bad-data-requires
-bad-data-requires c κs = (shape (c .before) .size, shape (c .before) .symbol)
+bad-data-requires c κs = (shape (at-else1 c) .size, shape (at-else1 c) .symbol)
 
 returns-2 : tie.Need-returns-2
 returns-2 c =
-    let first = c .before .before .before in
+    let first = at-else1 (at-left-after (c .before)) in
     bad-data-is _ _ _ _ _ _ _ (first .before .shape-number .ensures) (first .if1 .left) (sym (length-told (c .before)) ∙ c .if2 .taken)
 
 returns-3 : tie.Need-returns-3
@@ -66,7 +76,7 @@ bad-bits-requires c κs = search needs
 
 returns-4 : tie.Need-returns-4
 returns-4 c =
-    let third = c .before .before in
+    let third = at-else3 (c .before) in
     let second = past-output third in
     let first = past-length second in
     bad-bits-is _ _ _ _ _ _ _ (first .before .shape-number .ensures) (first .if1 .left) (sym (length-told (second .before)) ∙ second .if2 .left) (third .if3 .left)
@@ -74,7 +84,7 @@ returns-4 c =
 
 returns-5 : tie.Need-returns-5
 returns-5 c =
-    let third = c .before .before in
+    let third = at-else3 (c .before) in
     let second = past-output third in
     let first = past-length second in
     accepted-run _ _ _ _ _ _ _ (first .before .shape-number .ensures) (first .if1 .left) (sym (length-told (second .before)) ∙ second .if2 .left) (third .if3 .left)

@@ -17,11 +17,12 @@ bad-allocation-requires c κs = search needs
 
 returns : tie.Need-returns
 returns c =
-    let start = c .before .before in
+    let segments-for = c .before in
+    let start = segments-for .before in
     c .bad-allocation .ensures
     ∙ ap
     (λ (C : ℕ). badAllocation C (start .args .q) (start .args .n) (start .args .g))
-    (sized-in _ _ (start .pre .0) (c .before .segments-for .ensures) .count)
+    (sized-in _ _ (start .pre .0) (segments-for .segments-for .ensures) .count)
     ∙ length-left _ _ _ _ (start .pre .1)
 
 pub bad-data-spec : {M : Type 1} → statement M
