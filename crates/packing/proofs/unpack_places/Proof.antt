@@ -15,6 +15,10 @@ Inv-loop from to₀ n j₀ i₀ to j i = Unpacking from to₀ n to j i
 abbrev μ-loop : tie.MeasureT-loop
 μ-loop from to₀ n j₀ i₀ to j i = n - i
 
+-- the ways back
+abbrev at-fewer : tie.At-loop Inv-loop μ-loop → tie.After-fewer Inv-loop μ-loop
+at-fewer c = c .before
+
 fewer-requires : tie.Need-fewer-requires Inv-loop μ-loop
 fewer-requires c κs = tt
 
@@ -71,9 +75,10 @@ loop-less c = omega arith
 
 loop-again : tie.Need-loop-again Inv-loop μ-loop
 loop-again c =
-    let told = apart-bytes (getD (c .before .before .before .before .before .before .before .args .from .now) (c .before .before .before .loop .i) 0) in
+    let loop = c .before .before .before in
+    let told = apart-bytes (getD (at-fewer loop .before .before .before .args .from .now) (loop .loop .i) 0) in
     let is = c .apart .ensures in
-    unpacking-next (c .before .before .before .loop .inv) (omega arith)
+    unpacking-next (loop .loop .inv) (omega arith)
     (ap (λ (w : ℕ). w % 256) is ∙ told .0)
     (ap (λ (w : ℕ). w / 256 % 256) is ∙ told .1)
     (ap (λ (w : ℕ). w / 65536 % 256) is ∙ told .2)
@@ -83,7 +88,7 @@ same-length : tie.Need-same-length Inv-loop μ-loop
 same-length c = c .before .loop .inv .wrote .long
 
 returns : tie.Need-returns Inv-loop μ-loop
-returns c = rw (← c .before .before .fewer .ensures) (unpacking-finish (c .before .loop .inv) (omega arith))
+returns c = rw (← at-fewer (c .before) .fewer .ensures) (unpacking-finish (c .before .loop .inv) (omega arith))
 
 pub unpack-places-spec : {M : Type 1} → statement M
 unpack-places-spec =

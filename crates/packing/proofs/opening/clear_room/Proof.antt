@@ -14,23 +14,27 @@ use Rattle.packing.proofs.Opened.{room-cleared-packed}
 use Rattle.packing.proofs.opening.clear_room.Statement.{statement}
 use Rattle.packing.proofs.opening.clear_room.Tie as tie
 
+-- the ways back
+abbrev at-start : tie.After-slice-known → tie.Start
+at-start c = c .before
+
 -- no room starts past 8 of 5 code blocks
 small : (m slot : ℕ) → m ≤ 5 → slot ≤ 8 → slot * (m * 4632) ≤ 185280
 small m slot h g = let long : m * 4632 ≤ 23160 = omega arith in omega (arith, mul-le-mul g long)
 
 -- the room lies within the store
-ends : (c : tie.After-slice-known) → let entry = c .before .args in entry .slot * (entry .m * 4632) + entry .m * 4632 ≤ length (now (entry .store))
+ends : (c : tie.After-slice-known) → let entry = at-start c .args in entry .slot * (entry .m * 4632) + entry .m * 4632 ≤ length (now (entry .store))
 unfolding roomStart roomLength placesAByte
-ends c = omega (arith, c .before .pre .1, places-are true (now (c .before .args .store)))
+ends c = omega (arith, at-start c .pre .1, places-are true (now (at-start c .args .store)))
 
 mul-long : tie.Need-mul-long
 mul-long c = search needs
 
 mul-from : tie.Need-mul-from
-mul-from c = omega (arith, small (c .before .args .m) (c .before .args .slot) (c .before .pre .0 .0) (c .before .pre .0 .1))
+mul-from c = omega (arith, small (at-start c .args .m) (at-start c .args .slot) (at-start c .pre .0 .0) (at-start c .pre .0 .1))
 
 add-to : tie.Need-add-to
-add-to c = omega (arith, small (c .before .args .m) (c .before .args .slot) (c .before .pre .0 .0) (c .before .pre .0 .1), c .before .pre .0 .0)
+add-to c = omega (arith, small (at-start c .args .m) (at-start c .args .slot) (at-start c .pre .0 .0) (at-start c .pre .0 .1), at-start c .pre .0 .0)
 
 sub-fill : tie.Need-sub-fill
 sub-fill c = search needs
@@ -49,8 +53,9 @@ same-length c = search needs
 
 returns : tie.Need-returns
 returns c =
-    let lent = c .before .before .before .before in
-    room-cleared-packed (lent .before .args .m) (lent .before .args .slot) (now (lent .before .args .store)) (c .before .before .fill .last .0) (ends lent) (c .before .before .fill .ensures)
+    let fill = c .before .before in
+    let lent = fill .before .before in
+    room-cleared-packed (at-start lent .args .m) (at-start lent .args .slot) (now (at-start lent .args .store)) (fill .fill .last .0) (ends lent) (fill .fill .ensures)
     (λ i. omega (arith, c .slice-known2 .given i))
 
 pub clear-room-spec : {M : Type 1} → statement M

@@ -14,6 +14,10 @@ Inv-loop places most₀ i₀ most i = NoneAbove places most i
 abbrev μ-loop : tie.MeasureT-loop
 μ-loop places most₀ i₀ most i = length places - i
 
+-- the ways back
+abbrev at-start : tie.At-loop Inv-loop μ-loop → tie.Start Inv-loop μ-loop
+at-start c = c .before .before
+
 loop-holds : tie.Need-loop-holds Inv-loop μ-loop
 loop-holds c k h = absurd (omega arith)
 
@@ -30,10 +34,10 @@ loop-less : tie.Need-loop-less Inv-loop μ-loop
 loop-less c = omega arith
 
 loop-again : tie.Need-loop-again Inv-loop μ-loop
-loop-again c = above-next (c .before .before .before .before .before .args .places .now) (c .before .before .before .loop .inv) (c .larger .ensures .0) (c .larger .ensures .1)
+loop-again c = above-next (at-start (c .before .before .before) .args .places .now) (c .before .before .before .loop .inv) (c .larger .ensures .0) (c .larger .ensures .1)
 
 returns : tie.Need-returns Inv-loop μ-loop
-returns c e = above-none (c .before .before .before .args .places .now) (c .before .loop .inv) (omega arith) (leb-true _ 3 e)
+returns c e = above-none (at-start (c .before) .args .places .now) (c .before .loop .inv) (omega arith) (leb-true _ 3 e)
 
 pub all-small-spec : {M : Type 1} → statement M
 all-small-spec = tie.close (tie.spec Inv-loop μ-loop loop-holds shared-slice-read-larger larger-requires add-i loop-less loop-again returns)

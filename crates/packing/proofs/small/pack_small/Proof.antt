@@ -12,8 +12,15 @@ Inv-loop n from to₀ j₀ i₀ to j i = Packing from to₀ n to j i
 abbrev μ-loop : tie.MeasureT-loop
 μ-loop n from to₀ j₀ i₀ to j i = n - i
 
+-- the ways back
+abbrev at-start : tie.After-slice-known Inv-loop μ-loop → tie.Start Inv-loop μ-loop
+at-start c = c .before .before
+
+abbrev at-loop : tie.After-shared-slice-known5 Inv-loop μ-loop → tie.At-loop Inv-loop μ-loop
+at-loop c = c .before .before .before .before .before
+
 loop-holds : tie.Need-loop-holds Inv-loop μ-loop
-loop-holds c = packing-start _ _ _ (c .before .before .pre .1) (c .before .before .pre .2)
+loop-holds c = packing-start _ _ _ (at-start c .pre .1) (at-start c .pre .2)
 
 shared-slice-read-small-four : tie.Need-shared-slice-read-small-four Inv-loop μ-loop
 shared-slice-read-small-four c = omega arith
@@ -37,7 +44,7 @@ shared-slice-read-small-four-4 : tie.Need-shared-slice-read-small-four-4 Inv-loo
 shared-slice-read-small-four-4 c = omega arith
 
 small-four-requires : tie.Need-small-four-requires Inv-loop μ-loop
-small-four-requires c κs = let e = c .before .before .before .before .before .before .before .before in (e .pre .0 _, e .pre .0 _, e .pre .0 _, e .pre .0 _)
+small-four-requires c κs = let e = at-start (at-loop c .before) in (e .pre .0 _, e .pre .0 _, e .pre .0 _, e .pre .0 _)
 
 slice-write-to : tie.Need-slice-write-to Inv-loop μ-loop
 slice-write-to c = omega arith
@@ -52,7 +59,7 @@ loop-less : tie.Need-loop-less Inv-loop μ-loop
 loop-less c = omega arith
 
 loop-again : tie.Need-loop-again Inv-loop μ-loop
-loop-again c = packing-next (c .before .before .before .before .before .before .loop .inv) (omega arith) (c .small-four .ensures)
+loop-again c = packing-next (at-loop (c .before) .loop .inv) (omega arith) (c .small-four .ensures)
 
 same-length : tie.Need-same-length Inv-loop μ-loop
 same-length c = c .before .loop .inv .wrote .long
