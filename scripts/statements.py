@@ -7,6 +7,7 @@ statements.py [--list] [--self-test]
    written, each with a right side in which neither the answer nor anything at exit stands. Of such an equation no two outcomes are possible (`single`, crate statements).
 2. A public statement is such a contract or a theorem of a page (PAGES below). What it names, and what the definitions of those names name in turn, must be believed.
    A file of specs/ with such a name stands in specs/ itself, one with none in specs/inner/.
+3. Every must-fail edit is named in docs/STATEMENTS.md, beside what it speaks for.
 
 Prints what fails, with --list every file with its kind, with --self-test what the first check says of contracts that are known to be wrong; last 'N passed, M failed'.
 """
@@ -169,8 +170,17 @@ def check_places():
     return len(files) - failed, failed
 
 
+def check_edits():
+    statements = pathlib.Path("docs/STATEMENTS.md").read_text()
+    edits = sorted(CRATES.glob("*/must-fail/*.edit"))
+    unnamed = [edit for edit in edits if f"`{edit.stem}`" not in statements]
+    for edit in unnamed:
+        print(f"{edit}: docs/STATEMENTS.md does not say what it speaks for")
+    return len(edits) - len(unnamed), len(unnamed)
+
+
 def main():
-    results = [self_test()] if "--self-test" in sys.argv else [check_contracts(), check_places()]
+    results = [self_test()] if "--self-test" in sys.argv else [check_contracts(), check_places(), check_edits()]
     passed, failed = (sum(column) for column in zip(*results))
     print(f"{passed} passed, {failed} failed")
     return failed > 0
