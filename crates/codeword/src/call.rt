@@ -30,12 +30,13 @@ pub fn build_two(header: &[u8], payload: &[u8], grant: Grant, out: &mut [u8]) ->
     ensures number { λ r. ⌜ r ≡ buildNumber (now (header .entry) ++ now (payload .entry)) grant (length (now (out .entry))) ⌝ }
     ensures output { λ r. ⌜ now (out .exit) ≡ buildOutput (now (header .entry) ++ now (payload .entry)) grant (now (out .entry)) ⌝ }
 {
-    let number = build_number(header, payload, grant, out.len());
+    let s = segmentation::segments_for_both(header.len(), payload.len());
+    let number = build_number(header, payload, s, grant, out.len());
     if number != 0 {
         return number;
     }
     let g = grant.bits;
-    write_codeword(header, payload, WHOLE_SHARE, grant, &mut out[..g]);
+    write_codeword(header, payload, WHOLE_SHARE, grant, s, &mut out[..g]);
     0
 }
 
@@ -61,7 +62,7 @@ pub fn build_down(
         return number;
     }
     let g = grant.bits;
-    write_codeword(block, &block[..0], share, grant, &mut out[..g]);
+    write_codeword(block, &block[..0], share, grant, s, &mut out[..g]);
     0
 }
 
@@ -76,14 +77,14 @@ fn down_number(block: &[u8], s: Segments, share: usize, grant: Grant, room: usiz
     if share < 32 * ((s.long + 35) / 32) {
         return 21;
     }
-    build_number(block, &block[..0], grant, room)
+    build_number(block, &block[..0], s, grant, room)
 }
 
 // Build's refusals in 01's order.
-fn build_number(header: &[u8], payload: &[u8], grant: Grant, room: usize) -> u8
+fn build_number(header: &[u8], payload: &[u8], s: Segments, grant: Grant, room: usize) -> u8
+    requires { ⌜ s ≡ segmentsFor (length (now header ++ now payload)) ⌝ }
     ensures { λ r. ⌜ r ≡ buildNumber (now (header .entry) ++ now (payload .entry)) grant room ⌝ }
 {
-    let s = segmentation::segments_for_both(header.len(), payload.len());
     if s.blocks == 0 {
         return 1;
     }
@@ -106,11 +107,18 @@ fn build_number(header: &[u8], payload: &[u8], grant: Grant, room: usize) -> u8
 }
 
 // The codeword over the whole of `out`. All of a room is cleared when it is made, so the rooms are made once, of a length that goes by K+.
-fn write_codeword(header: &[u8], payload: &[u8], soft: usize, grant: Grant, out: &mut [u8])
+fn write_codeword(
+    header: &[u8],
+    payload: &[u8],
+    soft: usize,
+    grant: Grant,
+    s: Segments,
+    out: &mut [u8],
+)
     requires { ⌜ Writable soft (now header ++ now payload) grant (length (now out)) ⌝ }
+    requires { ⌜ s ≡ segmentsFor (length (now header ++ now payload)) ⌝ }
     ensures { λ r. ⌜ now (out .exit) ≡ codewordIn soft (now (header .entry) ++ now (payload .entry)) grant ⌝ }
 {
-    let s = segmentation::segments_for_both(header.len(), payload.len());
     if s.long <= 128 {
         write_short(header, payload, soft, grant, s, out);
     } else if s.long <= 1024 {

@@ -52,7 +52,7 @@ slice-aggregate-build-number : tie.Need-slice-aggregate-build-number
 slice-aggregate-build-number c = search needs
 
 build-number-requires : tie.Need-build-number-requires
-build-number-requires c κs = search needs
+build-number-requires c κs = let s = c .before .before .before .before .before .before in rw (append-nil (now (s .args .block))) (s .pre)
 
 returns-3 : tie.Need-returns-3
 unfolding numberWith
