@@ -12,21 +12,34 @@ use borrow.Author.Needs.{needs}
 use Rattle.reading.proofs.calls.runs_of.Statement.{statement}
 use Rattle.reading.proofs.calls.runs_of.Tie as tie
 
+-- the ways back
+abbrev at-start : tie.After-bytes-a-block → tie.Start
+at-start c = c .before .before .before .before
+
+abbrev at-else1 : tie.After-three-streams-arg4 → tie.Else1
+at-else1 c = c .before .before
+
+abbrev at-then1 : tie.After-unpack-places → tie.Then1
+at-then1 c = c .before .before .before
+
+abbrev at-unpack-places : tie.After-three-streams-arg2 → tie.After-unpack-places
+at-unpack-places c = c .before .before .before .before
+
 -- the code block's bytes
-within : (c : tie.After-bytes-a-block) → let e = c .before .before .before .before .args in
+within : (c : tie.After-bytes-a-block) → let e = at-start c .args in
     e .i * c .bytes-a-block .result + c .bytes-a-block .result ≤ length (e .store .now)
-within c = part-within (c .before .before .before .before .pre .0) (c .bytes-a-block .ensures)
+within c = part-within (at-start c .pre .0) (c .bytes-a-block .ensures)
 
 -- those of its circle, which the buffer has room for
-few : (c : tie.Then1) → 24 * ((c .before .before .before .before .before .args .d + 31) / 32) ≤ 4632
-few c = circle-few (c .before .before .before .before .before .pre .3 .sized)
+few : (c : tie.Then1) → 24 * ((at-start (c .before) .args .d + 31) / 32) ≤ 4632
+few c = circle-few (at-start (c .before) .pre .3 .sized)
 
-ample : (c : tie.Then1) → let e = c .before .before .before .before .before in 4 * (24 * ((e .args .d + 31) / 32)) ≤ length (e .args .circle .now)
-ample c = omega (arith, few c, c .before .before .before .before .before .pre .0 .unpacks (c .if1 .taken))
+ample : (c : tie.Then1) → let e = at-start (c .before) in 4 * (24 * ((e .args .d + 31) / 32)) ≤ length (e .args .circle .now)
+ample c = omega (arith, few c, at-start (c .before) .pre .0 .unpacks (c .if1 .taken))
 
-there : (c : tie.Then1) → let e = c .before .before .before .before .before .args in
+there : (c : tie.Then1) → let e = at-start (c .before) .args in
     e .i * c .before .bytes-a-block .result + 24 * ((e .d + 31) / 32) ≤ length (e .store .now)
-there c = front-within (c .before .before .before .before .before .pre .0) (c .if1 .taken) (c .before .bytes-a-block .ensures) (few c) (ample c)
+there c = front-within (at-start (c .before) .pre .0) (c .if1 .taken) (c .before .bytes-a-block .ensures) (few c) (ample c)
 
 bytes-a-block-requires : tie.Need-bytes-a-block-requires
 bytes-a-block-requires c κs = search needs
@@ -57,9 +70,9 @@ unpack-places-requires c κs = search needs
 
 three-streams-requires : tie.Need-three-streams-requires
 three-streams-requires c κs =
-    let then = c .before .before .before .before .before .before .before in
-    let e = then .before .before .before .before .before in
-    (e .pre .1, e .pre .2, stretch-in (e .pre .3) (omega (arith, circle-reach (e .args .d) 2, ample then, c .before .before .before .before .unpack-places .kept .1 .0)))
+    let then = at-then1 (at-unpack-places c) in
+    let e = at-start (then .before) in
+    (e .pre .1, e .pre .2, stretch-in (e .pre .3) (omega (arith, circle-reach (e .args .d) 2, ample then, at-unpack-places c .unpack-places .kept .1 .0)))
 
 add-to-3 : tie.Need-add-to-3
 add-to-3 c = omega (arith, within (c .before))
@@ -75,8 +88,8 @@ part-three-streams-end c = within (c .before)
 
 three-streams-requires-2 : tie.Need-three-streams-requires-2
 three-streams-requires-2 c κs =
-    let e = c .before .before .before .before .before .before .before in
-    (e .pre .1, e .pre .2, stretch-on (e .pre .3) (omega (arith, part-long (e .pre .0) (c .before .before .before .bytes-a-block .ensures), plain-long (c .before .before .if1 .left))))
+    let e = at-start (at-else1 c .before) in
+    (e .pre .1, e .pre .2, stretch-on (e .pre .3) (omega (arith, part-long (e .pre .0) (at-else1 c .before .bytes-a-block .ensures), plain-long (at-else1 c .if1 .left))))
 
 same-length : tie.Need-same-length
 same-length c = search needs
@@ -86,13 +99,14 @@ same-length-2 c = search needs
 
 returns : tie.Need-returns
 returns c =
-    let asked = c .before .before .before in
-    let then = asked .before .before .before .before .before .before .before in
-    let e = then .before .before .before .before .before in
-    c .before .before .three-streams .ensures
+    let three-streams = c .before .before in
+    let asked = three-streams .before in
+    let then = at-then1 (at-unpack-places asked) in
+    let e = at-start (then .before) in
+    three-streams .three-streams .ensures
     ∙ ap (λ (l : List ℕ). l ++ drop (3 * e .args .d) (e .args .out .now))
     (streams-alike (e .pre .3 .sized)
-    (front-alike (e .pre .0) (then .if1 .taken) (then .before .bytes-a-block .ensures) (few then) (ample then) (asked .before .before .before .before .unpack-places .ensures))
+    (front-alike (e .pre .0) (then .if1 .taken) (then .before .bytes-a-block .ensures) (few then) (ample then) (at-unpack-places asked .unpack-places .ensures))
     (e .args .f) (circle-reach (e .args .d)))
 
 same-length-3 : tie.Need-same-length-3
@@ -100,11 +114,12 @@ same-length-3 c = search needs
 
 returns-2 : tie.Need-returns-2
 returns-2 c =
-    let asked = c .before .before .before in
-    let e = asked .before .before .before .before .before .before .before in
-    c .before .before .three-streams2 .ensures
+    let three-streams2 = c .before .before in
+    let asked = three-streams2 .before in
+    let e = at-start (at-else1 asked .before) in
+    three-streams2 .three-streams2 .ensures
     ∙ ap (λ (l : List ℕ). l ++ drop (3 * e .args .d) (e .args .out .now))
-    (streams-alike (e .pre .3 .sized) (plain-alike (e .args .i) (e .args .store .now) (asked .before .before .before .bytes-a-block .ensures) (asked .before .before .if1 .left))
+    (streams-alike (e .pre .3 .sized) (plain-alike (e .args .i) (e .args .store .now) (at-else1 asked .before .bytes-a-block .ensures) (at-else1 asked .if1 .left))
     (e .args .f) (λ s. reach-most s (e .pre .3 .sized .most)))
 
 pub runs-of-spec : {M : Type 1} → statement M

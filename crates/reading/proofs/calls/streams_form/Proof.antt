@@ -13,16 +13,41 @@ use Rattle.reading.proofs.Answering.{streams-refused, Streaming, circle
 use Rattle.reading.proofs.calls.streams_form.Statement.{statement}
 use Rattle.reading.proofs.calls.streams_form.Tie as tie
 
+-- the ways back
+abbrev at-start : tie.After-places-asked → tie.Start
+at-start c = c .before .before .before .before
+
+abbrev at-places-asked : tie.After-streams-number → tie.After-places-asked
+at-places-asked c = c .before
+
+abbrev at-else1 : tie.After-head-at → tie.Else1
+at-else1 c = c .before
+
+abbrev at-head-at : tie.After-segments-for → tie.After-head-at
+at-head-at c = c .before
+
+abbrev at-segments-for-from-mul-i : tie.After-struct-known → tie.After-segments-for
+at-segments-for-from-mul-i c = c .before
+
+abbrev at-segments-for : tie.After-size-of → tie.After-segments-for
+at-segments-for c = at-segments-for-from-mul-i (c .before)
+
+abbrev at-size-of : tie.After-filler-of → tie.After-size-of
+at-size-of c = c .before
+
+abbrev at-filler-of : tie.After-runs-of-arg2 → tie.After-filler-of
+at-filler-of c = c .before .before
+
 -- the number is the places' own
-number : (c : tie.After-streams-number) → let e = c .before .before .before .before .before .args in
+number : (c : tie.After-streams-number) → let e = at-start (at-places-asked c) .args in
     c .streams-number .result ≡ streamsNumber (e .state) (length (placesIn (e .four) (now (e .store)))) (e .slot) (e .terminal) (e .block) (length (now (e .out)))
-number c = let e = c .before .before .before .before .before .args in streams-asked (e .four) (e .state) (now (e .store)) (e .slot) (e .terminal) (e .block) _ (c .before .places-asked .ensures) (c .streams-number .ensures)
+number c = let e = at-start (at-places-asked c) .args in streams-asked (e .four) (e .state) (now (e .store)) (e .slot) (e .terminal) (e .block) _ (at-places-asked c .places-asked .ensures) (c .streams-number .ensures)
 
 -- the call comes to the room
-asked : (c : tie.After-segments-for) → let e = c .before .before .before .before .before .before .before .before .args in
+asked : (c : tie.After-segments-for) → let e = at-start (at-places-asked (at-else1 (at-head-at c) .before)) .args in
     Streaming (e .state) (placesIn (e .four) (now (e .store))) (e .slot) (e .terminal) (e .block) (now (e .out))
-    (c .before .before .before .streams-number .result) (c .before .head-at .result) (c .segments-for .result)
-asked c = record { number = number (c .before .before .before); zero = c .before .before .if1 .left; found = c .before .head-at .ensures; told = c .segments-for .ensures }
+    (at-else1 (at-head-at c) .before .streams-number .result) (at-head-at c .head-at .result) (c .segments-for .result)
+asked c = record { number = number (at-else1 (at-head-at c) .before); zero = at-else1 (at-head-at c) .if1 .left; found = at-head-at c .head-at .ensures; told = c .segments-for .ensures }
 
 places-asked-requires : tie.Need-places-asked-requires
 places-asked-requires c κs = search needs
@@ -39,29 +64,29 @@ head-at-requires c κs = search needs
 segments-for-requires : tie.Need-segments-for-requires
 segments-for-requires c κs = search needs
 
-fits : (c : tie.After-segments-for) → let e = c .before .before .before .before .before .before .before .before .args in e .slot * e .state .blocks + e .block ≤ length (e .store .now)
+fits : (c : tie.After-segments-for) → let e = at-start (at-places-asked (at-else1 (at-head-at c) .before)) .args in e .slot * e .state .blocks + e .block ≤ length (e .store .now)
 fits c = index-fits _ _ _ (circle-within (asked c))
 
 mul-i : tie.Need-mul-i
-mul-i c = omega (arith, fits (c .before))
+mul-i c = omega (arith, fits (at-segments-for-from-mul-i c))
 
 add-i : tie.Need-add-i
-add-i c = omega (arith, fits (c .before))
+add-i c = omega (arith, fits (at-segments-for-from-mul-i c))
 
 size-of-requires : tie.Need-size-of-requires
 size-of-requires c κs = search needs
 
 add-d : tie.Need-add-d
-add-d c = omega (arith, size-most (asked (c .before .before)) (c .size-of .ensures))
+add-d c = omega (arith, size-most (asked (at-segments-for c)) (c .size-of .ensures))
 
 filler-of-requires : tie.Need-filler-of-requires
 filler-of-requires c κs = search needs
 
 runs-of-requires : tie.Need-runs-of-requires
 runs-of-requires c κs =
-    let found = asked (c .before .before .before .before .before) in
-    let w = three-needs found (c .before .before .before .size-of .ensures) (c .before .before .filler-of .ensures) in
-    (record { enough = circle-within found; unpacks = c .before .before .before .before .before .before .before .before .before .before .before .before .before .pre }, w .0, w .1, w .2)
+    let found = asked (at-segments-for (at-size-of (at-filler-of c))) in
+    let w = three-needs found (at-size-of (at-filler-of c) .size-of .ensures) (at-filler-of c .filler-of .ensures) in
+    (record { enough = circle-within found; unpacks = at-start (at-places-asked (at-else1 (at-head-at (at-segments-for (at-size-of (at-filler-of c)))) .before)) .pre }, w .0, w .1, w .2)
 
 same-length : tie.Need-same-length
 same-length c = search needs
@@ -72,9 +97,9 @@ same-length-2 c = search needs
 returns-2 : tie.Need-returns-2
 returns-2 c =
     let given = c .before .before .before .before in
-    let filled = given .before .before .before in
-    let sized = filled .before in
-    streams-told (asked (sized .before .before)) (sized .size-of .ensures) (filled .filler-of .ensures) (given .runs-of .ensures)
+    let filled = at-filler-of (given .before) in
+    let sized = at-size-of filled in
+    streams-told (asked (at-segments-for sized)) (sized .size-of .ensures) (filled .filler-of .ensures) (given .runs-of .ensures)
 
 pub streams-form-spec : {M : Type 1} → statement M
 streams-form-spec =

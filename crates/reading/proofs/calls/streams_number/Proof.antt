@@ -7,12 +7,25 @@ use Rattle.reading.proofs.Answering.{owner-refused, found-most, streams
 use Rattle.reading.proofs.calls.streams_number.Statement.{statement}
 use Rattle.reading.proofs.calls.streams_number.Tie as tie
 
+-- the ways back
+abbrev at-else1 : tie.After-head-at → tie.Else1
+at-else1 c = c .before
+
+abbrev at-head-at : tie.After-segments-for → tie.After-head-at
+at-head-at c = c .before
+
+abbrev at-segments-for : tie.After-or-else → tie.After-segments-for
+at-segments-for c = c .before .before
+
+abbrev at-or-else : tie.After-size-of → tie.After-or-else
+at-or-else c = c .before
+
 -- no size is above 6,144
 most : (c : tie.After-size-of) → c .size-of .result ≤ 6144
 most c =
-    let found = c .before .before .before in
-    let owned = found .before .before in
-    found-most _ _ _ _ _ (owned .before .before .args .size) (owned .before .owner-number .ensures) (owned .if1 .left) (found .before .head-at .ensures)
+    let found = at-segments-for (at-or-else c) in
+    let owned = at-else1 (at-head-at found) in
+    found-most _ _ _ _ _ (owned .before .before .args .size) (owned .before .owner-number .ensures) (owned .if1 .left) (at-head-at found .head-at .ensures)
     (found .segments-for .ensures) (c .size-of .ensures)
 
 owner-number-requires : tie.Need-owner-number-requires
@@ -44,10 +57,11 @@ or-else-requires-2 c κs = search needs
 
 returns-2 : tie.Need-returns-2
 returns-2 c =
-    let found = c .before .before .before .before in
-    let owned = found .before .before in
-    streams-chained _ _ _ _ _ _ (owned .before .owner-number .ensures) (owned .if1 .left) (found .before .head-at .ensures) (found .segments-for .ensures)
-    (c .before .size-of .ensures) (c .before .before .or-else .ensures) (c .or-else2 .ensures)
+    let size-of = c .before in
+    let found = at-segments-for (at-or-else size-of) in
+    let owned = at-else1 (at-head-at found) in
+    streams-chained _ _ _ _ _ _ (owned .before .owner-number .ensures) (owned .if1 .left) (at-head-at found .head-at .ensures) (found .segments-for .ensures)
+    (size-of .size-of .ensures) (at-or-else size-of .or-else .ensures) (c .or-else2 .ensures)
 
 pub streams-number-spec : {M : Type 1} → statement M
 streams-number-spec =

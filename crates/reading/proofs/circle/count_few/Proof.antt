@@ -15,6 +15,10 @@ Inv-loop bytes n₀ i₀ n i = Summing (missingAt bytes) (length bytes) 1 i n
 abbrev μ-loop : tie.MeasureT-loop
 μ-loop bytes n₀ i₀ n i = length bytes - i
 
+-- the ways back
+abbrev at-loop : tie.After-missing Inv-loop μ-loop → tie.At-loop Inv-loop μ-loop
+at-loop c = c .before .before .before
+
 loop-holds : tie.Need-loop-holds Inv-loop μ-loop
 loop-holds c = start
 
@@ -25,7 +29,7 @@ missing-requires : tie.Need-missing-requires Inv-loop μ-loop
 missing-requires c κs = tt
 
 add-n : tie.Need-add-n Inv-loop μ-loop
-add-n c = omega (arith, c .missing .ensures, missing-le (getD (c .before .before .before .before .before .args .bytes .now) (c .before .before .before .loop .i) 0))
+add-n c = omega (arith, c .missing .ensures, missing-le (getD (at-loop c .before .before .args .bytes .now) (at-loop c .loop .i) 0))
 
 add-i : tie.Need-add-i Inv-loop μ-loop
 add-i c = omega arith
@@ -35,7 +39,7 @@ loop-less c = omega arith
 
 loop-again : tie.Need-loop-again Inv-loop μ-loop
 unfolding missingAt
-loop-again c = next (omega arith) (c .missing .ensures) (rw (c .missing .ensures) (missing-le _)) (c .before .before .before .loop .inv)
+loop-again c = next (omega arith) (c .missing .ensures) (rw (c .missing .ensures) (missing-le _)) (at-loop c .loop .inv)
 
 returns : tie.Need-returns Inv-loop μ-loop
 returns c = finish (omega arith) (c .before .loop .inv)

@@ -14,12 +14,25 @@ Inv-loop bytes n₀ i₀ n i = Counted bytes n i
 abbrev μ-loop : tie.MeasureT-loop
 μ-loop bytes n₀ i₀ n i = length bytes - i
 
--- the counts of a part, and of the last
-few : (c : tie.After-count-few Inv-loop μ-loop) → c .before .before .before .loop .n + c .count-few .result ≤ length (c .before .before .before .before .before .args .bytes .now)
-few c = part-few (c .before .before .before .loop .inv) (omega arith) (omega arith) (c .count-few .ensures)
+-- the ways back
+abbrev at-start : tie.At-loop Inv-loop μ-loop → tie.Start Inv-loop μ-loop
+at-start c = c .before .before
 
-few-last : (c : tie.After-count-few2 Inv-loop μ-loop) → c .before .before .before .loop .n + c .count-few2 .result ≤ length (c .before .before .before .before .before .args .bytes .now)
-few-last c = part-few (c .before .before .before .loop .inv) (omega arith) (omega arith) (c .count-few2 .ensures)
+abbrev at-turn : tie.After-count-few-arg Inv-loop μ-loop → tie.In-loop Inv-loop μ-loop
+at-turn c = c .before
+
+abbrev at-loop-from-count-few-arg2 : tie.After-count-few-arg2 Inv-loop μ-loop → tie.At-loop Inv-loop μ-loop
+at-loop-from-count-few-arg2 c = c .before .before
+
+abbrev at-loop : tie.After-count-few2 Inv-loop μ-loop → tie.At-loop Inv-loop μ-loop
+at-loop c = at-loop-from-count-few-arg2 (c .before)
+
+-- the counts of a part, and of the last
+few : (c : tie.After-count-few Inv-loop μ-loop) → at-turn (c .before) .before .loop .n + c .count-few .result ≤ length (at-start (at-turn (c .before) .before) .args .bytes .now)
+few c = part-few (at-turn (c .before) .before .loop .inv) (omega arith) (omega arith) (c .count-few .ensures)
+
+few-last : (c : tie.After-count-few2 Inv-loop μ-loop) → at-loop c .loop .n + c .count-few2 .result ≤ length (at-start (at-loop c) .args .bytes .now)
+few-last c = part-few (at-loop c .loop .inv) (omega arith) (omega arith) (c .count-few2 .ensures)
 
 loop-holds : tie.Need-loop-holds Inv-loop μ-loop
 loop-holds c = counted-start
@@ -41,9 +54,9 @@ part-count-few-end c = omega arith
 
 count-few-requires : tie.Need-count-few-requires Inv-loop μ-loop
 count-few-requires c κs =
-    let l = c .before .before .loop in
-    let bytes = c .before .before .before .before .args .bytes .now in
-    let lent = length-mid (l .i) (l .i + 192) bytes (part-count-few-end (c .before)) in
+    let l = at-turn c .before .loop in
+    let bytes = at-start (at-turn c .before) .args .bytes .now in
+    let lent = length-mid (l .i) (l .i + 192) bytes (part-count-few-end (at-turn c)) in
     omega arith
 
 cast-n : tie.Need-cast-n Inv-loop μ-loop
@@ -56,7 +69,7 @@ loop-less : tie.Need-loop-less Inv-loop μ-loop
 loop-less c = omega arith
 
 loop-again : tie.Need-loop-again Inv-loop μ-loop
-loop-again c = counted-next (c .before .before .before .loop .inv) (omega arith) (omega arith) (c .count-few .ensures)
+loop-again c = counted-next (at-turn (c .before) .before .loop .inv) (omega arith) (omega arith) (c .count-few .ensures)
 
 sub-count-few-2 : tie.Need-sub-count-few-2 Inv-loop μ-loop
 sub-count-few-2 c = omega arith
@@ -69,8 +82,8 @@ part-count-few-end-2 c = omega arith
 
 count-few-requires-2 : tie.Need-count-few-requires-2 Inv-loop μ-loop
 count-few-requires-2 c κs =
-    let l = c .before .before .loop in
-    let bytes = c .before .before .before .before .args .bytes .now in
+    let l = at-loop-from-count-few-arg2 c .loop in
+    let bytes = at-start (at-loop-from-count-few-arg2 c) .args .bytes .now in
     let lent = length-mid (l .i) (length bytes) bytes (omega arith) in
     omega arith
 
@@ -81,7 +94,7 @@ add-result : tie.Need-add-result Inv-loop μ-loop
 add-result c = omega (arith, few-last c)
 
 returns : tie.Need-returns Inv-loop μ-loop
-returns c = counted-next (c .before .before .before .loop .inv) (omega arith) (omega arith) (c .count-few2 .ensures) .told
+returns c = counted-next (at-loop c .loop .inv) (omega arith) (omega arith) (c .count-few2 .ensures) .told
 
 pub count-missing-spec : {M : Type 1} → statement M
 count-missing-spec =

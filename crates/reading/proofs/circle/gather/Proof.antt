@@ -16,6 +16,19 @@ use Rattle.reading.proofs.Gathering.{front-kept, front-along, rest-alon
 use Rattle.reading.proofs.circle.gather.Statement.{statement}
 use Rattle.reading.proofs.circle.gather.Tie as tie
 
+-- the ways back
+abbrev at-start-from-sub-left : tie.After-slice-known → tie.Start
+at-start-from-sub-left c = c .before .before
+
+abbrev at-start-from-gather-row-arg2 : tie.After-gather-row-arg2 → tie.Start
+at-start-from-gather-row-arg2 c = at-start-from-sub-left (c .before .before)
+
+abbrev at-start : tie.After-gather-row2 → tie.Start
+at-start c = at-start-from-gather-row-arg2 (c .before)
+
+abbrev at-gather-row2 : tie.After-gather-rows-arg → tie.After-gather-row2
+at-gather-row2 c = c .before .before .before
+
 -- the rows before a place are few
 row-small : (c : tie.Start) → c .args .step * (c .args .from / 32) ≤ 2 * (c .args .from / 32)
 row-small c = mul-le-mul-right (c .args .from / 32) (c .pre .0)
@@ -24,10 +37,10 @@ sub-left : tie.Need-sub-left
 sub-left c = search needs
 
 mul-gather-row : tie.Need-mul-gather-row
-mul-gather-row c = omega (arith, row-small (c .before .before .before))
+mul-gather-row c = omega (arith, row-small (at-start-from-sub-left (c .before)))
 
 gather-row-requires : tie.Need-gather-row-requires
-gather-row-requires c κs = let e = c .before .before .before .before in front-along (e .args .circle .now) _ _ _ _ (omega arith) (omega arith) (e .pre .1)
+gather-row-requires c κs = let e = at-start-from-sub-left (c .before .before) in front-along (e .args .circle .now) _ _ _ _ (omega arith) (omega arith) (e .pre .1)
 
 same-length : tie.Need-same-length
 same-length c = search needs
@@ -36,7 +49,7 @@ returns : tie.Need-returns
 returns c = c .before .before .gather-row .ensures ∙ front-kept _ _ _ _ _ (omega arith)
 
 mul-gather-row-2 : tie.Need-mul-gather-row-2
-mul-gather-row-2 c = omega (arith, row-small (c .before .before .before))
+mul-gather-row-2 c = omega (arith, row-small (at-start-from-sub-left (c .before)))
 
 slice-relend-prefix-gather-row : tie.Need-slice-relend-prefix-gather-row
 slice-relend-prefix-gather-row c = search needs
@@ -46,23 +59,23 @@ slice-aggregate-gather-row c = front-count _ _ (omega arith)
 
 gather-row-requires-2 : tie.Need-gather-row-requires-2
 gather-row-requires-2 c κs =
-    let e = c .before .before .before .before in
+    let e = at-start-from-gather-row-arg2 c in
     let left : 32 - e .args .from % 32 ≤ length (e .args .out .now) = omega arith in
     rw (length-take-le (32 - e .args .from % 32) (e .args .out .now) left) (front-along (e .args .circle .now) _ _ _ _ (omega arith) left (e .pre .1))
 
 -- the rest of the row came back whole
-row-back : (c : tie.After-gather-row2) → length (c .gather-row2 .last .1 .1 .1 .1 .0) ≡ 32 - c .before .before .before .before .before .args .from % 32
+row-back : (c : tie.After-gather-row2) → length (c .gather-row2 .last .1 .1 .1 .1 .0) ≡ 32 - at-start c .args .from % 32
 row-back c =
-    let e = c .before .before .before .before .before in
+    let e = at-start c in
     c .gather-row2 .kept .1 .1 .1 .1 .0 ∙ length-take-le (32 - e .args .from % 32) (e .args .out .now) (omega arith)
 
 -- the rows after it are lent
-rows-lent : (c : tie.After-gather-row2) → let e = c .before .before .before .before .before .args in
+rows-lent : (c : tie.After-gather-row2) → let e = at-start c .args in
     let left = 32 - e .from % 32 in
     let lent = c .gather-row2 .last .1 .1 .1 .1 .0 ++ drop left (e .out .now) in
     length (midOf left (length lent - left) lent) ≡ length (e .out .now) - left
 rows-lent c =
-    let e = c .before .before .before .before .before .args in
+    let e = at-start c .args in
     rest-lent (c .gather-row2 .last .1 .1 .1 .1 .0) (drop (32 - e .from % 32) (e .out .now)) (32 - e .from % 32) (row-back c) ∙ length-drop (32 - e .from % 32) (e .out .now)
 
 add-gather-rows : tie.Need-add-gather-rows
@@ -79,24 +92,25 @@ part-gather-rows-end c = search needs
 
 gather-rows-requires : tie.Need-gather-rows-requires
 gather-rows-requires c κs =
-    let e = c .before .before .before .before .before .before .before .before in
-    (e .pre .0, rw (rows-lent (c .before .before .before)) (rest-along (e .args .circle .now) _ _ _ (omega arith) (e .pre .1)))
+    let e = at-start (at-gather-row2 c) in
+    (e .pre .0, rw (rows-lent (at-gather-row2 c)) (rest-along (e .args .circle .now) _ _ _ (omega arith) (e .pre .1)))
 
 same-length-2 : tie.Need-same-length-2
 same-length-2 c = search needs
 
 returns-2 : tie.Need-returns-2
 returns-2 c =
-    let fronted = c .before .before .before .before .before .before in
-    let e = fronted .before .before .before .before .before in
+    let gather-rows = c .before .before in
+    let fronted = at-gather-row2 (gather-rows .before) in
+    let e = at-start fronted in
     let left = 32 - e .args .from % 32 in
     let few : left ≤ length (e .args .out .now) = omega arith in
     let rule = keptBelow (e .args .circle .now) (e .args .firsts) (e .args .step * (e .args .from / 32)) in
     let rows = keptBy (e .args .circle .now) (e .args .firsts) (e .args .step) in
-    rest-back (fronted .gather-row2 .last .1 .1 .1 .1 .0) (drop left (e .args .out .now)) left (row-back fronted) (c .before .before .gather-rows .last .1 .1 .1 .1 .0)
+    rest-back (fronted .gather-row2 .last .1 .1 .1 .1 .0) (drop left (e .args .out .now)) left (row-back fronted) (gather-rows .gather-rows .last .1 .1 .1 .1 .0)
     ∙ both-kept _ _ _ _ (length (e .args .out .now)) few
     (fronted .gather-row2 .ensures ∙ ap (λ (m : ℕ). tabFrom (e .args .from % 32) m rule) (length-take-le left (e .args .out .now) few))
-    (c .before .before .gather-rows .ensures ∙ ap (λ (m : ℕ). tabFrom (32 * (e .args .from / 32 + 1)) m rows) (rows-lent fronted))
+    (gather-rows .gather-rows .ensures ∙ ap (λ (m : ℕ). tabFrom (32 * (e .args .from / 32 + 1)) m rows) (rows-lent fronted))
 
 pub gather-spec : {M : Type 1} → statement M
 gather-spec =

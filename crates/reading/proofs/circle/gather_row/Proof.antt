@@ -16,10 +16,20 @@ Inv-loop circle below from out₀ firsts k₀ out k = Gathering (keptBelow circl
 abbrev μ-loop : tie.MeasureT-loop
 μ-loop circle below from out₀ firsts k₀ out k = length out₀ - k
 
+-- the ways back
+abbrev at-start : tie.At-loop Inv-loop μ-loop → tie.Start Inv-loop μ-loop
+at-start c = c .before
+
+abbrev at-turn-from-add-out : tie.After-struct-known Inv-loop μ-loop → tie.In-loop Inv-loop μ-loop
+at-turn-from-add-out c = c .before .before
+
+abbrev at-turn : tie.After-shared-slice-known Inv-loop μ-loop → tie.In-loop Inv-loop μ-loop
+at-turn c = at-turn-from-add-out (c .before)
+
 -- the place lies on the circle
-lies : (c : tie.In-loop Inv-loop μ-loop) → let e = c .before .before .args in
+lies : (c : tie.In-loop Inv-loop μ-loop) → let e = at-start (c .before) .args in
     getD (e .t2) (e .from + c .before .loop .k) (circlePlace 0) .0 + e .below < length (e .circle .now)
-lies c = c .before .before .pre .places (c .before .before .args .from + c .before .loop .k) (omega arith) (omega arith)
+lies c = at-start (c .before) .pre .places (at-start (c .before) .args .from + c .before .loop .k) (omega arith) (omega arith)
 
 loop-holds : tie.Need-loop-holds Inv-loop μ-loop
 loop-holds c = gathering-start
@@ -34,10 +44,10 @@ array-copy-out-first : tie.Need-array-copy-out-first Inv-loop μ-loop
 array-copy-out-first c = omega arith
 
 add-out : tie.Need-add-out Inv-loop μ-loop
-add-out c = omega (arith, lies (c .before .before))
+add-out c = omega (arith, lies (at-turn-from-add-out c))
 
 shared-slice-read-out : tie.Need-shared-slice-read-out Inv-loop μ-loop
-shared-slice-read-out c = lies (c .before .before .before)
+shared-slice-read-out c = lies (at-turn c)
 
 slice-write-out : tie.Need-slice-write-out Inv-loop μ-loop
 slice-write-out c = omega arith
@@ -50,7 +60,7 @@ loop-less c = omega arith
 
 loop-again : tie.Need-loop-again Inv-loop μ-loop
 unfolding keptBelow
-loop-again c = gathering-next (omega arith) refl (c .before .before .before .before .loop .inv)
+loop-again c = gathering-next (omega arith) refl (at-turn c .before .loop .inv)
 
 same-length : tie.Need-same-length Inv-loop μ-loop
 same-length c = c .before .loop .inv .wrote .long

@@ -13,7 +13,17 @@ use Rattle.reading.proofs.Rows.{along, kept-along, firsts-there}
 use Rattle.reading.proofs.circle.read_stream.Statement.{statement}
 use Rattle.reading.proofs.circle.read_stream.Tie as tie
 
-step-is : (c : tie.Joined1) → c .if1 .step ≡ rowStep (c .before .before .before .args .s)
+-- the ways back
+abbrev at-start : tie.Joined1 → tie.Start
+at-start c = c .before .before .before
+
+abbrev at-joined1 : tie.After-first-places → tie.Joined1
+at-joined1 c = c .before
+
+abbrev at-first-places : tie.After-gather-arg → tie.After-first-places
+at-first-places c = c .before
+
+step-is : (c : tie.Joined1) → c .if1 .step ≡ rowStep (at-start c .args .s)
 unfolding rowStep
 step-is c = ⊎-elim (λ w. rw (eq-eqb _ 0 (w .0 .taken)) (w .1)) (λ w. rw (ne-eqb _ 0 (w .0 .left)) (w .1)) (c .if1 .came)
 
@@ -30,17 +40,18 @@ first-places-requires c κs = search needs
 
 gather-requires : tie.Need-gather-requires
 gather-requires c κs =
-    let w = c .before .before .before .before .before .pre in
-    rw (c .before .first-places .ensures ∙ firsts-there w, step-is (c .before .before)) (step-few _, along w)
+    let w = at-start (at-joined1 (at-first-places c)) .pre in
+    rw (at-first-places c .first-places .ensures ∙ firsts-there w, step-is (at-joined1 (at-first-places c))) (step-few _, along w)
 
 same-length : tie.Need-same-length
 same-length c = search needs
 
 returns : tie.Need-returns
 returns c =
-    let found = c .before .before .before .before in
-    let entry = found .before .before .before .before in
-    c .before .before .gather .ensures ∙ rw (found .first-places .ensures ∙ firsts-there (entry .pre), step-is (found .before)) (kept-along (entry .args .circle .now) (entry .pre))
+    let gather = c .before .before in
+    let found = at-first-places (gather .before) in
+    let entry = at-start (at-joined1 found) in
+    gather .gather .ensures ∙ rw (found .first-places .ensures ∙ firsts-there (entry .pre), step-is (at-joined1 found)) (kept-along (entry .args .circle .now) (entry .pre))
 
 pub read-stream-spec : {M : Type 1} → statement M
 read-stream-spec = tie.close (tie.spec first-places-requires gather-requires same-length returns)

@@ -5,6 +5,16 @@ use Rattle.reading.proofs.Runs.{whole-run, cleared-run}
 use Rattle.reading.proofs.circle.stream.Statement.{statement}
 use Rattle.reading.proofs.circle.stream.Tie as tie
 
+-- the ways back
+abbrev at-start : tie.After-read-stream → tie.Start
+at-start c = c .before .before .before .before
+
+abbrev at-read-stream : tie.After-show → tie.After-read-stream
+at-read-stream c = c .before .before .before .before
+
+abbrev at-show : tie.After-slice-known3 → tie.After-show
+at-show c = c .before .before
+
 read-stream-requires : tie.Need-read-stream-requires
 read-stream-requires c κs = search needs
 
@@ -19,20 +29,21 @@ same-length c = search needs
 
 returns : tie.Need-returns
 returns c =
-    let tested = c .before .before .before .before in
-    let shows = tested .before .before .before in
-    let reads = shows .before .before .before .before in
-    let entry = reads .before .before .before .before in
-    cleared-run _ _ _ _ (entry .pre .1) (reads .read-stream .ensures) (shows .show .ensures) (tested .if1 .taken) (entry .pre .0) (c .before .before .clear .ensures)
+    let clear = c .before .before in
+    let tested = clear .before .before in
+    let shows = at-show (tested .before) in
+    let reads = at-read-stream shows in
+    let entry = at-start reads in
+    cleared-run _ _ _ _ (entry .pre .1) (reads .read-stream .ensures) (shows .show .ensures) (tested .if1 .taken) (entry .pre .0) (clear .clear .ensures)
 
 same-length-2 : tie.Need-same-length-2
 same-length-2 c = search needs
 
 returns-2 : tie.Need-returns-2
 returns-2 c =
-    let shows = c .before .before .before in
-    let reads = shows .before .before .before .before in
-    whole-run _ _ _ _ (reads .before .before .before .before .pre .1) (reads .read-stream .ensures) (shows .show .ensures) (c .if1 .left)
+    let shows = at-show (c .before) in
+    let reads = at-read-stream shows in
+    whole-run _ _ _ _ (at-start reads .pre .1) (reads .read-stream .ensures) (shows .show .ensures) (c .if1 .left)
 
 pub stream-spec : {M : Type 1} → statement M
 stream-spec =

@@ -13,8 +13,15 @@ Inv-loop circle d f out₀ at₀ s₀ out at s = Running circle d f out₀ out a
 abbrev μ-loop : tie.MeasureT-loop
 μ-loop circle d f out₀ at₀ s₀ out at s = 3 - s
 
+-- the ways back
+abbrev at-start : tie.After-slice-known Inv-loop μ-loop → tie.Start Inv-loop μ-loop
+at-start c = c .before .before
+
+abbrev at-turn : tie.After-stream-arg Inv-loop μ-loop → tie.In-loop Inv-loop μ-loop
+at-turn c = c .before
+
 loop-holds : tie.Need-loop-holds Inv-loop μ-loop
-loop-holds c = running-start _ _ _ _ (c .before .before .pre .1)
+loop-holds c = running-start _ _ _ _ (at-start c .pre .1)
 
 add-end : tie.Need-add-end Inv-loop μ-loop
 add-end c = omega (arith, run-within (c .before .loop .inv) (c .loop-test .taken))
@@ -30,10 +37,10 @@ part-stream-end c = run-within (c .before .loop .inv) (c .loop-test .taken)
 
 stream-requires : tie.Need-stream-requires Inv-loop μ-loop
 stream-requires c κs =
-    let entry = c .before .before .before .before .before in
-    let more = c .before .loop-test .taken in (
+    let entry = at-start (at-turn c .before .before) in
+    let more = at-turn c .loop-test .taken in (
       entry .pre .0,
-      run-long (c .before .before .loop .inv) more,
+      run-long (at-turn c .before .loop .inv) more,
       any-stream (entry .pre .2) more,
     )
 
@@ -44,7 +51,7 @@ loop-less : tie.Need-loop-less Inv-loop μ-loop
 loop-less c = omega arith
 
 loop-again : tie.Need-loop-again Inv-loop μ-loop
-loop-again c = running-next (c .before .before .before .before .before .loop .inv) (c .before .before .before .before .loop-test .taken) (c .before .before .stream .ensures)
+loop-again c = running-next (at-turn (c .before .before .before) .before .loop .inv) (at-turn (c .before .before .before) .loop-test .taken) (c .before .before .stream .ensures)
 
 same-length : tie.Need-same-length Inv-loop μ-loop
 same-length c = c .before .loop .inv .wrote .long

@@ -12,21 +12,34 @@ use borrow.Author.Needs.{needs}
 use Rattle.reading.proofs.room.read_data.Statement.{statement}
 use Rattle.reading.proofs.room.read_data.Tie as tie
 
+-- the ways back
+abbrev at-start : tie.After-bytes-a-block → tie.Start
+at-start c = c .before .before .before .before
+
+abbrev at-else1 : tie.After-read-stream-arg4 → tie.Else1
+at-else1 c = c .before .before
+
+abbrev at-then1 : tie.After-unpack-places → tie.Then1
+at-then1 c = c .before .before .before
+
+abbrev at-unpack-places : tie.After-read-stream-arg2 → tie.After-unpack-places
+at-unpack-places c = c .before .before .before .before
+
 -- the code block's bytes
-within : (c : tie.After-bytes-a-block) → let e = c .before .before .before .before .args in
+within : (c : tie.After-bytes-a-block) → let e = at-start c .args in
     e .r * c .bytes-a-block .result + c .bytes-a-block .result ≤ length (e .room .now)
-within c = part-within (c .before .before .before .before .pre .0) (c .bytes-a-block .ensures)
+within c = part-within (at-start c .pre .0) (c .bytes-a-block .ensures)
 
 -- those of stream 0, which the buffer has room for
-few : (c : tie.Then1) → 8 * ((c .before .before .before .before .before .args .k + 35) / 32) ≤ 1544
-few c = data-few (c .before .before .before .before .before .args .k) (c .before .before .before .before .before .pre .1 .sized)
+few : (c : tie.Then1) → 8 * ((at-start (c .before) .args .k + 35) / 32) ≤ 1544
+few c = data-few (at-start (c .before) .args .k) (at-start (c .before) .pre .1 .sized)
 
-ample : (c : tie.Then1) → let e = c .before .before .before .before .before in 4 * (8 * ((e .args .k + 35) / 32)) ≤ length (e .args .circle .now)
-ample c = omega (arith, few c, c .before .before .before .before .before .pre .0 .unpacks (c .if1 .taken))
+ample : (c : tie.Then1) → let e = at-start (c .before) in 4 * (8 * ((e .args .k + 35) / 32)) ≤ length (e .args .circle .now)
+ample c = omega (arith, few c, at-start (c .before) .pre .0 .unpacks (c .if1 .taken))
 
-there : (c : tie.Then1) → let e = c .before .before .before .before .before .args in
+there : (c : tie.Then1) → let e = at-start (c .before) .args in
     e .r * c .before .bytes-a-block .result + 8 * ((e .k + 35) / 32) ≤ length (e .room .now)
-there c = front-within (c .before .before .before .before .before .pre .0) (c .if1 .taken) (c .before .bytes-a-block .ensures) (omega (arith, few c)) (ample c)
+there c = front-within (at-start (c .before) .pre .0) (c .if1 .taken) (c .before .bytes-a-block .ensures) (omega (arith, few c)) (ample c)
 
 bytes-a-block-requires : tie.Need-bytes-a-block-requires
 bytes-a-block-requires c κs = search needs
@@ -60,9 +73,9 @@ add-read-stream c = search needs
 
 read-stream-requires : tie.Need-read-stream-requires
 read-stream-requires c κs =
-    let then = c .before .before .before .before .before .before .before in
-    let e = then .before .before .before .before .before in
-    stretch-in (e .pre .1) (omega (arith, data-reach (e .args .k), ample then, c .before .before .before .before .unpack-places .kept .1 .0))
+    let then = at-then1 (at-unpack-places c) in
+    let e = at-start (then .before) in
+    stretch-in (e .pre .1) (omega (arith, data-reach (e .args .k), ample then, at-unpack-places c .unpack-places .kept .1 .0))
 
 add-to-3 : tie.Need-add-to-3
 add-to-3 c = omega (arith, within (c .before))
@@ -81,8 +94,8 @@ add-read-stream-2 c = search needs
 
 read-stream-requires-2 : tie.Need-read-stream-requires-2
 read-stream-requires-2 c κs =
-    let e = c .before .before .before .before .before .before .before in
-    stretch-on (e .pre .1) (omega (arith, part-long (e .pre .0) (c .before .before .before .bytes-a-block .ensures), plain-long (c .before .before .if1 .left)))
+    let e = at-start (at-else1 c .before) in
+    stretch-on (e .pre .1) (omega (arith, part-long (e .pre .0) (at-else1 c .before .bytes-a-block .ensures), plain-long (at-else1 c .if1 .left)))
 
 same-length : tie.Need-same-length
 same-length c = search needs
@@ -93,12 +106,13 @@ same-length-2 c = search needs
 returns : tie.Need-returns
 unfolding heardOn
 returns c =
-    let asked = c .before .before .before in
-    let then = asked .before .before .before .before .before .before .before in
-    let e = then .before .before .before .before .before in
-    c .before .before .read-stream .ensures
+    let read-stream = c .before .before in
+    let asked = read-stream .before in
+    let then = at-then1 (at-unpack-places asked) in
+    let e = at-start (then .before) in
+    read-stream .read-stream .ensures
     ∙ heard-alike (e .args .k) (e .pre .1 .sized)
-    (front-alike (e .pre .0) (then .if1 .taken) (then .before .bytes-a-block .ensures) (omega (arith, few then)) (ample then) (asked .before .before .before .before .unpack-places .ensures))
+    (front-alike (e .pre .0) (then .if1 .taken) (then .before .bytes-a-block .ensures) (omega (arith, few then)) (ample then) (at-unpack-places asked .unpack-places .ensures))
     (data-reach (e .args .k)) (e .args .f) (length (e .args .out .now)) (e .pre .1 .within)
 
 same-length-3 : tie.Need-same-length-3
@@ -107,10 +121,11 @@ same-length-3 c = search needs
 returns-2 : tie.Need-returns-2
 unfolding heardOn
 returns-2 c =
-    let asked = c .before .before .before in
-    let e = asked .before .before .before .before .before .before .before in
-    c .before .before .read-stream2 .ensures
-    ∙ heard-alike (e .args .k) (e .pre .1 .sized) (plain-alike (e .args .r) (e .args .room .now) (asked .before .before .before .bytes-a-block .ensures) (asked .before .before .if1 .left))
+    let read-stream2 = c .before .before in
+    let asked = read-stream2 .before in
+    let e = at-start (at-else1 asked .before) in
+    read-stream2 .read-stream2 .ensures
+    ∙ heard-alike (e .args .k) (e .pre .1 .sized) (plain-alike (e .args .r) (e .args .room .now) (at-else1 asked .before .bytes-a-block .ensures) (at-else1 asked .if1 .left))
     (reach-most 0 (e .pre .1 .sized .most)) (e .args .f) (length (e .args .out .now)) (e .pre .1 .within)
 
 pub read-data-spec : {M : Type 1} → statement M

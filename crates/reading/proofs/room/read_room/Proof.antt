@@ -4,11 +4,15 @@ use borrow.Author.Needs.{needs}
 use Rattle.reading.proofs.room.read_room.Statement.{statement}
 use Rattle.reading.proofs.room.read_room.Tie as tie
 
+-- the ways back
+abbrev at-start : tie.After-slice-known2 → tie.Start
+at-start c = c .before .before .before
+
 read-short-requires : tie.Need-read-short-requires
-read-short-requires c κs = let e = c .before .before .before .before .before .before in (c .before .before .if1 .taken, e .pre .0, e .pre .1, e .pre .2)
+read-short-requires c κs = let e = at-start (c .before .before .before) in (c .before .before .if1 .taken, e .pre .0, e .pre .1, e .pre .2)
 
 read-long-requires : tie.Need-read-long-requires
-read-long-requires c κs = c .before .before .before .before .before .before .pre
+read-long-requires c κs = at-start (c .before .before .before) .pre
 
 same-length : tie.Need-same-length
 same-length c = search needs

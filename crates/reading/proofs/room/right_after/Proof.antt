@@ -9,8 +9,12 @@ use Rattle.check_bits.proofs.Register.{from-zero}
 use Rattle.reading.proofs.room.right_after.Statement.{statement}
 use Rattle.reading.proofs.room.right_after.Tie as tie
 
+-- the ways back
+abbrev at-else3 : tie.After-crc24b → tie.Else3
+at-else3 c = c .before
+
 -- the check is that of the bits
-checked : (c : tie.After-crc24b) → c .crc24b .result ≡ crc 24 gCRC24B (now (c .before .before .before .before .before .args .bits))
+checked : (c : tie.After-crc24b) → c .crc24b .result ≡ crc 24 gCRC24B (now (at-else3 c .before .before .before .before .args .bits))
 checked c = c .crc24b .ensures ∙ from-zero 24 gCRC24B _
 
 returns : tie.Need-returns
@@ -30,9 +34,9 @@ crc24b-requires c κs = search needs
 
 returns-4 : tie.Need-returns-4
 returns-4 c = rw (
-  eq-eqb _ 0 (c .before .before .before .before .if1 .left),
-  eq-eqb _ _ (c .before .before .before .if2 .left),
-  ne-eqb _ 0 (c .before .before .if3 .left),
+  eq-eqb _ 0 (at-else3 (c .before) .before .before .if1 .left),
+  eq-eqb _ _ (at-else3 (c .before) .before .if2 .left),
+  ne-eqb _ 0 (at-else3 (c .before) .if3 .left),
   ← (checked (c .before)),
   ne-eqb _ 0 (c .if4 .taken),
 )
@@ -42,9 +46,9 @@ add-result-2 c = search needs
 
 returns-5 : tie.Need-returns-5
 returns-5 c = rw (
-  eq-eqb _ 0 (c .before .before .before .before .if1 .left),
-  eq-eqb _ _ (c .before .before .before .if2 .left),
-  ne-eqb _ 0 (c .before .before .if3 .left),
+  eq-eqb _ 0 (at-else3 (c .before) .before .before .if1 .left),
+  eq-eqb _ _ (at-else3 (c .before) .before .if2 .left),
+  ne-eqb _ 0 (at-else3 (c .before) .if3 .left),
   ← (checked (c .before)),
   eq-eqb _ 0 (c .if4 .left),
 )
