@@ -20,8 +20,9 @@ same-length c = search needs
 
 returns : tie.Need-returns
 returns c =
-    let p = c .before .before .before .before .put-blocks in
-    let e = c .before .before .before .before .before .before .before .before in
+    let put-blocks = c .before .before .before .before in
+    let p = put-blocks .put-blocks in
+    let e = put-blocks .before .before .before .before in
     let fits : roomFits (e .args .size) (length (p .last .1 .1 .1 .1 .0)) ≡ true = fits-still (e .pre) (p .kept .1 .1 .1 .1 .0) in
     (p .ensures, c .lacking-in .ensures ∙ rw fits)
 

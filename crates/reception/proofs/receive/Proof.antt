@@ -13,6 +13,16 @@ use Rattle.reception.proofs.Accepts.{Ready, ready, room-small, room-nea
 use Rattle.reception.proofs.receive.Statement.{statement}
 use Rattle.reception.proofs.receive.Tie as tie
 
+-- the ways back
+abbrev at-else1 : tie.After-head-at → tie.Else1
+at-else1 c = c .before
+
+abbrev at-head-at : tie.After-struct-known → tie.After-head-at
+at-head-at c = c .before
+
+abbrev at-head-at-from-put-and-count-arg : tie.After-put-and-count-arg → tie.After-head-at
+at-head-at-from-put-and-count-arg c = at-head-at (c .before)
+
 -- past the test: the function's entry, and what number 0 says
 abbrev entry : tie.Else1 → tie.Start
 entry c = c .before .before .before .before
@@ -21,12 +31,12 @@ is-ready : (c : tie.Else1) → let e = entry c .args in Ready (e .state) (length
 is-ready c = ready _ (c .before .receive-number .ensures) (c .if1 .left)
 
 -- the A of the slot's head
-sized : (c : tie.After-head-at) → c .head-at .result .size ≡ sizeAtHead (entry (c .before) .args .state) (entry (c .before) .args .slot)
+sized : (c : tie.After-head-at) → c .head-at .result .size ≡ sizeAtHead (entry (at-else1 c) .args .state) (entry (at-else1 c) .args .slot)
 unfolding sizeAtHead
 sized c = ap (λ (h : Head). h .size) (c .head-at .ensures)
 
 -- and its share
-shared : (c : tie.After-head-at) → c .head-at .result .share ≡ shareAtHead (entry (c .before) .args .state) (entry (c .before) .args .slot)
+shared : (c : tie.After-head-at) → c .head-at .result .share ≡ shareAtHead (entry (at-else1 c) .args .state) (entry (at-else1 c) .args .slot)
 unfolding shareAtHead
 shared c = ap (λ (h : Head). h .share) (c .head-at .ensures)
 
@@ -41,13 +51,13 @@ head-at-requires : tie.Need-head-at-requires
 head-at-requires c κs = search needs
 
 mul-room : tie.Need-mul-room
-mul-room c = omega (arith, room-small (is-ready (c .before .before)))
+mul-room c = omega (arith, room-small (is-ready (at-else1 (at-head-at c))))
 
 mul-from : tie.Need-mul-from
-mul-from c = omega (arith, room-near (is-ready (c .before .before)))
+mul-from c = omega (arith, room-near (is-ready (at-else1 (at-head-at c))))
 
 add-to : tie.Need-add-to
-add-to c = omega (arith, room-small (is-ready (c .before .before)), room-near (is-ready (c .before .before)))
+add-to c = omega (arith, room-small (is-ready (at-else1 (at-head-at c))), room-near (is-ready (at-else1 (at-head-at c))))
 
 sub-put-and-count : tie.Need-sub-put-and-count
 sub-put-and-count c = search needs
@@ -56,19 +66,20 @@ part-put-and-count-start : tie.Need-part-put-and-count-start
 part-put-and-count-start c = search needs
 
 part-put-and-count-end : tie.Need-part-put-and-count-end
-part-put-and-count-end c = room-in (is-ready (c .before .before))
+part-put-and-count-end c = room-in (is-ready (at-else1 (at-head-at c)))
 
 put-and-count-requires : tie.Need-put-and-count-requires
-put-and-count-requires c κs = room-ready _ (is-ready (c .before .before .before)) (sized (c .before .before)) (shared (c .before .before))
+put-and-count-requires c κs = room-ready _ (is-ready (at-else1 (at-head-at-from-put-and-count-arg c))) (sized (at-head-at-from-put-and-count-arg c)) (shared (at-head-at-from-put-and-count-arg c))
 
 same-length : tie.Need-same-length
 same-length c = search needs
 
 returns-2 : tie.Need-returns-2
 returns-2 c =
-    let p = c .before .before .put-and-count in
-    let head = c .before .before .before .before .before in
-    let found = head .before in
+    let put-and-count = c .before .before in
+    let p = put-and-count .put-and-count in
+    let head = at-head-at-from-put-and-count-arg (put-and-count .before) in
+    let found = at-else1 head in
     let is = is-ready found in
     let told = found .before .receive-number .ensures in
     let long = p .kept .1 .1 .1 .1 .0 in (

@@ -13,11 +13,18 @@ Inv-loop bits run₀ i₀ run i = Meeting bits run₀ run i
 abbrev μ-loop : tie.MeasureT-loop
 μ-loop bits run₀ i₀ run i = length bits - i
 
+-- the ways back
+abbrev at-loop-from-slice-read-met : tie.After-slice-known2 Inv-loop μ-loop → tie.At-loop Inv-loop μ-loop
+at-loop-from-slice-read-met c = c .before .before
+
+abbrev at-loop : tie.After-met Inv-loop μ-loop → tie.At-loop Inv-loop μ-loop
+at-loop c = at-loop-from-slice-read-met (c .before .before)
+
 loop-holds : tie.Need-loop-holds Inv-loop μ-loop
 loop-holds c = meeting-start
 
 slice-read-met : tie.Need-slice-read-met Inv-loop μ-loop
-slice-read-met c = omega (arith, meeting-long (c .before .before .loop .inv))
+slice-read-met c = omega (arith, meeting-long (at-loop-from-slice-read-met c .loop .inv))
 
 shared-slice-read-met : tie.Need-shared-slice-read-met Inv-loop μ-loop
 shared-slice-read-met c = omega arith
@@ -26,7 +33,7 @@ met-requires : tie.Need-met-requires Inv-loop μ-loop
 met-requires c κs = tt
 
 slice-write-run : tie.Need-slice-write-run Inv-loop μ-loop
-slice-write-run c = omega (arith, meeting-long (c .before .before .before .before .loop .inv))
+slice-write-run c = omega (arith, meeting-long (at-loop c .loop .inv))
 
 add-i : tie.Need-add-i Inv-loop μ-loop
 add-i c = omega arith
@@ -35,7 +42,7 @@ loop-less : tie.Need-loop-less Inv-loop μ-loop
 loop-less c = omega arith
 
 loop-again : tie.Need-loop-again Inv-loop μ-loop
-loop-again c = rw (c .met .ensures) (meeting-next (omega arith) (c .before .before .before .before .loop .inv))
+loop-again c = rw (c .met .ensures) (meeting-next (omega arith) (at-loop c .loop .inv))
 
 same-length : tie.Need-same-length Inv-loop μ-loop
 same-length c = meeting-long (c .before .loop .inv)

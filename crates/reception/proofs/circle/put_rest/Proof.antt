@@ -11,6 +11,13 @@ use borrow.Author.Needs.{needs}
 use Rattle.reception.proofs.circle.put_rest.Statement.{statement}
 use Rattle.reception.proofs.circle.put_rest.Tie as tie
 
+-- the ways back
+abbrev at-joined1-from-add-end : tie.After-row-known → tie.Joined1
+at-joined1-from-add-end c = c .before
+
+abbrev at-joined1 : tie.After-put-unit-arg → tie.Joined1
+at-joined1 c = at-joined1-from-add-end (c .before)
+
 -- the function's entry, and the fewer of both
 abbrev entry : tie.Joined1 → tie.Start
 entry c = c .before .before .before
@@ -22,14 +29,14 @@ sub-left : tie.Need-sub-left
 sub-left c = search needs
 
 add-end : tie.Need-add-end
-add-end c = omega (arith, fewer (c .before))
+add-end c = omega (arith, fewer (at-joined1-from-add-end c))
 
 slice-aggregate-put-unit : tie.Need-slice-aggregate-put-unit
-slice-aggregate-put-unit c = front-count _ (entry (c .before .before) .args .bits .now) (omega (arith, fewer (c .before .before)))
+slice-aggregate-put-unit c = front-count _ (entry (at-joined1 c) .args .bits .now) (omega (arith, fewer (at-joined1 c)))
 
 put-unit-requires : tie.Need-put-unit-requires
 put-unit-requires c κs =
-    let j = c .before .before .before in
+    let j = at-joined1 (c .before) in
     let e = entry j in
     (e .pre .0, e .pre .1, omega (arith, front-count (e .args .at + j .if1 .n) (e .args .bits .now) (omega (arith, fewer j))))
 
@@ -39,7 +46,7 @@ same-length c = search needs
 returns : tie.Need-returns
 returns c =
     let p = c .before .before in
-    let j = p .before .before .before .before in
+    let j = at-joined1 (p .before .before) in
     put-first _ (entry j .pre .2) (fewer j) (p .put-unit .ensures)
 
 pub put-rest-spec : {M : Type 1} → statement M

@@ -11,15 +11,25 @@ use Rattle.reception.proofs.Along.{run-met}
 use Rattle.reception.proofs.circle.put_run.Statement.{statement}
 use Rattle.reception.proofs.circle.put_run.Tie as tie
 
+-- the ways back
+abbrev at-start : tie.Joined1 → tie.Start
+at-start c = c .before .before .before
+
+abbrev at-joined1 : tie.After-row-known → tie.Joined1
+at-joined1 c = c .before
+
+abbrev at-row-known : tie.After-meet-run-arg2 → tie.After-row-known
+at-row-known c = c .before .before
+
 -- the fewer of both
-fewer : (c : tie.Joined1) → let e = c .before .before .before .args in c .if1 .n ≡ min (length (e .bits .now) - e .at) (length (e .run .now))
+fewer : (c : tie.Joined1) → let e = at-start c .args in c .if1 .n ≡ min (length (e .bits .now) - e .at) (length (e .run .now))
 fewer c = ⊎-elim (λ w. omega (arith, w .0 .taken, w .1)) (λ w. omega (arith, w .0 .left, w .1)) (c .if1 .came)
 
 sub-left : tie.Need-sub-left
 sub-left c = search needs
 
 add-end : tie.Need-add-end
-add-end c = omega (arith, fewer (c .before))
+add-end c = omega (arith, fewer (at-joined1 c))
 
 sub-meet-run : tie.Need-sub-meet-run
 sub-meet-run c = search needs
@@ -28,20 +38,20 @@ part-meet-run-start : tie.Need-part-meet-run-start
 part-meet-run-start c = search needs
 
 part-meet-run-end : tie.Need-part-meet-run-end
-part-meet-run-end c = omega (arith, fewer (c .before))
+part-meet-run-end c = omega (arith, fewer (at-joined1 c))
 
 meet-run-requires : tie.Need-meet-run-requires
 meet-run-requires c κs =
-    let e = c .before .before .before .before .before .before in
-    let n = c .before .before .before .if1 .n in
-    let lent = length-mid (e .args .at) (e .args .at + n) (e .args .bits .now) (part-meet-run-end (c .before .before)) in
-    omega (arith, lent, fewer (c .before .before .before))
+    let e = at-start (at-joined1 (at-row-known c)) in
+    let n = at-joined1 (at-row-known c) .if1 .n in
+    let lent = length-mid (e .args .at) (e .args .at + n) (e .args .bits .now) (part-meet-run-end (at-row-known c)) in
+    omega (arith, lent, fewer (at-joined1 (at-row-known c)))
 
 same-length : tie.Need-same-length
 same-length c = search needs
 
 returns : tie.Need-returns
-returns c = run-met _ _ (c .before .before .before .before .before .before .before .before .before .pre) (fewer (c .before .before .before .before .before .before)) (c .before .before .meet-run .ensures)
+returns c = run-met _ _ (at-start (at-joined1 (at-row-known (c .before .before .before))) .pre) (fewer (at-joined1 (at-row-known (c .before .before .before)))) (c .before .before .meet-run .ensures)
 
 pub put-run-spec : {M : Type 1} → statement M
 put-run-spec =

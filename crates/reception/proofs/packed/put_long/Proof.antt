@@ -7,6 +7,10 @@ use Rattle.laws.proofs.Parts.{fresh-count}
 use Rattle.reception.proofs.packed.put_long.Statement.{statement}
 use Rattle.reception.proofs.packed.put_long.Tie as tie
 
+-- the ways back
+abbrev at-start : tie.After-circle → tie.Start
+at-start c = c .before .before .before
+
 mul-places : tie.Need-mul-places
 mul-places c = search needs
 
@@ -14,11 +18,11 @@ array-borrow-prefix-circle : tie.Need-array-borrow-prefix-circle
 array-borrow-prefix-circle c = search needs
 
 slice-aggregate-put-by : tie.Need-slice-aggregate-put-by
-slice-aggregate-put-by c = fresh-count {A = ℕ} 0 18528 _ (c .before .before .before .pre .2)
+slice-aggregate-put-by c = fresh-count {A = ℕ} 0 18528 _ (at-start c .pre .2)
 
 put-by-requires : tie.Need-put-by-requires
 put-by-requires c κs =
-    let e = c .before .before .before .before in
+    let e = at-start (c .before) in
     rw (sym (fresh-count {A = ℕ} 0 18528 _ (e .pre .2))) (e .pre .0, e .pre .1, refl, e .pre .3)
 
 same-length : tie.Need-same-length

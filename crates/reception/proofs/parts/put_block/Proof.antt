@@ -11,6 +11,16 @@ use Rattle.reception.proofs.Walking.{sends-still, round-some, round-few
 use Rattle.reception.proofs.parts.put_block.Statement.{statement}
 use Rattle.reception.proofs.parts.put_block.Tie as tie
 
+-- the ways back
+abbrev at-put-round-from-sub-if1 : tie.After-slice-known2 → tie.After-put-round
+at-put-round-from-sub-if1 c = c .before .before
+
+abbrev at-put-round : tie.After-put-long-arg → tie.After-put-round
+at-put-round c = at-put-round-from-sub-if1 (c .before .before .before)
+
+abbrev at-put-round-from-put-short-arg : tie.After-put-short-arg → tie.After-put-round
+at-put-round-from-put-short-arg c = at-put-round-from-sub-if1 (c .before .before .before)
+
 -- the first turn is put: the function's entry
 abbrev entry : tie.After-put-round → tie.Start
 entry c = c .before .before .before .before
@@ -39,13 +49,14 @@ same-length c = search needs
 returns : tie.Need-returns
 unfolding partAfter sentPlaces turnIn
 returns c =
-    let first = c .before .before .before .before .before .before .before .before in
+    let put-round2 = c .before .before in
+    let first = at-put-round-from-sub-if1 (put-round2 .before .before .before .before) in
     let e = entry first in
-    two-rounds _ _ (round-some (e .pre .0)) (first .put-round .ensures) (omega arith) (c .before .before .put-round2 .ensures)
+    two-rounds _ _ (round-some (e .pre .0)) (first .put-round .ensures) (omega arith) (put-round2 .put-round2 .ensures)
 
 put-short-requires : tie.Need-put-short-requires
 put-short-requires c κs =
-    let first = c .before .before .before .before .before in
+    let first = at-put-round-from-put-short-arg c in
     let e = entry first in
     let told = first .put-round .ensures in
     (sends-still (e .pre .0) (put-long told), first-some _ _ (round-some (e .pre .0)) told (omega arith), omega arith, omega arith, e .pre .1)
@@ -56,13 +67,14 @@ same-length-2 c = search needs
 returns-2 : tie.Need-returns-2
 unfolding partAfter sentPlaces turnIn
 returns-2 c =
-    let first = c .before .before .before .before .before .before .before .before in
+    let put-short = c .before .before in
+    let first = at-put-round-from-put-short-arg (put-short .before) in
     let e = entry first in
-    ring-round _ _ (round-some (e .pre .0)) (first .put-round .ensures) (omega arith) (e .pre .1) (c .before .before .put-short .ensures)
+    ring-round _ _ (round-some (e .pre .0)) (first .put-round .ensures) (omega arith) (e .pre .1) (put-short .put-short .ensures)
 
 put-long-requires : tie.Need-put-long-requires
 put-long-requires c κs =
-    let first = c .before .before .before .before .before in
+    let first = at-put-round c in
     let e = entry first in
     let told = first .put-round .ensures in
     (sends-still (e .pre .0) (put-long told), first-some _ _ (round-some (e .pre .0)) told (omega arith), omega (arith, told .ends, round-few (e .pre .0)), omega arith, e .pre .1)
@@ -73,9 +85,10 @@ same-length-3 c = search needs
 returns-3 : tie.Need-returns-3
 unfolding partAfter sentPlaces turnIn
 returns-3 c =
-    let first = c .before .before .before .before .before .before .before .before in
+    let at-put-long = c .before .before in
+    let first = at-put-round (at-put-long .before) in
     let e = entry first in
-    ring-round _ _ (round-some (e .pre .0)) (first .put-round .ensures) (omega arith) (e .pre .1) (c .before .before .put-long .ensures)
+    ring-round _ _ (round-some (e .pre .0)) (first .put-round .ensures) (omega arith) (e .pre .1) (at-put-long .put-long .ensures)
 
 pub put-block-spec : {M : Type 1} → statement M
 put-block-spec =

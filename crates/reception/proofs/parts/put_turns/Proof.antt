@@ -8,6 +8,10 @@ use Rattle.reception.specs.inner.Along.{putFirst, turnIn}
 use Rattle.reception.proofs.parts.put_turns.Statement.{statement}
 use Rattle.reception.proofs.parts.put_turns.Tie as tie
 
+-- the ways back
+abbrev met : tie.After-put-round → tie.After-meet-turns
+met c = c .before .before .before .before .before
+
 meet-turns-requires : tie.Need-meet-turns-requires
 meet-turns-requires c κs = search needs
 
@@ -21,13 +25,11 @@ same-length-2 : tie.Need-same-length-2
 same-length-2 c = search needs
 
 -- before the ring is put: the turns have met in it
-abbrev met : tie.After-put-round → tie.After-meet-turns
-met c = c .before .before .before .before .before
-
 returns : tie.Need-returns
 returns c =
-    let p = c .before .before in
-    let e = c .before .before .before .before .before .before .before .before .before .before .before .before .args in
+    let put-round = c .before .before in
+    let p = put-round in
+    let e = met put-round .before .before .before .before .before .args in
     p .put-round .ensures .told
     ∙ ap (λ (l : List ℕ). putFirst (turnIn (e .d) (e .filler) (e .soft) (e .version)) l (e .part .now)) (met p .meet-turns .ensures)
 
