@@ -22,8 +22,9 @@ same-length-2 c = search needs
 
 returns-2 : tie.Need-returns-2
 returns-2 c =
-    let moved = c .before .before .before .before .move-rooms .ensures in
-    let tested = c .before .before .before .before .before .before .before in
+    let move-rooms = c .before .before .before .before in
+    let moved = move-rooms .move-rooms .ensures in
+    let tested = move-rooms .before .before .before in
     all-moved _ _ _ _ _ (tested .before .form-number .ensures) (tested .if1 .left) _ _ (moved .0) (moved .1)
 
 pub change-form-spec : {M : Type 1} → statement M

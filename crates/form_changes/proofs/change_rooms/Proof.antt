@@ -35,28 +35,41 @@ Inv-loop four m n from to₀ read written left₀ i₀ j₀ to left i j = Changi
 abbrev μ-loop : tie.MeasureT-loop
 μ-loop four m n from to₀ read written left₀ i₀ j₀ to left i j = left
 
+-- the ways back
+abbrev at-start : tie.After-bytes-a-block Inv-loop μ-loop → tie.Start Inv-loop μ-loop
+at-start c = c .before .before .before
+
+abbrev at-bytes-a-block-from-bytes-a-block2 : tie.After-bytes-a-block2 Inv-loop μ-loop → tie.After-bytes-a-block Inv-loop μ-loop
+at-bytes-a-block-from-bytes-a-block2 c = c .before
+
+abbrev at-bytes-a-block : tie.At-loop Inv-loop μ-loop → tie.After-bytes-a-block Inv-loop μ-loop
+at-bytes-a-block c = at-bytes-a-block-from-bytes-a-block2 (c .before)
+
+abbrev at-turn : tie.After-change-room-arg Inv-loop μ-loop → tie.In-loop Inv-loop μ-loop
+at-turn c = c .before
+
 bytes-a-block-requires : tie.Need-bytes-a-block-requires Inv-loop μ-loop
 bytes-a-block-requires c κs = tt
 
 mul-read : tie.Need-mul-read Inv-loop μ-loop
-mul-read c = bounded _ _ (not (c .before .before .before .args .four)) (c .bytes-a-block .ensures) (c .before .before .before .pre .0)
+mul-read c = bounded _ _ (not (at-start c .args .four)) (c .bytes-a-block .ensures) (at-start c .pre .0)
 
 bytes-a-block-requires-2 : tie.Need-bytes-a-block-requires-2 Inv-loop μ-loop
 bytes-a-block-requires-2 c κs = tt
 
 mul-written : tie.Need-mul-written Inv-loop μ-loop
-mul-written c = bounded _ _ (c .before .before .before .before .args .four) (c .bytes-a-block2 .ensures) (c .before .before .before .before .pre .0)
+mul-written c = bounded _ _ (at-start (at-bytes-a-block-from-bytes-a-block2 c) .args .four) (c .bytes-a-block2 .ensures) (at-start (at-bytes-a-block-from-bytes-a-block2 c) .pre .0)
 
 loop-holds : tie.Need-loop-holds Inv-loop μ-loop
 loop-holds c =
-    let args = c .before .before .before .before .args in
-    begin (args .four) (args .m) (args .n) (now (args .from)) (now (args .to)) (room (args .m) (not (args .four)) (c .before .bytes-a-block .ensures)) (room (args .m) (args .four) (c .bytes-a-block2 .ensures))
+    let args = at-start (at-bytes-a-block-from-bytes-a-block2 c) .args in
+    begin (args .four) (args .m) (args .n) (now (args .from)) (now (args .to)) (room (args .m) (not (args .four)) (at-bytes-a-block-from-bytes-a-block2 c .bytes-a-block .ensures)) (room (args .m) (args .four) (c .bytes-a-block2 .ensures))
 
 add-i-end : tie.Need-add-i-end Inv-loop μ-loop
-add-i-end c = omega (arith, from-fits (c .before .loop .inv) (c .loop-test .taken) (c .before .before .before .before .before .before .pre .1 .0))
+add-i-end c = omega (arith, from-fits (c .before .loop .inv) (c .loop-test .taken) (at-start (at-bytes-a-block (c .before)) .pre .1 .0))
 
 add-j-end : tie.Need-add-j-end Inv-loop μ-loop
-add-j-end c = omega (arith, to-fits (c .before .loop .inv) (c .loop-test .taken) (c .before .before .before .before .before .before .pre .1 .1))
+add-j-end c = omega (arith, to-fits (c .before .loop .inv) (c .loop-test .taken) (at-start (at-bytes-a-block (c .before)) .pre .1 .1))
 
 sub-change-room : tie.Need-sub-change-room Inv-loop μ-loop
 sub-change-room c = omega arith
@@ -65,7 +78,7 @@ part-change-room-start : tie.Need-part-change-room-start Inv-loop μ-loop
 part-change-room-start c = omega arith
 
 part-change-room-end : tie.Need-part-change-room-end Inv-loop μ-loop
-part-change-room-end c = from-fits (c .before .loop .inv) (c .loop-test .taken) (c .before .before .before .before .before .before .pre .1 .0)
+part-change-room-end c = from-fits (c .before .loop .inv) (c .loop-test .taken) (at-start (at-bytes-a-block (c .before)) .pre .1 .0)
 
 sub-change-room-2 : tie.Need-sub-change-room-2 Inv-loop μ-loop
 sub-change-room-2 c = omega arith
@@ -74,7 +87,7 @@ part-change-room-start-2 : tie.Need-part-change-room-start-2 Inv-loop μ-loop
 part-change-room-start-2 c = omega arith
 
 part-change-room-end-2 : tie.Need-part-change-room-end-2 Inv-loop μ-loop
-part-change-room-end-2 c = to-fits (c .before .before .loop .inv) (c .before .loop-test .taken) (c .before .before .before .before .before .before .before .pre .1 .1)
+part-change-room-end-2 c = to-fits (at-turn c .before .loop .inv) (at-turn c .loop-test .taken) (at-start (at-bytes-a-block (at-turn c .before)) .pre .1 .1)
 
 change-room-requires : tie.Need-change-room-requires Inv-loop μ-loop
 change-room-requires c κs = tt
@@ -86,7 +99,7 @@ loop-less : tie.Need-loop-less Inv-loop μ-loop
 loop-less c = omega arith
 
 loop-again : tie.Need-loop-again Inv-loop μ-loop
-loop-again c = next (c .before .before .before .before .before .before .loop .inv) (c .before .before .before .before .before .loop-test .taken) (c .before .before .before .before .before .before .before .before .before .before .before .pre .1 .1) (c .before .before .change-room .ensures) (c .before .before .change-room .kept .1 .1 .1 .0)
+loop-again c = next (at-turn (c .before .before .before .before) .before .loop .inv) (at-turn (c .before .before .before .before) .loop-test .taken) (at-start (at-bytes-a-block (at-turn (c .before .before .before .before) .before)) .pre .1 .1) (c .before .before .change-room .ensures) (c .before .before .change-room .kept .1 .1 .1 .0)
 
 same-length : tie.Need-same-length Inv-loop μ-loop
 same-length c = c .before .loop .inv .written .long
