@@ -12,18 +12,25 @@ use borrow.Author.Needs.{needs}
 use Rattle.rate_matching.proofs.mapping.column_unit.Statement.{statement}
 use Rattle.rate_matching.proofs.mapping.column_unit.Tie as tie
 
+-- the ways back
+abbrev at-rows-of : tie.After-column-at → tie.After-rows-of
+at-rows-of c = c .before
+
+abbrev at-column-at : tie.After-rows-before → tie.After-column-at
+at-column-at c = c .before
+
 -- the rows that were found, and the function's entry
 abbrev entry : tie.After-rows-before → tie.Start
-entry c = c .before .before .before
+entry c = at-rows-of (at-column-at c) .before
 
 found : (c : tie.After-rows-before) → let e = entry c .args in
-    let R = c .before .before .rows-of .result in
-    let p = c .before .column-at .result in
+    let R = at-rows-of (at-column-at c) .rows-of .result in
+    let p = at-column-at c .column-at .result in
     Rowed (e .d) (e .filler) p R (32 * R - e .d) (rowsBefore (32 * R - e .d) (p + 1)) (c .rows-before .result)
 found c =
     let s = entry c in
-    let low : c .before .column-at .result < 32 = rw (c .before .column-at .ensures) (column-rule (s .args .c) (s .pre .2) .0) in
-    rowed (s .pre .0) (s .pre .1) low (c .before .before .rows-of .ensures) refl refl (c .rows-before .ensures)
+    let low : at-column-at c .column-at .result < 32 = rw (at-column-at c .column-at .ensures) (column-rule (s .args .c) (s .pre .2) .0) in
+    rowed (s .pre .0) (s .pre .1) low (at-rows-of (at-column-at c) .rows-of .ensures) refl refl (c .rows-before .ensures)
 
 rows-of-requires : tie.Need-rows-of-requires
 rows-of-requires c κs = search needs
@@ -48,15 +55,15 @@ rows-before-requires c κs = search needs
 
 mul-begin : tie.Need-mul-begin
 unfolding rows
-mul-begin c = let r = found c in omega (arith, r .few, mul-le-mul-right (c .before .before .rows-of .result) (entry c .pre .2))
+mul-begin c = let r = found c in omega (arith, r .few, mul-le-mul-right (at-rows-of (at-column-at c) .rows-of .result) (entry c .pre .2))
 
 add-t12 : tie.Need-add-t12
 unfolding rows
-add-t12 c = let r = found c in omega (arith, r .few, r .high, mul-le-mul-right (c .before .before .rows-of .result) (entry c .pre .2))
+add-t12 c = let r = found c in omega (arith, r .few, r .high, mul-le-mul-right (at-rows-of (at-column-at c) .rows-of .result) (entry c .pre .2))
 
 add-t12-2 : tie.Need-add-t12-2
 unfolding rows
-add-t12-2 c = let r = found c in omega (arith, r .few, r .high, mul-le-mul-right (c .before .before .rows-of .result) (entry c .pre .2))
+add-t12-2 c = let r = found c in omega (arith, r .few, r .high, mul-le-mul-right (at-rows-of (at-column-at c) .rows-of .result) (entry c .pre .2))
 
 mul-t12 : tie.Need-mul-t12
 mul-t12 c = let r = found c in omega (arith, r .few, r .high)
@@ -69,7 +76,7 @@ sub-t14 c = found c .behind
 
 returns : tie.Need-returns
 unfolding columnUnit dummies
-returns c = simp (c .rows-before .ensures, c .before .column-at .ensures, c .before .before .rows-of .ensures)
+returns c = simp (c .rows-before .ensures, at-column-at c .column-at .ensures, at-rows-of (at-column-at c) .rows-of .ensures)
 
 pub column-unit-spec : {M : Type 1} → statement M
 column-unit-spec =

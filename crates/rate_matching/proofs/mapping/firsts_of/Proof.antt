@@ -14,6 +14,10 @@ Inv-loop d s table firsts₀ i₀ firsts i = (table ≡ columnTable) × Finding 
 abbrev μ-loop : tie.MeasureT-loop
 μ-loop d s table firsts₀ i₀ firsts i = 32 - i
 
+-- the ways back
+abbrev at-loop : tie.After-table Inv-loop μ-loop → tie.At-loop Inv-loop μ-loop
+at-loop c = c .before .before
+
 columns-requires : tie.Need-columns-requires Inv-loop μ-loop
 columns-requires c κs = tt
 
@@ -21,7 +25,7 @@ loop-holds : tie.Need-loop-holds Inv-loop μ-loop
 loop-holds c = (c .columns .ensures, finding-start refl)
 
 lies-on-circle-requires : tie.Need-lies-on-circle-requires Inv-loop μ-loop
-lies-on-circle-requires c κs = (c .before .before .loop .inv .0, omega arith, record { stream = omega arith; place = omega arith })
+lies-on-circle-requires c κs = (at-loop c .loop .inv .0, omega arith, record { stream = omega arith; place = omega arith })
 
 mul-firsts : tie.Need-mul-firsts Inv-loop μ-loop
 mul-firsts c = omega arith
@@ -36,7 +40,7 @@ loop-less : tie.Need-loop-less Inv-loop μ-loop
 loop-less c = omega arith
 
 loop-again : tie.Need-loop-again Inv-loop μ-loop
-loop-again c = (c .before .before .before .loop .inv .0, finding-next (omega arith) (c .lies-on-circle .ensures) (c .before .before .before .loop .inv .1))
+loop-again c = (at-loop (c .before) .loop .inv .0, finding-next (omega arith) (c .lies-on-circle .ensures) (at-loop (c .before) .loop .inv .1))
 
 returns : tie.Need-returns Inv-loop μ-loop
 returns c = finding-finish (omega arith) (c .before .loop .inv .1)

@@ -8,6 +8,19 @@ use Rattle.rate_matching.specs.Places.{placeNumber, placeOf}
 use Rattle.rate_matching.proofs.mapping.lies_on_circle.Statement.{statement}
 use Rattle.rate_matching.proofs.mapping.lies_on_circle.Tie as tie
 
+-- the ways back
+abbrev at-start : tie.After-rows-of → tie.Start
+at-start c = c .before
+
+abbrev at-rows-of-from-add-p : tie.After-struct-known → tie.After-rows-of
+at-rows-of-from-add-p c = c .before
+
+abbrev at-rows-of : tie.Else1 → tie.After-rows-of
+at-rows-of c = at-rows-of-from-add-p (c .before)
+
+abbrev at-rows-of-from-then1 : tie.Then1 → tie.After-rows-of
+at-rows-of-from-then1 c = at-rows-of-from-add-p (c .before)
+
 rows-of-requires : tie.Need-rows-of-requires
 rows-of-requires c κs = search needs
 
@@ -25,15 +38,15 @@ add-p c = omega arith
 
 plain-place-requires : tie.Need-plain-place-requires
 unfolding rows
-plain-place-requires c κs = (c .before .before .before .pre .0, omega arith, omega arith)
+plain-place-requires c κs = (at-start (at-rows-of-from-then1 c) .pre .0, omega arith, omega arith)
 
 returns : tie.Need-returns
 unfolding placeOf placeNumber dummies
-returns c = simp (c .plain-place .ensures .0, ← c .before .before .before .rows-of .ensures, eq-eqb _ _ (c .before .if1 .taken))
+returns c = simp (c .plain-place .ensures .0, ← at-rows-of-from-then1 (c .before) .rows-of .ensures, eq-eqb _ _ (c .before .if1 .taken))
 
 plain-place-requires-2 : tie.Need-plain-place-requires-2
 unfolding rows
-plain-place-requires-2 c κs = (c .before .before .before .before .pre .0, omega arith, omega arith)
+plain-place-requires-2 c κs = (at-start (at-rows-of (c .before)) .pre .0, omega arith, omega arith)
 
 mul-t12 : tie.Need-mul-t12
 unfolding rows
@@ -45,11 +58,11 @@ add-t13 c = omega arith
 
 returns-2 : tie.Need-returns-2
 unfolding placeOf placeNumber dummies
-returns-2 c = simp (c .plain-place2 .ensures .0, ← c .before .before .before .before .rows-of .ensures, ne-eqb _ _ (c .before .before .if1 .left), eq-eqb _ _ (c .before .if2 .taken))
+returns-2 c = simp (c .plain-place2 .ensures .0, ← at-rows-of (c .before .before) .rows-of .ensures, ne-eqb _ _ (c .before .before .if1 .left), eq-eqb _ _ (c .before .if2 .taken))
 
 shifted-place-requires : tie.Need-shifted-place-requires
 unfolding rows
-shifted-place-requires c κs = (c .before .before .before .before .pre .0, omega arith, omega arith)
+shifted-place-requires c κs = (at-start (at-rows-of (c .before)) .pre .0, omega arith, omega arith)
 
 mul-t14 : tie.Need-mul-t14
 unfolding rows
@@ -65,7 +78,7 @@ add-t16 c = omega arith
 
 returns-3 : tie.Need-returns-3
 unfolding placeOf placeNumber dummies
-returns-3 c = simp (c .shifted-place .ensures .0, ← c .before .before .before .before .rows-of .ensures, ne-eqb _ _ (c .before .before .if1 .left), ne-eqb _ _ (c .before .if2 .left))
+returns-3 c = simp (c .shifted-place .ensures .0, ← at-rows-of (c .before .before) .rows-of .ensures, ne-eqb _ _ (c .before .before .if1 .left), ne-eqb _ _ (c .before .if2 .left))
 
 pub lies-on-circle-spec : {M : Type 1} → statement M
 lies-on-circle-spec =

@@ -13,17 +13,30 @@ use borrow.Author.Needs.{needs}
 use Rattle.rate_matching.proofs.mapping.pair_unit.Statement.{statement}
 use Rattle.rate_matching.proofs.mapping.pair_unit.Tie as tie
 
+-- the ways back
+abbrev at-start : tie.After-rows-of → tie.Start
+at-start c = c .before
+
+abbrev at-rows-of : tie.After-column-at → tie.After-rows-of
+at-rows-of c = c .before
+
+abbrev at-column-at : tie.After-rows-before → tie.After-column-at
+at-column-at c = c .before
+
+abbrev at-rows-before : tie.After-rows-before2 → tie.After-rows-before
+at-rows-before c = c .before
+
 -- the rows that were found, and the function's entry
 abbrev entry : tie.After-rows-before2 → tie.Start
-entry c = c .before .before .before .before
+entry c = at-start (at-rows-of (at-column-at (at-rows-before c)))
 
 found : (c : tie.After-rows-before2) → let e = entry c .args in
-    let R = c .before .before .before .rows-of .result in
-    Rowed (e .d) (e .filler) (c .before .before .column-at .result) R (32 * R - e .d) (c .before .rows-before .result) (c .rows-before2 .result)
+    let R = at-rows-of (at-column-at (at-rows-before c)) .rows-of .result in
+    Rowed (e .d) (e .filler) (at-column-at (at-rows-before c) .column-at .result) R (32 * R - e .d) (at-rows-before c .rows-before .result) (c .rows-before2 .result)
 found c =
     let s = entry c in
-    let low : c .before .before .column-at .result < 32 = rw (c .before .before .column-at .ensures) (column-rule (s .args .c) (s .pre .2) .0) in
-    rowed (s .pre .0) (s .pre .1) low (c .before .before .before .rows-of .ensures) refl (c .before .rows-before .ensures) (c .rows-before2 .ensures)
+    let low : at-column-at (at-rows-before c) .column-at .result < 32 = rw (at-column-at (at-rows-before c) .column-at .ensures) (column-rule (s .args .c) (s .pre .2) .0) in
+    rowed (s .pre .0) (s .pre .1) low (at-rows-of (at-column-at (at-rows-before c)) .rows-of .ensures) refl (at-rows-before c .rows-before .ensures) (c .rows-before2 .ensures)
 
 rows-of-requires : tie.Need-rows-of-requires
 rows-of-requires c κs = search needs
@@ -41,7 +54,7 @@ column-at-requires c κs = search needs
 
 add-rows-before : tie.Need-add-rows-before
 unfolding rows
-add-rows-before c = omega (arith, column-rule (c .before .before .args .c) (c .before .before .pre .2) .0)
+add-rows-before c = omega (arith, column-rule (at-start (at-rows-of c) .args .c) (at-start (at-rows-of c) .pre .2) .0)
 
 rows-before-requires : tie.Need-rows-before-requires
 rows-before-requires c κs = search needs
@@ -54,65 +67,65 @@ rows-before-requires-2 : tie.Need-rows-before-requires-2
 rows-before-requires-2 c κs = search needs
 
 mul-begin : tie.Need-mul-begin
-mul-begin c = let r = found c in omega (arith, r .few, r .high, r .alone, r .column, mul-le-mul-right (2 * c .before .before .before .rows-of .result) (entry c .pre .2))
+mul-begin c = let r = found c in omega (arith, r .few, r .high, r .alone, r .column, mul-le-mul-right (2 * at-rows-of (at-column-at (at-rows-before c)) .rows-of .result) (entry c .pre .2))
 
 mul-begin-2 : tie.Need-mul-begin-2
-mul-begin-2 c = let r = found c in omega (arith, r .few, r .high, r .alone, r .column, mul-le-mul-right (2 * c .before .before .before .rows-of .result) (entry c .pre .2))
+mul-begin-2 c = let r = found c in omega (arith, r .few, r .high, r .alone, r .column, mul-le-mul-right (2 * at-rows-of (at-column-at (at-rows-before c)) .rows-of .result) (entry c .pre .2))
 
 mul-begin-3 : tie.Need-mul-begin-3
-mul-begin-3 c = let r = found c in omega (arith, r .few, r .high, r .alone, r .column, mul-le-mul-right (2 * c .before .before .before .rows-of .result) (entry c .pre .2))
+mul-begin-3 c = let r = found c in omega (arith, r .few, r .high, r .alone, r .column, mul-le-mul-right (2 * at-rows-of (at-column-at (at-rows-before c)) .rows-of .result) (entry c .pre .2))
 
 add-begin : tie.Need-add-begin
-add-begin c = let r = found c in omega (arith, r .few, r .high, r .alone, r .column, mul-le-mul-right (2 * c .before .before .before .rows-of .result) (entry c .pre .2))
+add-begin c = let r = found c in omega (arith, r .few, r .high, r .alone, r .column, mul-le-mul-right (2 * at-rows-of (at-column-at (at-rows-before c)) .rows-of .result) (entry c .pre .2))
 
 mul-t10 : tie.Need-mul-t10
-mul-t10 c = let r = found c in omega (arith, r .few, r .high, r .alone, r .column, mul-le-mul-right (2 * c .before .before .before .rows-of .result) (entry c .pre .2))
+mul-t10 c = let r = found c in omega (arith, r .few, r .high, r .alone, r .column, mul-le-mul-right (2 * at-rows-of (at-column-at (at-rows-before c)) .rows-of .result) (entry c .pre .2))
 
 add-t12 : tie.Need-add-t12
-add-t12 c = let r = found c in omega (arith, r .few, r .high, r .alone, r .column, mul-le-mul-right (2 * c .before .before .before .rows-of .result) (entry c .pre .2))
+add-t12 c = let r = found c in omega (arith, r .few, r .high, r .alone, r .column, mul-le-mul-right (2 * at-rows-of (at-column-at (at-rows-before c)) .rows-of .result) (entry c .pre .2))
 
 add-t11 : tie.Need-add-t11
-add-t11 c = let r = found c in omega (arith, r .few, r .high, r .alone, r .column, mul-le-mul-right (2 * c .before .before .before .rows-of .result) (entry c .pre .2))
+add-t11 c = let r = found c in omega (arith, r .few, r .high, r .alone, r .column, mul-le-mul-right (2 * at-rows-of (at-column-at (at-rows-before c)) .rows-of .result) (entry c .pre .2))
 
 mul-t14 : tie.Need-mul-t14
-mul-t14 c = let r = found c in omega (arith, r .few, r .high, r .alone, r .column, mul-le-mul-right (2 * c .before .before .before .rows-of .result) (entry c .pre .2))
+mul-t14 c = let r = found c in omega (arith, r .few, r .high, r .alone, r .column, mul-le-mul-right (2 * at-rows-of (at-column-at (at-rows-before c)) .rows-of .result) (entry c .pre .2))
 
 add-t15 : tie.Need-add-t15
-add-t15 c = let r = found c in omega (arith, r .few, r .high, r .alone, r .column, mul-le-mul-right (2 * c .before .before .before .rows-of .result) (entry c .pre .2))
+add-t15 c = let r = found c in omega (arith, r .few, r .high, r .alone, r .column, mul-le-mul-right (2 * at-rows-of (at-column-at (at-rows-before c)) .rows-of .result) (entry c .pre .2))
 
 mul-t17 : tie.Need-mul-t17
-mul-t17 c = let r = found c in omega (arith, r .few, r .high, r .alone, r .column, mul-le-mul-right (2 * c .before .before .before .rows-of .result) (entry c .pre .2))
+mul-t17 c = let r = found c in omega (arith, r .few, r .high, r .alone, r .column, mul-le-mul-right (2 * at-rows-of (at-column-at (at-rows-before c)) .rows-of .result) (entry c .pre .2))
 
 sub-t19 : tie.Need-sub-t19
 sub-t19 c = let r = found c in omega (arith, r .last)
 
 add-t20 : tie.Need-add-t20
-add-t20 c = let r = found c in omega (arith, r .few, r .high, r .alone, r .column, mul-le-mul-right (2 * c .before .before .before .rows-of .result) (entry c .pre .2))
+add-t20 c = let r = found c in omega (arith, r .few, r .high, r .alone, r .column, mul-le-mul-right (2 * at-rows-of (at-column-at (at-rows-before c)) .rows-of .result) (entry c .pre .2))
 
 add-t22 : tie.Need-add-t22
-add-t22 c = let r = found c in omega (arith, r .few, r .high, r .alone, r .column, mul-le-mul-right (2 * c .before .before .before .rows-of .result) (entry c .pre .2))
+add-t22 c = let r = found c in omega (arith, r .few, r .high, r .alone, r .column, mul-le-mul-right (2 * at-rows-of (at-column-at (at-rows-before c)) .rows-of .result) (entry c .pre .2))
 
 mul-t23 : tie.Need-mul-t23
-mul-t23 c = let r = found c in omega (arith, r .few, r .high, r .alone, r .column, mul-le-mul-right (2 * c .before .before .before .rows-of .result) (entry c .pre .2))
+mul-t23 c = let r = found c in omega (arith, r .few, r .high, r .alone, r .column, mul-le-mul-right (2 * at-rows-of (at-column-at (at-rows-before c)) .rows-of .result) (entry c .pre .2))
 
 add-t24 : tie.Need-add-t24
-add-t24 c = let r = found c in omega (arith, r .few, r .high, r .alone, r .column, mul-le-mul-right (2 * c .before .before .before .rows-of .result) (entry c .pre .2))
+add-t24 c = let r = found c in omega (arith, r .few, r .high, r .alone, r .column, mul-le-mul-right (2 * at-rows-of (at-column-at (at-rows-before c)) .rows-of .result) (entry c .pre .2))
 
 sub-t25 : tie.Need-sub-t25
 sub-t25 c = found c .early
 
 mul-t27 : tie.Need-mul-t27
-mul-t27 c = let r = found c in omega (arith, r .few, r .high, r .alone, r .column, mul-le-mul-right (2 * c .before .before .before .rows-of .result) (entry c .pre .2))
+mul-t27 c = let r = found c in omega (arith, r .few, r .high, r .alone, r .column, mul-le-mul-right (2 * at-rows-of (at-column-at (at-rows-before c)) .rows-of .result) (entry c .pre .2))
 
 add-t28 : tie.Need-add-t28
-add-t28 c = let r = found c in omega (arith, r .few, r .high, r .alone, r .column, mul-le-mul-right (2 * c .before .before .before .rows-of .result) (entry c .pre .2))
+add-t28 c = let r = found c in omega (arith, r .few, r .high, r .alone, r .column, mul-le-mul-right (2 * at-rows-of (at-column-at (at-rows-before c)) .rows-of .result) (entry c .pre .2))
 
 sub-t29 : tie.Need-sub-t29
 sub-t29 c = found c .behind
 
 returns : tie.Need-returns
 unfolding pairUnit dummies second lastPlace
-returns c = simp (c .rows-before2 .ensures, c .before .rows-before .ensures, c .before .before .column-at .ensures, c .before .before .before .rows-of .ensures)
+returns c = simp (c .rows-before2 .ensures, at-rows-before c .rows-before .ensures, at-column-at (at-rows-before c) .column-at .ensures, at-rows-of (at-column-at (at-rows-before c)) .rows-of .ensures)
 
 pub pair-unit-spec : {M : Type 1} → statement M
 pair-unit-spec =

@@ -13,6 +13,10 @@ use Rattle.rate_matching.proofs.Places.{place-lt}
 use Rattle.rate_matching.proofs.mapping.plain_place.Statement.{statement}
 use Rattle.rate_matching.proofs.mapping.plain_place.Tie as tie
 
+-- the ways back
+abbrev at-start : tie.After-result → tie.Start
+at-start c = c .before
+
 -- the table's entry is the column's
 entry : (c : tie.Start) → getD (now (c .args .table)) (c .args .p % 32) 0 ≡ column (c .args .p % 32)
 entry c = table-at (c .args .p % 32) (c .pre .0)
@@ -21,21 +25,21 @@ element-copy-out-result : tie.Need-element-copy-out-result
 element-copy-out-result c = search needs
 
 cast-result : tie.Need-cast-result
-cast-result c = omega (arith, table-below (c .before .args .p % 32) (c .before .pre .0) (omega arith))
+cast-result c = omega (arith, table-below (at-start c .args .p % 32) (at-start c .pre .0) (omega arith))
 
 mul-result : tie.Need-mul-result
 unfolding plainPlace
-mul-result c = rw (entry (c .before)) (omega (arith, place-lt _ _ (c .before .pre .2)))
+mul-result c = rw (entry (at-start c)) (omega (arith, place-lt _ _ (at-start c .pre .2)))
 
 add-result : tie.Need-add-result
 unfolding plainPlace
-add-result c = rw (entry (c .before)) (omega (arith, place-lt _ _ (c .before .pre .2)))
+add-result c = rw (entry (at-start c)) (omega (arith, place-lt _ _ (at-start c .pre .2)))
 
 returns : tie.Need-returns
 unfolding plainPlace
 returns c =
-    let e = ap (λ (k : ℕ). k * c .before .args .rows + c .before .args .p / 32) (entry (c .before)) in
-    (e, rw e (place-lt _ _ (c .before .pre .2)))
+    let e = ap (λ (k : ℕ). k * at-start c .args .rows + at-start c .args .p / 32) (entry (at-start c)) in
+    (e, rw e (place-lt _ _ (at-start c .pre .2)))
 
 pub plain-place-spec : {M : Type 1} → statement M
 plain-place-spec =

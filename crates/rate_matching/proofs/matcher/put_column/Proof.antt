@@ -7,6 +7,10 @@ use borrow.Author.Needs.{needs}
 use Rattle.rate_matching.proofs.matcher.put_column.Statement.{statement}
 use Rattle.rate_matching.proofs.matcher.put_column.Tie as tie
 
+-- the ways back
+abbrev at-struct-known : tie.After-read-column-arg → tie.After-struct-known
+at-struct-known c = c .before
+
 -- where the unit is known: the function's entry
 abbrev entry : tie.After-struct-known → tie.Start
 entry c = c .before .before .before
@@ -28,13 +32,13 @@ unfolding bothCount
 part-read-column-end c = let s = entry c in omega (arith, s .pre .2)
 
 read-column-requires : tie.Need-read-column-requires
-read-column-requires c κs = let s = entry (c .before) in rw (column-lent (s .pre .0 .lies) _ _ (s .pre .2)) (s .pre .0 .column (s .pre .1))
+read-column-requires c κs = let s = entry (at-struct-known c) in rw (column-lent (s .pre .0 .lies) _ _ (s .pre .2)) (s .pre .0 .column (s .pre .1))
 
 same-length : tie.Need-same-length
 same-length c = search needs
 
 returns : tie.Need-returns
-returns c = let s = entry (c .before .before .before .before) in put-column (s .pre .0 .lies) _ _ (s .pre .2) _ _ (c .before .before .read-column .ensures)
+returns c = let s = entry (at-struct-known (c .before .before .before)) in put-column (s .pre .0 .lies) _ _ (s .pre .2) _ _ (c .before .before .read-column .ensures)
 
 pub put-column-spec : {M : Type 1} → statement M
 put-column-spec =

@@ -15,9 +15,25 @@ Inv-loop d0 filler from to ring₀ n most end₀ u₀ ring end u = (d1 d2 : List
 abbrev μ-loop : tie.MeasureT-loop
 μ-loop d0 filler from to ring₀ n most end₀ u₀ ring end u = to - u
 
+-- the ways back
+abbrev at-start : tie.After-slice-known Inv-loop μ-loop → tie.Start Inv-loop μ-loop
+at-start c = c .before .before
+
+abbrev at-turn : tie.After-column-unit Inv-loop μ-loop → tie.In-loop Inv-loop μ-loop
+at-turn c = c .before
+
+abbrev at-column-unit-from-put-column-arg : tie.After-put-column-arg Inv-loop μ-loop → tie.After-column-unit Inv-loop μ-loop
+at-column-unit-from-put-column-arg c = c .before
+
+abbrev at-column-unit : tie.After-put-column Inv-loop μ-loop → tie.After-column-unit Inv-loop μ-loop
+at-column-unit c = at-column-unit-from-put-column-arg (c .before)
+
+abbrev at-put-column : tie.After-slice-known2 Inv-loop μ-loop → tie.After-put-column Inv-loop μ-loop
+at-put-column c = c .before .before
+
 -- in the loop: the function's entry, and what the loop's test tells
 abbrev entry : tie.In-loop Inv-loop μ-loop → tie.Start Inv-loop μ-loop
-entry c = c .before .before .before .before
+entry c = at-start (c .before .before)
 
 goes : (c : tie.In-loop Inv-loop μ-loop) → (c .before .loop .u < entry c .args .to) × (c .before .loop .end < entry c .args .most)
 goes c = filling-goes (c .before .loop .inv [] []) _ (c .loop-test .taken)
@@ -26,32 +42,32 @@ below : (c : tie.In-loop Inv-loop μ-loop) → c .before .loop .u < 32
 below c = omega (arith, goes c .0, entry c .pre .3)
 
 loop-holds : tie.Need-loop-holds Inv-loop μ-loop
-loop-holds c = let s = c .before .before in λ d1 d2. filling-start (s .pre .2) (s .pre .4)
+loop-holds c = let s = at-start c in λ d1 d2. filling-start (s .pre .2) (s .pre .4)
 
 column-unit-requires : tie.Need-column-unit-requires Inv-loop μ-loop
 column-unit-requires c κs = (entry c .pre .0, entry c .pre .1, below c)
 
 put-column-requires : tie.Need-put-column-requires Inv-loop μ-loop
 put-column-requires c κs =
-    let l = c .before .before in
+    let l = at-turn (at-column-unit-from-put-column-arg c) in
     let e = entry l in
-    let unit = c .before .column-unit .ensures in
+    let unit = at-column-unit-from-put-column-arg c .column-unit .ensures in
     let found = column-within (e .pre .0) (e .pre .1) (below l) unit in
     let low : l .before .loop .u < 64 = omega (arith, below l) in
     (unit-reads _ (e .pre .0) (e .pre .1) found, column-stream _ _ _ unit, omega (arith, unit-few _ (e .pre .0) (e .pre .1) found low, filling-room (l .before .loop .inv [] []) (goes l .0) (goes l .1) (e .pre .5)))
 
 add-u : tie.Need-add-u Inv-loop μ-loop
-add-u c = omega (arith, below (c .before .before .before .before .before))
+add-u c = omega (arith, below (at-turn (at-column-unit (at-put-column c))))
 
 loop-less : tie.Need-loop-less Inv-loop μ-loop
-loop-less c = omega (arith, goes (c .before .before .before .before .before) .0)
+loop-less c = omega (arith, goes (at-turn (at-column-unit (at-put-column c))) .0)
 
 loop-again : tie.Need-loop-again Inv-loop μ-loop
 loop-again c =
-    let put = c .before .before in
-    let l = put .before .before .before in
+    let put = at-put-column c in
+    let l = at-turn (at-column-unit put) in
     let e = entry l in
-    let unit = put .before .before .column-unit .ensures in
+    let unit = at-column-unit put .column-unit .ensures in
     let low : l .before .loop .u < 64 = omega (arith, below l) in
     λ d1 d2. filling-next (l .before .loop .inv d1 d2) (goes l .0) (unit-long _ d1 d2 _ (e .pre .0) (e .pre .1) low) (filling-room (l .before .loop .inv d1 d2) (goes l .0) (goes l .1) (e .pre .5))
     (put .put-column .kept .1 .1 .0) (column-unit-put _ _ _ _ d1 d2 (column-within (e .pre .0) (e .pre .1) (below l) unit) (column-stream _ _ _ unit) (put .put-column .ensures))

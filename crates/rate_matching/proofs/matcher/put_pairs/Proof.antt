@@ -15,9 +15,25 @@ Inv-loop d1 d2 filler from to ring₀ n most end₀ u₀ ring end u = (d0 : List
 abbrev μ-loop : tie.MeasureT-loop
 μ-loop d1 d2 filler from to ring₀ n most end₀ u₀ ring end u = to - u
 
+-- the ways back
+abbrev at-start : tie.After-slice-known Inv-loop μ-loop → tie.Start Inv-loop μ-loop
+at-start c = c .before .before .before
+
+abbrev at-turn : tie.After-pair-unit Inv-loop μ-loop → tie.In-loop Inv-loop μ-loop
+at-turn c = c .before
+
+abbrev at-pair-unit-from-put-pair-arg : tie.After-put-pair-arg Inv-loop μ-loop → tie.After-pair-unit Inv-loop μ-loop
+at-pair-unit-from-put-pair-arg c = c .before
+
+abbrev at-pair-unit : tie.After-put-pair Inv-loop μ-loop → tie.After-pair-unit Inv-loop μ-loop
+at-pair-unit c = at-pair-unit-from-put-pair-arg (c .before)
+
+abbrev at-put-pair : tie.After-slice-known2 Inv-loop μ-loop → tie.After-put-pair Inv-loop μ-loop
+at-put-pair c = c .before .before
+
 -- in the loop: the function's entry, and what the loop's test tells
 abbrev entry : tie.In-loop Inv-loop μ-loop → tie.Start Inv-loop μ-loop
-entry c = c .before .before .before .before .before
+entry c = at-start (c .before .before)
 
 goes : (c : tie.In-loop Inv-loop μ-loop) → (c .before .loop .u < entry c .args .to) × (c .before .loop .end < entry c .args .most)
 goes c = filling-goes (c .before .loop .inv []) _ (c .loop-test .taken)
@@ -29,7 +45,7 @@ below : (c : tie.In-loop Inv-loop μ-loop) → c .before .loop .u < 64
 below c = omega (arith, goes c .0, entry c .pre .5)
 
 loop-holds : tie.Need-loop-holds Inv-loop μ-loop
-loop-holds c = let s = c .before .before .before in λ d0. filling-start (s .pre .4) (s .pre .6)
+loop-holds c = let s = at-start c in λ d0. filling-start (s .pre .4) (s .pre .6)
 
 sub-pair-unit : tie.Need-sub-pair-unit Inv-loop μ-loop
 sub-pair-unit c = high c
@@ -39,24 +55,24 @@ pair-unit-requires c κs = (entry c .pre .1, entry c .pre .2, omega (arith, high
 
 put-pair-requires : tie.Need-put-pair-requires Inv-loop μ-loop
 put-pair-requires c κs =
-    let l = c .before .before in
+    let l = at-turn (at-pair-unit-from-put-pair-arg c) in
     let e = entry l in
-    let unit = c .before .pair-unit .ensures in
+    let unit = at-pair-unit-from-put-pair-arg c .pair-unit .ensures in
     let found = pair-within (e .pre .1) (e .pre .2) (high l) (below l) unit in
     (e .pre .0, unit-reads _ (e .pre .1) (e .pre .2) found, pair-stream _ _ _ unit, omega (arith, unit-few _ (e .pre .1) (e .pre .2) found (below l), filling-room (l .before .loop .inv []) (goes l .0) (goes l .1) (e .pre .7)))
 
 add-u : tie.Need-add-u Inv-loop μ-loop
-add-u c = omega (arith, below (c .before .before .before .before .before))
+add-u c = omega (arith, below (at-turn (at-pair-unit (at-put-pair c))))
 
 loop-less : tie.Need-loop-less Inv-loop μ-loop
-loop-less c = omega (arith, goes (c .before .before .before .before .before) .0)
+loop-less c = omega (arith, goes (at-turn (at-pair-unit (at-put-pair c))) .0)
 
 loop-again : tie.Need-loop-again Inv-loop μ-loop
 loop-again c =
-    let put = c .before .before in
-    let l = put .before .before .before in
+    let put = at-put-pair c in
+    let l = at-turn (at-pair-unit put) in
     let e = entry l in
-    let unit = put .before .before .pair-unit .ensures in
+    let unit = at-pair-unit put .pair-unit .ensures in
     λ d0. filling-next (l .before .loop .inv d0) (goes l .0) (unit-long d0 _ _ _ (e .pre .1) (e .pre .2) (below l)) (filling-room (l .before .loop .inv d0) (goes l .0) (goes l .1) (e .pre .7))
     (put .put-pair .kept .1 .1 .1 .0) (pair-unit-put _ _ _ d0 _ _ (pair-within (e .pre .1) (e .pre .2) (high l) (below l) unit) (pair-stream _ _ _ unit) (put .put-pair .ensures))
 

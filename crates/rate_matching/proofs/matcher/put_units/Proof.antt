@@ -8,6 +8,19 @@ use borrow.Author.Needs.{needs}
 use Rattle.rate_matching.proofs.matcher.put_units.Statement.{statement}
 use Rattle.rate_matching.proofs.matcher.put_units.Tie as tie
 
+-- the ways back
+abbrev at-then2 : tie.After-put-pairs-arg → tie.Then2
+at-then2 c = c .before
+
+abbrev at-else2-from-put-columns-arg2 : tie.After-put-columns-arg2 → tie.Else2
+at-else2-from-put-columns-arg2 c = c .before
+
+abbrev at-else2 : tie.After-put-columns2 → tie.Else2
+at-else2 c = at-else2-from-put-columns-arg2 (c .before)
+
+abbrev at-put-columns2 : tie.After-put-pairs-arg2 → tie.After-put-columns2
+at-put-columns2 c = c .before .before .before
+
 -- from where all slices are known to the function's entry
 abbrev entry : tie.After-slice-known → tie.Start
 entry c = c .before .before .before .before
@@ -26,9 +39,9 @@ returns c =
 
 put-pairs-requires : tie.Need-put-pairs-requires
 put-pairs-requires c κs =
-    let s = entry (c .before .before .before) in
+    let s = entry (at-then2 c .before .before) in
     let f = s .pre .0 in
-    (f .second ∙ sym (f .first), rw (f .first) (f .most), rw (f .first) (f .filler), c .before .if2 .taken, s .pre .1, s .pre .2, s .pre .3, rw (f .first) (s .pre .4))
+    (f .second ∙ sym (f .first), rw (f .first) (f .most), rw (f .first) (f .filler), at-then2 c .if2 .taken, s .pre .1, s .pre .2, s .pre .3, rw (f .first) (s .pre .4))
 
 same-length-2 : tie.Need-same-length-2
 same-length-2 c = search needs
@@ -36,7 +49,7 @@ same-length-2 c = search needs
 returns-2 : tie.Need-returns-2
 returns-2 c =
     let p = c .before .before in
-    let s = entry (p .before .before .before .before) in
+    let s = entry (at-then2 (p .before) .before .before) in
     rw (sym (s .pre .0 .first)) (p .put-pairs .ensures (s .args .d0 .now))
 
 -- columns and then pairs: the units lie on both sides of unit 32
@@ -48,14 +61,14 @@ high c = omega (arith, c .before .if1 .left)
 
 put-columns-requires-2 : tie.Need-put-columns-requires-2
 put-columns-requires-2 c κs =
-    let e = c .before in
+    let e = at-else2-from-put-columns-arg2 c in
     let s = entry (e .before .before) in
     (s .pre .0 .most, s .pre .0 .filler, low e, omega arith, s .pre .3, columns-room (s .args .n) (low e) (high e) (s .pre .4))
 
 put-pairs-requires-2 : tie.Need-put-pairs-requires-2
 put-pairs-requires-2 c κs =
-    let q = c .before .before .before in
-    let e = q .before .before in
+    let q = at-put-columns2 c in
+    let e = at-else2 q in
     let s = entry (e .before .before) in
     let f = s .pre .0 in
     let put = q .put-columns2 .ensures (s .args .d1 .now) (s .args .d2 .now) in (
@@ -75,8 +88,8 @@ same-length-3 c = search needs
 returns-3 : tie.Need-returns-3
 returns-3 c =
     let p = c .before .before in
-    let q = p .before .before .before .before in
-    let e = q .before .before in
+    let q = at-put-columns2 (p .before) in
+    let e = at-else2 q in
     let s = entry (e .before .before) in
     columns-pairs _ (s .args .d0 .now) (s .args .d1 .now) (s .args .d2 .now) _ _ _ (low e) (high e) (q .put-columns2 .ensures (s .args .d1 .now) (s .args .d2 .now))
     (rw (sym (s .pre .0 .first)) (p .put-pairs2 .ensures (s .args .d0 .now)))

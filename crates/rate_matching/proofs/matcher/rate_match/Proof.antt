@@ -11,6 +11,10 @@ use borrow.Author.Needs.{needs}
 use Rattle.rate_matching.proofs.matcher.rate_match.Statement.{statement}
 use Rattle.rate_matching.proofs.matcher.rate_match.Tie as tie
 
+-- the ways back
+abbrev at-else2 : tie.After-ring-room → tie.Else2
+at-else2 c = c .before
+
 -- past the test
 abbrev entry : tie.Else2 → tie.Start
 entry c = c .before .before .before .before .before .before .before
@@ -32,7 +36,7 @@ ring-room-requires : tie.Need-ring-room-requires
 ring-room-requires c κs = (matchable-told (told c) .fits .most, search needs)
 
 match-short-requires : tie.Need-match-short-requires
-match-short-requires c κs = let roomed = c .before .before in (told (roomed .before), rw (← roomed .ring-room .ensures) (c .before .if3 .taken), omega arith)
+match-short-requires c κs = let roomed = c .before .before in (told (at-else2 roomed), rw (← roomed .ring-room .ensures) (c .before .if3 .taken), omega arith)
 
 same-length : tie.Need-same-length
 same-length c = search needs
@@ -41,7 +45,7 @@ returns-3 : tie.Need-returns-3
 returns-3 c = search needs
 
 match-middle-requires : tie.Need-match-middle-requires
-match-middle-requires c κs = let roomed = c .before .before .before in (told (roomed .before), rw (← roomed .ring-room .ensures) (c .before .if4 .taken), omega arith)
+match-middle-requires c κs = let roomed = c .before .before .before in (told (at-else2 roomed), rw (← roomed .ring-room .ensures) (c .before .if4 .taken), omega arith)
 
 same-length-2 : tie.Need-same-length-2
 same-length-2 c = search needs
@@ -50,7 +54,7 @@ returns-4 : tie.Need-returns-4
 returns-4 c = search needs
 
 match-long-requires : tie.Need-match-long-requires
-match-long-requires c κs = (told (c .before .before .before .before), omega arith)
+match-long-requires c κs = (told (at-else2 (c .before .before .before)), omega arith)
 
 same-length-3 : tie.Need-same-length-3
 same-length-3 c = search needs

@@ -16,6 +16,10 @@ Inv-loop d1 d2 from part₀ below₀ k₀ part below k = Pairing d1 d2 (from .1)
 abbrev μ-loop : tie.MeasureT-loop
 μ-loop d1 d2 from part₀ below₀ k₀ part below k = length part₀ - k
 
+-- the ways back
+abbrev at-loop : tie.After-shared-slice-known3 Inv-loop μ-loop → tie.At-loop Inv-loop μ-loop
+at-loop c = c .before .before .before .before
+
 loop-holds : tie.Need-loop-holds Inv-loop μ-loop
 loop-holds c = pairing-start
 
@@ -68,10 +72,10 @@ slice-write-part-3 : tie.Need-slice-write-part-3 Inv-loop μ-loop
 slice-write-part-3 c = omega arith
 
 same-length : tie.Need-same-length Inv-loop μ-loop
-same-length c = let l = c .before .before .before .before .loop in length-set (l .part) (l .k) _ ∙ l .inv .wrote .long
+same-length c = let l = at-loop c .loop in length-set (l .part) (l .k) _ ∙ l .inv .wrote .long
 
 returns : tie.Need-returns Inv-loop μ-loop
-returns c = let l = c .before .before .before .before .loop in finish-all (simp length-set (omega arith)) (rest-none _ _ _ (omega (arith, l .inv .wrote .long))) (pair-one (l .inv) (omega arith))
+returns c = let l = at-loop c .loop in finish-all (simp length-set (omega arith)) (rest-none _ _ _ (omega (arith, l .inv .wrote .long))) (pair-one (l .inv) (omega arith))
 
 same-length-2 : tie.Need-same-length-2 Inv-loop μ-loop
 same-length-2 c = c .before .before .loop .inv .wrote .long

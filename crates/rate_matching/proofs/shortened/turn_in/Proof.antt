@@ -11,21 +11,31 @@ use borrow.Author.Needs.{needs}
 use Rattle.rate_matching.proofs.shortened.turn_in.Statement.{statement}
 use Rattle.rate_matching.proofs.shortened.turn_in.Tie as tie
 
+-- the ways back
+abbrev at-start : tie.After-rows-of → tie.Start
+at-start c = c .before
+
+abbrev at-rows-of : tie.After-start-unit → tie.After-rows-of
+at-rows-of c = c .before
+
+abbrev at-start-unit : tie.After-unit-at → tie.After-start-unit
+at-start-unit c = c .before
+
 -- what the test tells, of the rows too
 told : (c : tie.Start) → let e = c .args in Matchable (e .d) (e .d) (e .d) (e .filler) (e .ncb) (e .version)
 told c = matchable-told (c .pre)
 
-few : (c : tie.After-start-unit) → c .before .rows-of .result ≤ 193
-few c = rw (c .before .rows-of .ensures) (rows-few (told (c .before .before)))
+few : (c : tie.After-start-unit) → at-rows-of c .rows-of .result ≤ 193
+few c = rw (at-rows-of c .rows-of .ensures) (rows-few (told (at-start (at-rows-of c))))
 
 least : (c : tie.After-start-unit) → (1 ≤ c .before .rows-of .result) × (32 * c .before .rows-of .result ≤ c .before .before .args .ncb)
-least c = let m = told (c .before .before) in rw (c .before .rows-of .ensures) (m .cut .some, m .cut .least)
+least c = let m = told (at-start (at-rows-of c)) in rw (at-rows-of c .rows-of .ensures) (m .cut .some, m .cut .least)
 
 rows-of-requires : tie.Need-rows-of-requires
 rows-of-requires c κs = told c .fits .most
 
 start-unit-requires : tie.Need-start-unit-requires
-start-unit-requires c κs = let m = told (c .before) in rw (c .rows-of .ensures) (m .cut, rows-few m, m .version)
+start-unit-requires c κs = let m = told (at-start c) in rw (c .rows-of .ensures) (m .cut, rows-few m, m .version)
 
 mul-whole : tie.Need-mul-whole
 mul-whole c = omega (arith, few c)
@@ -41,17 +51,17 @@ div-whole c = omega (arith, least c, few c)
 
 add-whole : tie.Need-add-whole
 unfolding wholeUnits
-add-whole c = let m = told (c .before .before) in rw (c .before .rows-of .ensures) (omega (arith, whole-most (m .cut)))
+add-whole c = let m = told (at-start (at-rows-of c)) in rw (at-rows-of c .rows-of .ensures) (omega (arith, whole-most (m .cut)))
 
 unit-at-requires : tie.Need-unit-at-requires
 unit-at-requires c κs = search needs
 
 bits-before-requires : tie.Need-bits-before-requires
-bits-before-requires c κs = let m = told (c .before .before .before) in unit-reads _ (m .fits .most) (m .fits .filler) (c .unit-at .ensures) .lies
+bits-before-requires c κs = let m = told (at-start (at-rows-of (at-start-unit c))) in unit-reads _ (m .fits .most) (m .fits .filler) (c .unit-at .ensures) .lies
 
 returns : tie.Need-returns
 unfolding unitsOf wholeUnits
-returns c = simp (c .bits-before .ensures, c .before .unit-at .ensures, c .before .before .start-unit .ensures, c .before .before .before .rows-of .ensures)
+returns c = simp (c .bits-before .ensures, c .before .unit-at .ensures, at-start-unit (c .before) .start-unit .ensures, at-rows-of (at-start-unit (c .before)) .rows-of .ensures)
 
 pub turn-in-spec : {M : Type 1} → statement M
 turn-in-spec =
