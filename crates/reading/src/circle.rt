@@ -1,7 +1,7 @@
 // What the circle of one code block keeps: the bytes of a stream, and how many of them lack a bit.
 use rate_matching::CirclePlace;
+use rate_matching::column_unit_at;
 use rate_matching::first_places;
-use rate_matching::unit_at;
 ghost use mathlib.Core.Path.{_≡_};
 ghost use mathlib.Core.Bool.{cond};
 ghost use mathlib.Core.List.{_++_};
@@ -120,8 +120,8 @@ pub(crate) fn lacking_on(circle: &[u8], k: usize, f: usize) -> usize
     let mut n = 0;
     let mut c = 0;
     while c < 32 {
-        let data = unit_at(d, f, c);
-        let tail = unit_at(d, k, c);
+        let data = column_unit_at(d, f, c);
+        let tail = column_unit_at(d, k, c);
         n += count_places(circle, data.both, tail.both);
         c += 1;
     }

@@ -6,6 +6,7 @@ use native.Mathlib.Omega.{arith}
 use lib.ListN.{length}
 use Rattle.rate_matching.specs.Columns.{column}
 use Rattle.rate_matching.specs.SubBlocks.{rows, dummies, rowsBefore}
+use Rattle.rate_matching.proofs.UnitPlaces as units
 use Rattle.rate_matching.proofs.UnitPlaces.{column-begins}
 use Rattle.reading.proofs.Sums.{Summing, start, next, finish}
 use Rattle.reading.proofs.Lacking.{inPart, parts-sum, column-there, column-few, column-is}
@@ -19,21 +20,21 @@ abbrev μ-loop : tie.MeasureT-loop
 μ-loop circle k f d n₀ c₀ n c = 32 - c
 
 -- with both units: the function's entry, where the column's data places lie, and what is counted of them
-abbrev entry : tie.After-unit-at2 Inv-loop μ-loop → tie.Start Inv-loop μ-loop
+abbrev entry : tie.After-column-unit-at2 Inv-loop μ-loop → tie.Start Inv-loop μ-loop
 entry c = c .before .before .before .before .before
 
-low : (c : tie.After-unit-at2 Inv-loop μ-loop) → c .before .before .before .loop .c < 32
+low : (c : tie.After-column-unit-at2 Inv-loop μ-loop) → c .before .before .before .loop .c < 32
 low c = omega (arith, c .before .before .loop-test .taken)
 
-begins : (c : tie.After-unit-at2 Inv-loop μ-loop) → let k = entry c .args .k in let u = c .before .before .before .loop .c in
-    c .before .unit-at .result .both .0 ≡ u * rows (k + 4) + rowsBefore (dummies (k + 4) + entry c .args .f) (column u)
-begins c = let s = entry c in column-begins _ (s .pre .1 .sized .most) (omega (arith, s .pre .0)) (c .before .unit-at .ensures) (low c)
+begins : (c : tie.After-column-unit-at2 Inv-loop μ-loop) → let k = entry c .args .k in let u = c .before .before .before .loop .c in
+    c .before .column-unit-at .result .both .0 ≡ u * rows (k + 4) + rowsBefore (dummies (k + 4) + entry c .args .f) (column u)
+begins c = let s = entry c in column-begins _ (s .pre .1 .sized .most) (omega (arith, s .pre .0)) (c .before .column-unit-at .ensures ∙ units.column-is _ _ (low c)) (low c)
 
-ends : (c : tie.After-unit-at2 Inv-loop μ-loop) → let k = entry c .args .k in let u = c .before .before .before .loop .c in
-    c .unit-at2 .result .both .0 ≡ u * rows (k + 4) + rowsBefore (dummies (k + 4) + k) (column u)
-ends c = let s = entry c in column-begins _ (s .pre .1 .sized .most) (omega arith) (c .unit-at2 .ensures) (low c)
+ends : (c : tie.After-column-unit-at2 Inv-loop μ-loop) → let k = entry c .args .k in let u = c .before .before .before .loop .c in
+    c .column-unit-at2 .result .both .0 ≡ u * rows (k + 4) + rowsBefore (dummies (k + 4) + k) (column u)
+ends c = let s = entry c in column-begins _ (s .pre .1 .sized .most) (omega arith) (c .column-unit-at2 .ensures ∙ units.column-is _ _ (low c)) (low c)
 
-there : (c : tie.After-unit-at2 Inv-loop μ-loop) → let from = c .before .unit-at .result .both .0 in let to = c .unit-at2 .result .both .0 in
+there : (c : tie.After-column-unit-at2 Inv-loop μ-loop) → let from = c .before .column-unit-at .result .both .0 in let to = c .column-unit-at2 .result .both .0 in
     (from ≤ to) × (to ≤ length (entry c .args .circle .now)) × (to ≤ from + 193)
 there c = let s = entry c in column-there (s .args .circle .now) (s .pre .0) (s .pre .1) (low c) (begins c) (ends c)
 
@@ -50,11 +51,11 @@ add-d c = omega (arith, c .before .pre .1 .sized .most)
 loop-holds : tie.Need-loop-holds Inv-loop μ-loop
 loop-holds c = start
 
-unit-at-requires : tie.Need-unit-at-requires Inv-loop μ-loop
-unit-at-requires c κs = tt
+column-unit-at-requires : tie.Need-column-unit-at-requires Inv-loop μ-loop
+column-unit-at-requires c κs = tt
 
-unit-at-requires-2 : tie.Need-unit-at-requires-2 Inv-loop μ-loop
-unit-at-requires-2 c κs = tt
+column-unit-at-requires-2 : tie.Need-column-unit-at-requires-2 Inv-loop μ-loop
+column-unit-at-requires-2 c κs = tt
 
 count-places-requires : tie.Need-count-places-requires Inv-loop μ-loop
 count-places-requires c κs = let t = there c in (t .0, t .1, omega (arith, t .2))
@@ -82,8 +83,8 @@ lacking-on-spec =
     μ-loop
     add-d
     loop-holds
-    unit-at-requires
-    unit-at-requires-2
+    column-unit-at-requires
+    column-unit-at-requires-2
     count-places-requires
     add-n
     add-c
