@@ -15,13 +15,14 @@ use Rattle.rate_matching.specs.SubBlocks.{rows}
 use Rattle.rate_matching.specs.Circle.{circleLength, cutAt, startIn}
 use Rattle.rate_matching.specs.Walk.{holdsBit, itself, round, turn}
 use Rattle.rate_matching.specs.Shape.{shape, bitPlaces}
-use Rattle.rate_matching.specs.Units.{unitWithin, alonePlace, aloneCount, bothCount, unitPlaces, unitStart, startUnit, wholeUnits, Lies}
+use Rattle.rate_matching.specs.Places.{longest}
+use Rattle.rate_matching.specs.Units.{columnUnit, unitWithin, columnWithin, alonePlace, aloneCount, bothCount, unitPlaces, unitStart, startUnit, wholeUnits, Lies}
 use Rattle.rate_matching.specs.Turns.{unitsOf, turnOf}
 use Rattle.rate_matching.proofs.Circle.{start-below}
 use Rattle.rate_matching.proofs.ShapeTurn.{bitPlaces-none, length-shape}
 use Rattle.rate_matching.proofs.ShapeColumns.{bitPlaces-split}
 use Rattle.rate_matching.proofs.Units.{low-start, starts-rise}
-use Rattle.rate_matching.proofs.UnitPlaces.{unit-reads, unit-ends, unit-named}
+use Rattle.rate_matching.proofs.UnitPlaces.{unit-there, unit-low, column-is, unit-reads, unit-ends, unit-named}
 use Rattle.rate_matching.proofs.Cut.{cut-place, whole-most, start-head, start-whole, restBits, no-rest, none-cut, turn-cut, length-cut, turn-some}
 use Rattle.rate_matching.proofs.MatcherBlock.{Matchable, matchable-is}
 use Rattle.rate_matching.proofs.Turns.{turn-told, rest-taken}
@@ -127,6 +128,27 @@ module _ {D F from to : ℕ} {bits : List ℕ} {at : ℕ} {part₀ : List ℕ} (
     where
       all : u ≡ to
       all = omega (arith, w .passed)
+
+-- a column has no place of stream 2 alone
+pub column-put : {D F u : ℕ} {U : Unit} {bits part part′ : List ℕ} {i r : ℕ} → D ≤ longest → F < D → u < 32 → U ≡ columnWithin D F u
+    → Put (tabFrom (U .both .0) (U .end .0 - U .both .0) itself) bits i part part′ r → Put (unitPlaces U) bits i part part′ r
+unfolding unitPlaces aloneCount bothCount columnUnit tab tabFrom
+column-put {D} {F} {u} {U} most few low is p = put-as (ap (λ (n : ℕ). tab n (alonePlace U) ++ tabFrom (U .both .0) (U .end .0 - U .both .0) itself) none) p
+  where
+    same : U .alone .0 ≡ U .both .0
+    same = rw (is ∙ column-is D F low ∙ unit-there most few (omega arith) ∙ unit-low D F low)
+
+    none : 0 ≡ (U .both .0 + 1 - U .alone .0) / 2
+    none = omega (arith, same)
+
+-- columns, and then pairs
+pub columns-pairs : (D F from to : ℕ) {bits part₀ part₁ part₂ : List ℕ} {at i r : ℕ} → from ≤ 32 → 32 ≤ to → at ≤ length bits
+    → Put (bitPlaces (shape D F) (unitStart (rows D) from) (unitStart (rows D) 32)) bits at part₀ part₁ i
+    → Put (bitPlaces (shape D F) (unitStart (rows D) 32) (unitStart (rows D) to)) bits i part₁ part₂ r
+    → Put (bitPlaces (shape D F) (unitStart (rows D) from) (unitStart (rows D) to)) bits at part₀ part₂ r
+columns-pairs D F from to low high l p q =
+    put-as (sym (bitPlaces-split (shape D F) (unitStart (rows D) from) (unitStart (rows D) to) (unitStart (rows D) 32) (starts-rise (rows D) from 32 low) (starts-rise (rows D) 32 to high)))
+    (put-append l p q)
 
 -- ---- once round: from a version's start to the cut, and from the begin to the start
 

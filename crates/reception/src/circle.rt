@@ -1,6 +1,8 @@
 // The bits of a code block put along its circle, unit by unit: most places of a unit that hold a bit lie side by side.
 use rate_matching::CirclePlace;
 use rate_matching::Unit;
+use rate_matching::column_unit_at;
+use rate_matching::pair_unit_at;
 use rate_matching::unit_at;
 ghost use mathlib.Core.Path.{_≡_};
 ghost use mathlib.Core.Bool.{cond};
@@ -120,6 +122,54 @@ fn put_unit(unit: Unit, bits: &[u8], at: usize, part: &mut [u8]) -> usize
     put_places(bits, i, unit.both, unit.end, part)
 }
 
+// Puts bits in the columns of stream 0 from unit `from` to unit `to`. Columns and pairs have loops of their own: in each the compiler knows the kind of
+// unit, and works out once what all of them share.
+fn put_columns(
+    d: usize,
+    filler: usize,
+    from: usize,
+    to: usize,
+    bits: &[u8],
+    at: usize,
+    part: &mut [u8],
+) -> usize
+    requires { ⌜ Walked d filler (length (now part)) × (from ≤ to) × (to ≤ 32) × (at ≤ length (now bits)) ⌝ }
+    ensures { λ r. ⌜ Put (bitPlaces (shape d filler) (unitStart (rows d) from) (unitStart (rows d) to))
+        (now (bits .entry)) at (now (part .entry)) (now (part .exit)) r ⌝ }
+{
+    let mut i = at;
+    let mut u = from;
+    while u < to {
+        let unit = column_unit_at(d, filler, u);
+        i = put_places(bits, i, unit.both, unit.end, part);
+        u += 1;
+    }
+    i
+}
+
+// The same in the columns of streams 1 and 2, which are the units from 32 on.
+fn put_pairs(
+    d: usize,
+    filler: usize,
+    from: usize,
+    to: usize,
+    bits: &[u8],
+    at: usize,
+    part: &mut [u8],
+) -> usize
+    requires { ⌜ Walked d filler (length (now part)) × (32 ≤ from) × (from ≤ to) × (to ≤ 64) × (at ≤ length (now bits)) ⌝ }
+    ensures { λ r. ⌜ Put (bitPlaces (shape d filler) (unitStart (rows d) from) (unitStart (rows d) to))
+        (now (bits .entry)) at (now (part .entry)) (now (part .exit)) r ⌝ }
+{
+    let mut i = at;
+    let mut u = from;
+    while u < to {
+        i = put_unit(pair_unit_at(d, filler, u - 32), bits, i, part);
+        u += 1;
+    }
+    i
+}
+
 // Puts bits in the units from unit `from` to unit `to`.
 fn put_units(
     d: usize,
@@ -134,13 +184,14 @@ fn put_units(
     ensures { λ r. ⌜ Put (bitPlaces (shape d filler) (unitStart (rows d) from) (unitStart (rows d) to))
         (now (bits .entry)) at (now (part .entry)) (now (part .exit)) r ⌝ }
 {
-    let mut i = at;
-    let mut u = from;
-    while u < to {
-        i = put_unit(unit_at(d, filler, u), bits, i, part);
-        u += 1;
+    if to <= 32 {
+        return put_columns(d, filler, from, to, bits, at, part);
     }
-    i
+    if 32 <= from {
+        return put_pairs(d, filler, from, to, bits, at, part);
+    }
+    let mid = put_columns(d, filler, from, 32, bits, at, part);
+    put_pairs(d, filler, 32, to, bits, mid, part)
 }
 
 // Puts bits at the first `rest` places that hold one of a unit that the cut shortens.

@@ -1,63 +1,75 @@
--- `circle::put_units` meets its contract: one unit a turn (`Walking`).
+-- `circle::put_units` meets its contract: columns, pairs, or columns and then pairs (`Walking`).
 -- Assumes nothing.
-use Prim.Native.Nat.{_-_}
+use Prim.Native.Nat.{_≤_}
 use native.Mathlib.Omega.{arith}
 use Rattle.reception.proofs.Along.{put-long, put-within}
-use Rattle.reception.proofs.Walking.{walked-still, Units, units-start, unit-within, units-next, units-finish}
+use Rattle.reception.proofs.Walking.{walked-still, columns-pairs}
+use borrow.Author.Needs.{needs}
 use Rattle.reception.proofs.circle.put_units.Statement.{statement}
 use Rattle.reception.proofs.circle.put_units.Tie as tie
 
-abbrev Inv-loop : tie.InvT-loop
-Inv-loop d filler from to bits at part₀ i₀ u₀ part i u = Units d filler from to bits at part₀ part i u
+-- from where both slices are known to the function's entry
+abbrev entry : tie.After-slice-known → tie.Start
+entry c = c .before .before
 
-abbrev μ-loop : tie.MeasureT-loop
-μ-loop d filler from to bits at part₀ i₀ u₀ part i u = to - u
+put-columns-requires : tie.Need-put-columns-requires
+put-columns-requires c κs = let s = entry (c .before .before) in (s .pre .0, s .pre .1, c .before .if1 .taken, s .pre .3)
 
--- in the loop: the function's entry
-abbrev entry : tie.In-loop Inv-loop μ-loop → tie.Start Inv-loop μ-loop
-entry c = c .before .before .before .before
+same-length : tie.Need-same-length
+same-length c = search needs
 
-loop-holds : tie.Need-loop-holds Inv-loop μ-loop
-loop-holds c = units-start (c .before .before .pre)
+returns : tie.Need-returns
+returns c = c .before .before .put-columns .ensures
 
-unit-at-requires : tie.Need-unit-at-requires Inv-loop μ-loop
-unit-at-requires c κs = tt
+put-pairs-requires : tie.Need-put-pairs-requires
+put-pairs-requires c κs = let s = entry (c .before .before .before) in (s .pre .0, c .before .if2 .taken, s .pre .1, s .pre .2, s .pre .3)
 
-put-unit-requires : tie.Need-put-unit-requires Inv-loop μ-loop
-put-unit-requires c κs =
-    let l = c .before .before in
-    let w = unit-within (walked-still (entry l .pre .0) (put-long (l .before .loop .inv .put))) _ (c .before .unit-at .ensures) in
-    (w .0, w .1, put-within (l .before .loop .inv .put))
+same-length-2 : tie.Need-same-length-2
+same-length-2 c = search needs
 
-add-u : tie.Need-add-u Inv-loop μ-loop
-add-u c = omega (arith, entry (c .before .before .before .before .before) .pre .2)
+returns-2 : tie.Need-returns-2
+returns-2 c = c .before .before .put-pairs .ensures
 
-loop-less : tie.Need-loop-less Inv-loop μ-loop
-loop-less c = omega arith
+-- columns and then pairs: the units lie on both sides of unit 32
+low : (c : tie.Else2) → entry (c .before .before) .args .from ≤ 32
+low c = omega (arith, c .if2 .left)
 
-loop-again : tie.Need-loop-again Inv-loop μ-loop
-loop-again c =
+high : (c : tie.Else2) → 32 ≤ entry (c .before .before) .args .to
+high c = omega (arith, c .before .if1 .left)
+
+put-columns-requires-2 : tie.Need-put-columns-requires-2
+put-columns-requires-2 c κs = let e = c .before in let s = entry (e .before .before) in (s .pre .0, low e, omega arith, s .pre .3)
+
+put-pairs-requires-2 : tie.Need-put-pairs-requires-2
+put-pairs-requires-2 c κs =
+    let q = c .before .before .before in
+    let e = q .before .before in
+    let s = entry (e .before .before) in
+    let put = q .put-columns2 .ensures in
+    (walked-still (s .pre .0) (put-long put), omega arith, high e, s .pre .2, put-within put)
+
+same-length-3 : tie.Need-same-length-3
+same-length-3 c = search needs
+
+returns-3 : tie.Need-returns-3
+returns-3 c =
     let p = c .before .before in
-    let f = p .before .before in
-    units-next (entry (f .before) .pre) (omega arith) (f .before .before .loop .inv) (f .unit-at .ensures) (p .put-unit .ensures)
-
-same-length : tie.Need-same-length Inv-loop μ-loop
-same-length c = put-long (c .before .loop .inv .put)
-
-returns : tie.Need-returns Inv-loop μ-loop
-returns c = units-finish (c .before .before .before .before .pre) (omega arith) (c .before .loop .inv)
+    let q = p .before .before .before .before in
+    let e = q .before .before in
+    let s = entry (e .before .before) in
+    columns-pairs _ _ _ _ (low e) (high e) (s .pre .3) (q .put-columns2 .ensures) (p .put-pairs2 .ensures)
 
 pub put-units-spec : {M : Type 1} → statement M
 put-units-spec =
     tie.close
     (tie.spec
-    Inv-loop
-    μ-loop
-    loop-holds
-    unit-at-requires
-    put-unit-requires
-    add-u
-    loop-less
-    loop-again
+    put-columns-requires
     same-length
-    returns)
+    returns
+    put-pairs-requires
+    same-length-2
+    returns-2
+    put-columns-requires-2
+    put-pairs-requires-2
+    same-length-3
+    returns-3)
