@@ -16,15 +16,25 @@ use Rattle.codeword.proofs.SoftShares.{number-found, share-accepted, ac
 use Rattle.codeword.proofs.call.build_down.Statement.{statement}
 use Rattle.codeword.proofs.call.build_down.Tie as tie
 
+-- the ways back
+abbrev at-segments-for : tie.After-share-for → tie.After-segments-for
+at-segments-for c = c .before
+
+abbrev at-share-for : tie.After-down-number → tie.After-share-for
+at-share-for c = c .before
+
+abbrev at-else1 : tie.After-write-codeword-arg → tie.Else1
+at-else1 c = c .before
+
 -- the number that was found is the definition's
 abbrev entry : tie.After-down-number → tie.Start
-entry c = c .before .before .before .before .before
+entry c = at-segments-for (at-share-for c) .before .before .before
 
 found : (c : tie.After-down-number)
     → c .down-number .result
     ≡ buildDownNumber (now (entry c .args .block)) (entry c .args .release) (entry c .args .mimo) (entry c .args .processes) (entry c .args .soft) (entry c .args .layers)
     (entry c .args .grant) (length (now (entry c .args .out)))
-found c = c .down-number .ensures ∙ number-found _ _ _ _ _ _ _ (c .before .before .segments-for .ensures) (c .before .share-for .ensures) _
+found c = c .down-number .ensures ∙ number-found _ _ _ _ _ _ _ (at-segments-for (at-share-for c) .segments-for .ensures) (at-share-for c .share-for .ensures) _
 
 -- and 0 past the test
 none : (c : tie.Else1)
@@ -55,21 +65,21 @@ slice-aggregate-write-codeword : tie.Need-slice-aggregate-write-codeword
 slice-aggregate-write-codeword c = search needs
 
 slice-relend-prefix-write-codeword : tie.Need-slice-relend-prefix-write-codeword
-slice-relend-prefix-write-codeword c = fits (c .before)
+slice-relend-prefix-write-codeword c = fits (at-else1 c)
 
 slice-aggregate-write-codeword-2 : tie.Need-slice-aggregate-write-codeword-2
-slice-aggregate-write-codeword-2 c = front-count _ _ (fits (c .before .before))
+slice-aggregate-write-codeword-2 c = front-count _ _ (fits (at-else1 (c .before)))
 
 write-codeword-requires : tie.Need-write-codeword-requires
 write-codeword-requires c κs =
-    let test = c .before .before in
+    let test = at-else1 (c .before) in
     let s = entry (test .before) in
-    let share = share-accepted _ _ _ _ _ _ _ (test .before .before .before .segments-for .ensures) (test .before .before .share-for .ensures) _ (none test) in (
+    let share = share-accepted _ _ _ _ _ _ _ (at-segments-for (at-share-for (test .before)) .segments-for .ensures) (at-share-for (test .before) .share-for .ensures) _ (none test) in (
       record {
         accepted = accepted-as share (append-nil (now (s .args .block))) (accepted-down _ _ _ _ _ _ _ _ (none test) .0);
         whole = length-take-le _ _ (fits test);
       },
-      rw (append-nil (now (s .args .block))) (test .before .before .before .segments-for .ensures),
+      rw (append-nil (now (s .args .block))) (at-segments-for (at-share-for (test .before)) .segments-for .ensures),
     )
 
 same-length : tie.Need-same-length
@@ -77,12 +87,13 @@ same-length c = search needs
 
 returns-2 : tie.Need-returns-2
 returns-2 c =
-    let test = c .before .before .before .before .before in
+    let write-codeword = c .before .before in
+    let test = at-else1 (write-codeword .before .before) in
     let s = entry (test .before) in
-    let share = share-accepted _ _ _ _ _ _ _ (test .before .before .before .segments-for .ensures) (test .before .before .share-for .ensures) _ (none test) in (
+    let share = share-accepted _ _ _ _ _ _ _ (at-segments-for (at-share-for (test .before)) .segments-for .ensures) (at-share-for (test .before) .share-for .ensures) _ (none test) in (
       sym (none test),
       built-down _ _ _ _ _ _ _ _ (none test)
-          (c .before .before .write-codeword .ensures
+          (write-codeword .write-codeword .ensures
           ∙ ap₂ (λ (soft : ℕ) (l : List ℕ). codewordIn soft l (s .args .grant)) share (append-nil (now (s .args .block)))),
     )
 

@@ -14,19 +14,29 @@ use Rattle.codeword.proofs.Numbers.{accepted, refused-output, built-out
 use Rattle.codeword.proofs.call.build_two.Statement.{statement}
 use Rattle.codeword.proofs.call.build_two.Tie as tie
 
+-- the ways back
+abbrev at-start : tie.After-segments-for-both → tie.Start
+at-start c = c .before .before .before .before
+
+abbrev at-segments-for-both : tie.After-build-number → tie.After-segments-for-both
+at-segments-for-both c = c .before
+
+abbrev at-else1 : tie.After-write-codeword-arg → tie.Else1
+at-else1 c = c .before
+
 -- the number is 0 past the test
-none : (c : tie.Else1) → let a = c .before .before .before .before .before .before .args in
+none : (c : tie.Else1) → let a = at-start (at-segments-for-both (c .before)) .args in
     buildNumber (now (a .header) ++ now (a .payload)) (a .grant) (length (now (a .out))) ≡ 0
 none c = sym (c .before .build-number .ensures) ∙ c .if1 .left
 
-fits : (c : tie.Else1) → let a = c .before .before .before .before .before .before .args in a .grant .bits ≤ length (now (a .out))
+fits : (c : tie.Else1) → let a = at-start (at-segments-for-both (c .before)) .args in a .grant .bits ≤ length (now (a .out))
 fits c = accepted _ _ _ (none c) .1
 
 segments-for-both-requires : tie.Need-segments-for-both-requires
 segments-for-both-requires c κs = search needs
 
 build-number-requires : tie.Need-build-number-requires
-build-number-requires c κs = let a = c .before .before .before .before .args in of-joined (now (a .header)) (now (a .payload)) (c .segments-for-both .ensures)
+build-number-requires c κs = let a = at-start c .args in of-joined (now (a .header)) (now (a .payload)) (c .segments-for-both .ensures)
 
 returns : tie.Need-returns
 returns c = (
@@ -38,13 +48,13 @@ slice-relend-prefix-write-codeword : tie.Need-slice-relend-prefix-write-codeword
 slice-relend-prefix-write-codeword c = fits c
 
 slice-aggregate-write-codeword : tie.Need-slice-aggregate-write-codeword
-slice-aggregate-write-codeword c = front-count _ _ (fits (c .before))
+slice-aggregate-write-codeword c = front-count _ _ (fits (at-else1 c))
 
 write-codeword-requires : tie.Need-write-codeword-requires
 write-codeword-requires c κs =
-    let test = c .before in
-    let found = test .before .before in
-    let a = found .before .before .before .before .args in
+    let test = at-else1 c in
+    let found = at-segments-for-both (test .before) in
+    let a = at-start found .args in
     (record { accepted = accepted _ _ _ (none test) .0; whole = length-take-le _ _ (fits test) }, of-joined (now (a .header)) (now (a .payload)) (found .segments-for-both .ensures))
 
 same-length : tie.Need-same-length
@@ -52,8 +62,9 @@ same-length c = search needs
 
 returns-2 : tie.Need-returns-2
 returns-2 c =
-    let test = c .before .before .before .before in
-    (sym (none test), built-output _ _ _ (none test) (c .before .before .write-codeword .ensures))
+    let write-codeword = c .before .before in
+    let test = at-else1 (write-codeword .before) in
+    (sym (none test), built-output _ _ _ (none test) (write-codeword .write-codeword .ensures))
 
 pub build-two-spec : {M : Type 1} → statement M
 build-two-spec =

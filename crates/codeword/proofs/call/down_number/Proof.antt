@@ -19,11 +19,15 @@ use Rattle.codeword.proofs.call.down_number.Tie as tie
 abbrev at-start-from-struct-known : tie.After-struct-known → tie.Start
 at-start-from-struct-known c = c .before .before
 
-abbrev at-start : tie.Else1 → tie.Start
-at-start c = at-start-from-struct-known (c .before)
-
 abbrev at-else1-from-add-if2 : tie.After-struct-known2 → tie.Else1
 at-else1-from-add-if2 c = c .before
+
+abbrev at-else2 : tie.After-build-number-arg → tie.Else2
+at-else2 c = c .before
+
+-- the ways back
+abbrev at-start : tie.Else1 → tie.Start
+at-start c = at-start-from-struct-known (c .before)
 
 abbrev at-else1 : tie.Else2 → tie.Else1
 at-else1 c = at-else1-from-add-if2 (c .before)
@@ -52,12 +56,12 @@ slice-aggregate-build-number : tie.Need-slice-aggregate-build-number
 slice-aggregate-build-number c = search needs
 
 build-number-requires : tie.Need-build-number-requires
-build-number-requires c κs = let s = c .before .before .before .before .before .before in rw (append-nil (now (s .args .block))) (s .pre)
+build-number-requires c κs = let s = at-start-from-struct-known (at-else1-from-add-if2 (at-else2 c .before) .before) in rw (append-nil (now (s .args .block))) (s .pre)
 
 returns-3 : tie.Need-returns-3
 unfolding numberWith
 returns-3 c =
-    let else2 = c .before .before in
+    let else2 = at-else2 (c .before) in
     let k = in-range (at-else1 else2) in
     let a = at-start (at-else1 else2) .args in
     simp (k .size, le-ltb _ _ (rw (rows-told _ (k .told)) at (else2 .if2 .left)))

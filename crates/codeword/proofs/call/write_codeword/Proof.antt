@@ -11,18 +11,25 @@ use Rattle.codeword.proofs.Segmented.{sized-in}
 use Rattle.codeword.proofs.call.write_codeword.Statement.{statement}
 use Rattle.codeword.proofs.call.write_codeword.Tie as tie
 
+-- the ways back
+abbrev at-start-from-struct-known : tie.After-struct-known → tie.Start
+at-start-from-struct-known c = c .before .before .before .before
+
+abbrev at-start : tie.After-struct-known2 → tie.Start
+at-start c = at-start-from-struct-known (c .before .before)
+
 -- the segmentation is the block's
 told : (s : tie.Start) → s .args .s ≡ segmentsOf (length (now (s .args .header) ++ now (s .args .payload)) + 24)
 told s = sized-in _ _ (s .pre .0 .accepted .size) (s .pre .1) .told
 
 write-short-requires : tie.Need-write-short-requires
-write-short-requires c κs = let s = c .before .before .before .before .before .before in (s .pre .0, (told s, c .before .if1 .taken))
+write-short-requires c κs = let s = at-start-from-struct-known (c .before .before) in (s .pre .0, (told s, c .before .if1 .taken))
 
 write-middle-requires : tie.Need-write-middle-requires
-write-middle-requires c κs = let s = c .before .before .before .before .before .before .before .before in (s .pre .0, (told s, c .before .if2 .taken))
+write-middle-requires c κs = let s = at-start (c .before .before) in (s .pre .0, (told s, c .before .if2 .taken))
 
 write-long-requires : tie.Need-write-long-requires
-write-long-requires c κs = let s = c .before .before .before .before .before .before .before .before in (s .pre .0, told s)
+write-long-requires c κs = let s = at-start (c .before .before) in (s .pre .0, told s)
 
 same-length : tie.Need-same-length
 same-length c = search needs
