@@ -13,9 +13,6 @@ use Rattle.call_rows.proofs.put_codeword_down.Tie as tie
 code-room-requires : tie.Need-code-room-requires
 code-room-requires c κs = search needs
 
-array-read-g : tie.Need-array-read-g
-array-read-g c = search needs
-
 array-read-build-down : tie.Need-array-read-build-down
 array-read-build-down c = search needs
 
@@ -39,6 +36,9 @@ array-read-build-down-7 c = search needs
 
 array-read-build-down-8 : tie.Need-array-read-build-down-8
 array-read-build-down-8 c = search needs
+
+array-read-build-down-9 : tie.Need-array-read-build-down-9
+array-read-build-down-9 c = search needs
 
 slice-aggregate-build-down : tie.Need-slice-aggregate-build-down
 slice-aggregate-build-down c = search needs
@@ -84,7 +84,6 @@ put-codeword-down-spec =
     tie.close
     (tie.spec
     code-room-requires
-    array-read-g
     array-read-build-down
     array-read-build-down-2
     array-read-build-down-3
@@ -93,6 +92,7 @@ put-codeword-down-spec =
     array-read-build-down-6
     array-read-build-down-7
     array-read-build-down-8
+    array-read-build-down-9
     slice-aggregate-build-down
     build-down-requires
     cast-put-refusal
