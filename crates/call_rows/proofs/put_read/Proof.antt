@@ -16,6 +16,19 @@ use borrow.Author.Needs.{needs}
 use Rattle.call_rows.proofs.put_read.Statement.{statement}
 use Rattle.call_rows.proofs.put_read.Tie as tie
 
+-- the ways back
+abbrev at-start : tie.After-block-room → tie.Start
+at-start c = c .before .before .before
+
+abbrev at-block-room : tie.After-read-in → tie.After-block-room
+at-block-room c = c .before .before
+
+abbrev at-read-in : tie.After-is-done → tie.After-read-in
+at-read-in c = c .before .before
+
+abbrev at-head-at : tie.After-block3 → tie.After-head-at
+at-head-at c = c .before
+
 block-room-requires : tie.Need-block-room-requires
 block-room-requires c κs = search needs
 
@@ -32,13 +45,14 @@ head-at-requires : tie.Need-head-at-requires
 head-at-requires c κs = search needs
 
 -- the block that was read stands in the room
-given : (c : tie.After-head-at) → let args = c .before .before .before .before .before .before .before .before .before .args in let out = c .before .before .before .before .read-in .last .1 .1 .1 .1 .1 .0 in
+given : (c : tie.After-head-at) → let args = at-start (at-block-room (at-read-in (c .before .before))) .args in let out = at-read-in (c .before .before) .read-in .last .1 .1 .1 .1 .1 .0 in
     (c .head-at .result .size ≤ length out) × (runRow (take (c .head-at .result .size) out) ≡ readRow (args .state) (placesIn (args .four) (now (args .store))) (args .slot) (args .terminal))
 unfolding sizeAtHead
 given c =
-    let made = c .before .before .before .before .read-in in
+    let then1 = c .before in
+    let made = at-read-in (then1 .before) .read-in in
     let kept = made .kept .1 .1 .1 .1 .1 .0 in
-    let row = read-row _ _ _ _ _ (c .before .before .before .before .before .before .block-room .ensures) (made .ensures .0) (sym (c .before .before .is-done .ensures) ∙ c .before .if1 .taken) (made .ensures .1) kept in
+    let row = read-row _ _ _ _ _ (at-block-room (at-read-in (then1 .before)) .block-room .ensures) (made .ensures .0) (sym (then1 .before .is-done .ensures) ∙ then1 .if1 .taken) (made .ensures .1) kept in
     let size = ap (λ (h : Head). h .size) (c .head-at .ensures) in
     rw size (omega (arith, row .0, kept), row .1)
 
@@ -46,7 +60,7 @@ array-share-prefix-block : tie.Need-array-share-prefix-block
 array-share-prefix-block c = omega (arith, given c .0)
 
 slice-aggregate-put-run : tie.Need-slice-aggregate-put-run
-slice-aggregate-put-run c = front-count _ _ (given (c .before) .0)
+slice-aggregate-put-run c = front-count _ _ (given (at-head-at c) .0)
 
 put-run-requires : tie.Need-put-run-requires
 put-run-requires c κs = search needs
@@ -58,15 +72,17 @@ same-length : tie.Need-same-length
 same-length c = search needs
 
 returns : tie.Need-returns
-returns c = rw (given (c .before .before .before .before .before) .1) at (c .before .before .put-run .ensures)
+returns c = rw (given (at-head-at (c .before .before .before .before)) .1) at (c .before .before .put-run .ensures)
 
 same-length-2 : tie.Need-same-length-2
 same-length-2 c = search needs
 
 returns-2 : tie.Need-returns-2
 returns-2 c =
-    let args = c .before .before .before .before .before .before .before .before .before .before .before .before .args in
-    rw (read-refused (args .state) (placesIn (args .four) (now (args .store))) (args .slot) (args .terminal) (c .before .before .before .before .before .before .before .before .before .block-room .result) (c .before .before .before .before .before .before .before .before .before .block-room .ensures) (c .before .before .before .before .before .before .before .read-in .ensures .0) (sym (c .before .before .before .before .before .is-done .ensures) ∙ c .before .before .before .before .if1 .left)) at (c .before .before .put-answer .ensures)
+    let put-answer = c .before .before in
+    let else1 = put-answer .before .before in
+    let args = at-start (at-block-room (at-read-in (else1 .before))) .args in
+    rw (read-refused (args .state) (placesIn (args .four) (now (args .store))) (args .slot) (args .terminal) (at-block-room (at-read-in (else1 .before)) .block-room .result) (at-block-room (at-read-in (else1 .before)) .block-room .ensures) (at-read-in (else1 .before) .read-in .ensures .0) (sym (else1 .before .is-done .ensures) ∙ else1 .if1 .left)) at (put-answer .put-answer .ensures)
 
 pub put-read-spec : {M : Type 1} → statement M
 put-read-spec =

@@ -7,6 +7,22 @@ use Rattle.yard.proofs.Lines.{by-change, by-packed-call, by-plain-call}
 use Rattle.yard.proofs.line_on.Statement.{statement}
 use Rattle.yard.proofs.line_on.Tie as tie
 
+-- the ways back
+abbrev at-start : tie.After-read-request → tie.Start
+at-start c = c .before .before .before .before .before
+
+abbrev at-read-request : tie.After-changes → tie.After-read-request
+at-read-request c = c .before
+
+abbrev at-else2 : tie.After-call-line-arg4 → tie.Else2
+at-else2 c = c .before .before
+
+abbrev at-then2-from-call-line-arg2 : tie.After-call-line-arg2 → tie.Then2
+at-then2-from-call-line-arg2 c = c .before .before
+
+abbrev at-then2 : tie.After-call-line → tie.Then2
+at-then2 c = at-then2-from-call-line-arg2 (c .before)
+
 read-request-requires : tie.Need-read-request-requires
 read-request-requires c κs = search needs
 
@@ -30,12 +46,15 @@ same-length-3 c = search needs
 
 returns : tie.Need-returns
 returns c =
-    let args = c .before .before .before .before .before .before .before .before .before .before .before .before .before .before .before .before .before .before .args in
-    by-change (args .state) (args .four) (now (args .plain)) (now (args .packed)) (now (args .line)) (now (args .out)) (c .before .before .before .before .before .before .before .before .before .before .before .before .before .read-request .ensures)
-    (sym (c .before .before .before .before .before .before .before .before .before .before .before .before .changes .ensures) ∙ c .before .before .before .before .before .before .before .before .before .before .before .if1 .taken) (c .before .before .before .before .before .before .before .before .before .before .packs .ensures) _ _ _ _ (c .before .before .before .before .before .before .change-line .ensures)
+    let change-line = c .before .before .before .before .before .before in
+    let packs = change-line .before .before .before .before in
+    let then1 = packs .before in
+    let args = at-start (at-read-request (then1 .before)) .args in
+    by-change (args .state) (args .four) (now (args .plain)) (now (args .packed)) (now (args .line)) (now (args .out)) (at-read-request (then1 .before) .read-request .ensures)
+    (sym (then1 .before .changes .ensures) ∙ then1 .if1 .taken) (packs .packs .ensures) _ _ _ _ (change-line .change-line .ensures)
 
 call-line-requires : tie.Need-call-line-requires
-call-line-requires c κs = c .before .before .before .before .before .read-request .ensures
+call-line-requires c κs = at-read-request (at-then2-from-call-line-arg2 c .before .before) .read-request .ensures
 
 same-length-4 : tie.Need-same-length-4
 same-length-4 c = search needs
@@ -45,12 +64,13 @@ same-length-5 c = search needs
 
 returns-2 : tie.Need-returns-2
 returns-2 c =
-    let args = c .before .before .before .before .before .before .before .before .before .before .before .before .before .before .before .args in
-    by-packed-call (args .state) (args .four) (now (args .plain)) (now (args .packed)) (now (args .line)) (now (args .out)) (c .before .before .before .before .before .before .before .before .before .before .read-request .ensures)
-    (sym (c .before .before .before .before .before .before .before .before .before .changes .ensures) ∙ c .before .before .before .before .before .before .before .before .if1 .left) (c .before .before .before .before .before .before .before .if2 .taken) _ _ _ (c .before .before .before .before .call-line .ensures)
+    let call-line = c .before .before .before .before in
+    let args = at-start (at-read-request (at-then2 call-line .before .before)) .args in
+    by-packed-call (args .state) (args .four) (now (args .plain)) (now (args .packed)) (now (args .line)) (now (args .out)) (at-read-request (at-then2 call-line .before .before) .read-request .ensures)
+    (sym (at-then2 call-line .before .before .changes .ensures) ∙ at-then2 call-line .before .if1 .left) (at-then2 call-line .if2 .taken) _ _ _ (call-line .call-line .ensures)
 
 call-line-requires-2 : tie.Need-call-line-requires-2
-call-line-requires-2 c κs = c .before .before .before .before .before .read-request .ensures
+call-line-requires-2 c κs = at-read-request (at-else2 c .before .before) .read-request .ensures
 
 same-length-6 : tie.Need-same-length-6
 same-length-6 c = search needs
@@ -60,9 +80,11 @@ same-length-7 c = search needs
 
 returns-3 : tie.Need-returns-3
 returns-3 c =
-    let args = c .before .before .before .before .before .before .before .before .before .before .before .before .before .before .before .args in
-    by-plain-call (args .state) (args .four) (now (args .plain)) (now (args .packed)) (now (args .line)) (now (args .out)) (c .before .before .before .before .before .before .before .before .before .before .read-request .ensures)
-    (sym (c .before .before .before .before .before .before .before .before .before .changes .ensures) ∙ c .before .before .before .before .before .before .before .before .if1 .left) (c .before .before .before .before .before .before .before .if2 .left) _ _ _ (c .before .before .before .before .call-line2 .ensures)
+    let call-line2 = c .before .before .before .before in
+    let call-line-arg4 = call-line2 .before in
+    let args = at-start (at-read-request (at-else2 call-line-arg4 .before .before)) .args in
+    by-plain-call (args .state) (args .four) (now (args .plain)) (now (args .packed)) (now (args .line)) (now (args .out)) (at-read-request (at-else2 call-line-arg4 .before .before) .read-request .ensures)
+    (sym (at-else2 call-line-arg4 .before .before .changes .ensures) ∙ at-else2 call-line-arg4 .before .if1 .left) (at-else2 call-line-arg4 .if2 .left) _ _ _ (call-line2 .call-line2 .ensures)
 
 pub line-on-spec : {M : Type 1} → statement M
 line-on-spec =

@@ -12,6 +12,19 @@ use borrow.Author.Needs.{needs}
 use Rattle.yard.proofs.put_build_down.Statement.{statement}
 use Rattle.yard.proofs.put_build_down.Tie as tie
 
+-- the ways back
+abbrev at-start : tie.After-bits-room → tie.Start
+at-start c = c .before .before .before
+
+abbrev at-bits-room : tie.After-read-bits → tie.After-bits-room
+at-bits-room c = c .before .before
+
+abbrev at-read-bits : tie.After-given2 → tie.After-read-bits
+at-read-bits c = c .before
+
+abbrev at-given2 : tie.After-given3 → tie.After-given2
+at-given2 c = c .before
+
 bits-room-requires : tie.Need-bits-room-requires
 bits-room-requires c κs = search needs
 
@@ -23,12 +36,12 @@ read-bits-requires c κs = search needs
 
 array-share-prefix-given : tie.Need-array-share-prefix-given
 array-share-prefix-given c =
-    let bits = c .before .read-bits in
-    let args = c .before .before .before .before .before .before .args in
-    omega (arith, given-bits (now (args .line)) (args .from) _ (omega (arith, c .before .before .before .before .before .before .pre, c .before .before .before .bits-room .ensures)) (bits .ensures .0) (bits .ensures .1) .0, bits .kept .1 .1 .0)
+    let bits = at-read-bits c .read-bits in
+    let args = at-start (at-bits-room (at-read-bits c)) .args in
+    omega (arith, given-bits (now (args .line)) (args .from) _ (omega (arith, at-start (at-bits-room (at-read-bits c)) .pre, at-bits-room (at-read-bits c) .bits-room .ensures)) (bits .ensures .0) (bits .ensures .1) .0, bits .kept .1 .1 .0)
 
 slice-aggregate-put-codeword-down : tie.Need-slice-aggregate-put-codeword-down
-slice-aggregate-put-codeword-down c = front-count _ _ (array-share-prefix-given (c .before))
+slice-aggregate-put-codeword-down c = front-count _ _ (array-share-prefix-given (at-given2 c))
 
 put-codeword-down-requires : tie.Need-put-codeword-down-requires
 put-codeword-down-requires c κs = search needs
@@ -38,9 +51,11 @@ same-length c = search needs
 
 returns : tie.Need-returns
 returns c =
-    let args = c .before .before .before .before .before .before .before .before .before .before .before .args in
-    let bits = c .before .before .before .before .before .before .read-bits in
-    rw (given-bits (now (args .line)) (args .from) _ (omega (arith, c .before .before .before .before .before .before .before .before .before .before .before .pre, c .before .before .before .before .before .before .before .before .bits-room .ensures)) (bits .ensures .0) (bits .ensures .1) .1) at (c .before .before .put-codeword-down .ensures)
+    let put-codeword-down = c .before .before in
+    let given3 = put-codeword-down .before .before in
+    let args = at-start (at-bits-room (at-read-bits (at-given2 given3))) .args in
+    let bits = at-read-bits (at-given2 given3) .read-bits in
+    rw (given-bits (now (args .line)) (args .from) _ (omega (arith, at-start (at-bits-room (at-read-bits (at-given2 given3))) .pre, at-bits-room (at-read-bits (at-given2 given3)) .bits-room .ensures)) (bits .ensures .0) (bits .ensures .1) .1) at (put-codeword-down .put-codeword-down .ensures)
 
 pub put-build-down-spec : {M : Type 1} → statement M
 put-build-down-spec =

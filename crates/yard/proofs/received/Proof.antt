@@ -12,6 +12,19 @@ use borrow.Author.Needs.{needs}
 use Rattle.yard.proofs.received.Statement.{statement}
 use Rattle.yard.proofs.received.Tie as tie
 
+-- the ways back
+abbrev at-start : tie.After-bits-room → tie.Start
+at-start c = c .before .before .before
+
+abbrev at-bits-room : tie.After-read-bits → tie.After-bits-room
+at-bits-room c = c .before .before
+
+abbrev at-read-bits : tie.After-given2 → tie.After-read-bits
+at-read-bits c = c .before
+
+abbrev at-given2 : tie.After-given3 → tie.After-given2
+at-given2 c = c .before
+
 bits-room-requires : tie.Need-bits-room-requires
 bits-room-requires c κs = search needs
 
@@ -41,12 +54,12 @@ array-read-receive-in-4 c = search needs
 
 array-share-prefix-given : tie.Need-array-share-prefix-given
 array-share-prefix-given c =
-    let bits = c .before .read-bits in
-    let args = c .before .before .before .before .before .before .args in
-    omega (arith, given-bits (now (args .line)) (args .from) _ (omega (arith, c .before .before .before .before .before .before .pre, c .before .before .before .bits-room .ensures)) (bits .ensures .0) (bits .ensures .1) .0, bits .kept .1 .1 .0)
+    let bits = at-read-bits c .read-bits in
+    let args = at-start (at-bits-room (at-read-bits c)) .args in
+    omega (arith, given-bits (now (args .line)) (args .from) _ (omega (arith, at-start (at-bits-room (at-read-bits c)) .pre, at-bits-room (at-read-bits c) .bits-room .ensures)) (bits .ensures .0) (bits .ensures .1) .0, bits .kept .1 .1 .0)
 
 slice-aggregate-receive-in : tie.Need-slice-aggregate-receive-in
-slice-aggregate-receive-in c = front-count _ _ (array-share-prefix-given (c .before))
+slice-aggregate-receive-in c = front-count _ _ (array-share-prefix-given (at-given2 c))
 
 receive-in-requires : tie.Need-receive-in-requires
 receive-in-requires c κs = search needs
@@ -56,9 +69,11 @@ same-length c = search needs
 
 returns : tie.Need-returns
 returns c =
-    let args = c .before .before .before .before .before .before .before .before .before .before .before .args in
-    let bits = c .before .before .before .before .before .before .read-bits in
-    rw (given-bits (now (args .line)) (args .from) _ (omega (arith, c .before .before .before .before .before .before .before .before .before .before .before .pre .0, c .before .before .before .before .before .before .before .before .bits-room .ensures)) (bits .ensures .0) (bits .ensures .1) .1) at (c .before .before .receive-in .ensures)
+    let receive-in = c .before .before in
+    let given3 = receive-in .before .before in
+    let args = at-start (at-bits-room (at-read-bits (at-given2 given3))) .args in
+    let bits = at-read-bits (at-given2 given3) .read-bits in
+    rw (given-bits (now (args .line)) (args .from) _ (omega (arith, at-start (at-bits-room (at-read-bits (at-given2 given3))) .pre .0, at-bits-room (at-read-bits (at-given2 given3)) .bits-room .ensures)) (bits .ensures .0) (bits .ensures .1) .1) at (receive-in .receive-in .ensures)
 
 pub received-spec : {M : Type 1} → statement M
 received-spec =

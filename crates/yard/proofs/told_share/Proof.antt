@@ -34,8 +34,10 @@ same-length-2 c = search needs
 returns-2 : tie.Need-returns-2
 unfolding shareRow shareAtHead
 returns-2 c =
-    let made = rw (ap (λ (h : Head). h .share) (c .before .before .before .before .head-at .ensures)) at (c .before .before .put-number .ensures) in
-    rw (sym (c .before .before .before .before .before .before .is-done .ensures) ∙ not-false _ (c .before .before .before .before .before .if1 .left)) ((refl, refl, made .0), made .1)
+    let put-number = c .before .before in
+    let head-at = put-number .before .before in
+    let made = rw (ap (λ (h : Head). h .share) (head-at .head-at .ensures)) at (put-number .put-number .ensures) in
+    rw (sym (head-at .before .before .is-done .ensures) ∙ not-false _ (head-at .before .if1 .left)) ((refl, refl, made .0), made .1)
 
 pub told-share-spec : {M : Type 1} → statement M
 told-share-spec =
