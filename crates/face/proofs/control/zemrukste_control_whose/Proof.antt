@@ -19,10 +19,11 @@ number-requires c κs = search needs
 
 returns : tie.Need-returns
 returns c =
-    let called = c .before .before .before in
+    let named = c .before in
+    let called = named .before .before in
     let before = called .before .before .args .terminal .now in
     let told = called .whose .ensures in
-    (c .number .ensures ∙ ap numberOf told, c .before .named .ensures ∙ ap (λ (o : Owner). terminalOf o before) told)
+    (c .number .ensures ∙ ap numberOf told, named .named .ensures ∙ ap (λ (o : Owner). terminalOf o before) told)
 
 pub zemrukste-control-whose-spec : {M : Type 1} → statement M
 zemrukste-control-whose-spec =

@@ -17,14 +17,24 @@ Inv-loop numbers width out₀ i₀ at₀ out i at = Putting numbers width out₀
 abbrev μ-loop : tie.MeasureT-loop
 μ-loop numbers width out₀ i₀ at₀ out i at = length numbers - i
 
+-- the ways back
+abbrev at-start-from-loop-holds : tie.After-slice-known Inv-loop μ-loop → tie.Start Inv-loop μ-loop
+at-start-from-loop-holds c = c .before .before
+
+abbrev at-start : tie.At-loop Inv-loop μ-loop → tie.Start Inv-loop μ-loop
+at-start c = at-start-from-loop-holds (c .before)
+
+abbrev at-turn : tie.After-shared-slice-known2 Inv-loop μ-loop → tie.In-loop Inv-loop μ-loop
+at-turn c = c .before
+
 loop-holds : tie.Need-loop-holds Inv-loop μ-loop
-loop-holds c = start _ _ _ (le-of-eq (c .before .before .pre .1))
+loop-holds c = start _ _ _ (le-of-eq (at-start-from-loop-holds c .pre .1))
 
 add-end : tie.Need-add-end Inv-loop μ-loop
 add-end c = omega (arith, fits (c .before .loop .inv) (c .loop-test .taken))
 
 mul-put-number : tie.Need-mul-put-number Inv-loop μ-loop
-mul-put-number c = omega (arith, c .before .before .before .before .pre .0)
+mul-put-number c = omega (arith, at-start (c .before) .pre .0)
 
 shared-slice-read-put-number : tie.Need-shared-slice-read-put-number Inv-loop μ-loop
 shared-slice-read-put-number c = omega arith
@@ -36,7 +46,7 @@ part-put-number-start : tie.Need-part-put-number-start Inv-loop μ-loop
 part-put-number-start c = omega arith
 
 part-put-number-end : tie.Need-part-put-number-end Inv-loop μ-loop
-part-put-number-end c = fits (c .before .before .loop .inv) (c .before .loop-test .taken)
+part-put-number-end c = fits (at-turn c .before .loop .inv) (at-turn c .loop-test .taken)
 
 put-number-requires : tie.Need-put-number-requires Inv-loop μ-loop
 put-number-requires c κs = search needs
@@ -49,17 +59,18 @@ loop-less c = omega arith
 
 loop-again : tie.Need-loop-again Inv-loop μ-loop
 loop-again c =
-    let put = c .before .before in
-    let turn = put .before .before .before in
+    let at-out = c .before in
+    let put = at-out .before in
+    let turn = at-turn (put .before .before) in
     next (turn .before .loop .inv) (turn .loop-test .taken) (put .put-number .ensures)
     (length-mid _ _ _ (fits (turn .before .loop .inv) (turn .loop-test .taken)))
-    (c .before .out .given .0 ∙ sym (put .before .put-number-arg .given .1))
+    (at-out .out .given .0 ∙ sym (put .before .put-number-arg .given .1))
 
 same-length : tie.Need-same-length Inv-loop μ-loop
 same-length c = c .before .loop .inv .written .long
 
 returns : tie.Need-returns Inv-loop μ-loop
-returns c = finish (c .before .loop .inv) (le-of-eq (sym (c .before .before .before .before .pre .1))) (c .loop-test .left)
+returns c = finish (c .before .loop .inv) (le-of-eq (sym (at-start (c .before) .pre .1))) (c .loop-test .left)
 
 pub put-numbers-spec : {M : Type 1} → statement M
 put-numbers-spec =

@@ -7,6 +7,16 @@ use borrow.Author.Needs.{needs}
 use Rattle.face.proofs.state.finish.Statement.{statement}
 use Rattle.face.proofs.state.finish.Tie as tie
 
+-- the ways back
+abbrev at-else1 : tie.After-head-at → tie.Else1
+at-else1 c = c .before .before
+
+abbrev at-head-at-from-put-head-arg : tie.After-put-head-arg → tie.After-head-at
+at-head-at-from-put-head-arg c = c .before
+
+abbrev at-head-at : tie.After-put-head → tie.After-head-at
+at-head-at c = at-head-at-from-put-head-arg (c .before)
+
 number-requires : tie.Need-number-requires
 number-requires c κs = search needs
 
@@ -19,7 +29,7 @@ head-at-requires c κs = search needs
 
 put-head-requires : tie.Need-put-head-requires
 put-head-requires c κs =
-    let chosen = c .before .before .before in
+    let chosen = at-else1 (at-head-at-from-put-head-arg c) in
     chosen .before .before .before .pre (sym (chosen .before .number .ensures) ∙ chosen .if1 .left)
 
 same-length : tie.Need-same-length
@@ -29,9 +39,9 @@ returns-2 : tie.Need-returns-2
 unfolding bytesAfter
 returns-2 c =
     let put = c .before .before in
-    let chosen = put .before .before .before .before in
+    let chosen = at-else1 (at-head-at put) in
     let found = chosen .before .number .ensures in
-    (sym (chosen .if1 .left) ∙ found, rw (← found, chosen .if1 .left) (rw (put .before .before .head-at .ensures) at (put .put-head .ensures)))
+    (sym (chosen .if1 .left) ∙ found, rw (← found, chosen .if1 .left) (rw (at-head-at put .head-at .ensures) at (put .put-head .ensures)))
 
 pub finish-spec : {M : Type 1} → statement M
 finish-spec =

@@ -8,17 +8,27 @@ use borrow.Author.Needs.{needs}
 use Rattle.face.proofs.state.put_head.Statement.{statement}
 use Rattle.face.proofs.state.put_head.Tie as tie
 
+-- the ways back
+abbrev at-start-from-add-to : tie.After-slice-known → tie.Start
+at-start-from-add-to c = c .before
+
+abbrev at-start : tie.After-flag-of → tie.Start
+at-start c = at-start-from-add-to (c .before)
+
+abbrev at-flag-of : tie.After-four → tie.After-flag-of
+at-flag-of c = c .before .before
+
 mul-from : tie.Need-mul-from
 unfolding headStart
-mul-from c = omega (arith, c .before .pre)
+mul-from c = omega (arith, at-start-from-add-to c .pre)
 
 add-from : tie.Need-add-from
 unfolding headStart
-add-from c = omega (arith, c .before .pre)
+add-from c = omega (arith, at-start-from-add-to c .pre)
 
 add-to : tie.Need-add-to
 unfolding headStart
-add-to c = omega (arith, c .before .pre)
+add-to c = omega (arith, at-start-from-add-to c .pre)
 
 flag-of-requires : tie.Need-flag-of-requires
 flag-of-requires c κs = search needs
@@ -37,7 +47,7 @@ part-put-numbers-start c = search needs
 
 part-put-numbers-end : tie.Need-part-put-numbers-end
 unfolding headStart
-part-put-numbers-end c = omega (arith, c .before .before .before .before .pre)
+part-put-numbers-end c = omega (arith, at-start (at-flag-of c) .pre)
 
 put-numbers-requires : tie.Need-put-numbers-requires
 put-numbers-requires c κs = search needs
@@ -49,8 +59,8 @@ returns : tie.Need-returns
 unfolding headNumbers headStart withHeadBytes
 returns c =
     let put = c .before .before in
-    let flagged = put .before .before .before .before in
-    let entry = flagged .before .before .args in
+    let flagged = at-flag-of (put .before .before) in
+    let entry = at-start flagged .args in
     let from : ℕ = 16 + 32 * entry .slot in
     put-as from (from + 32) (entry .bytes .now) (rw (flagged .flag-of .ensures) at (put .put-numbers .ensures)) (omega arith)
 

@@ -15,6 +15,10 @@ use borrow.Author.Needs.{needs}
 use Rattle.face.proofs.state.put_new.Statement.{statement}
 use Rattle.face.proofs.state.put_new.Tie as tie
 
+-- the ways back
+abbrev at-start : tie.After-put-numbers-arg → tie.Start
+at-start c = c .before .before .before .before
+
 array-write-all : tie.Need-array-write-all
 array-write-all c = search needs
 
@@ -28,10 +32,10 @@ slice-relend-prefix-put-numbers : tie.Need-slice-relend-prefix-put-numbers
 slice-relend-prefix-put-numbers c = search needs
 
 slice-aggregate-put-numbers-2 : tie.Need-slice-aggregate-put-numbers-2
-slice-aggregate-put-numbers-2 c = front-count 272 (c .before .before .before .before .args .bytes .now) (c .before .before .before .before .pre .1)
+slice-aggregate-put-numbers-2 c = front-count 272 (at-start c .args .bytes .now) (at-start c .pre .1)
 
 put-numbers-requires : tie.Need-put-numbers-requires
-put-numbers-requires c κs = (omega arith, sym (length-take-le 272 (c .before .before .before .before .args .bytes .now) (c .before .before .before .before .pre .1)))
+put-numbers-requires c κs = (omega arith, sym (length-take-le 272 (at-start c .args .bytes .now) (at-start c .pre .1)))
 
 same-length : tie.Need-same-length
 same-length c = search needs
@@ -40,7 +44,7 @@ returns : tie.Need-returns
 unfolding stateBytes newBytes
 returns c =
     let put = c .before .before in
-    let entry = put .before .before .before .before .before in
+    let entry = at-start (put .before) in
     rw (le-ltb _ _ (entry .pre .1), ← (entry .pre .0))
     (ap (λ (l : List ℕ). l ++ drop 272 (entry .args .bytes .now)) (put .put-numbers .ensures ∙ ap (inBytes 8) (closed-numbers _ _ _ (entry .pre .0))))
 
