@@ -43,17 +43,17 @@ array-share-prefix-given c =
 slice-aggregate-put-codeword : tie.Need-slice-aggregate-put-codeword
 slice-aggregate-put-codeword c = front-count _ _ (array-share-prefix-given (at-given2 c))
 
-array-read-put-codeword : tie.Need-array-read-put-codeword
-array-read-put-codeword c = search needs
+array-read-t14 : tie.Need-array-read-t14
+array-read-t14 c = search needs
 
-array-read-put-codeword-2 : tie.Need-array-read-put-codeword-2
-array-read-put-codeword-2 c = search needs
+array-read-t17 : tie.Need-array-read-t17
+array-read-t17 c = search needs
 
-array-read-put-codeword-3 : tie.Need-array-read-put-codeword-3
-array-read-put-codeword-3 c = search needs
+array-read-t20 : tie.Need-array-read-t20
+array-read-t20 c = search needs
 
-array-read-put-codeword-4 : tie.Need-array-read-put-codeword-4
-array-read-put-codeword-4 c = search needs
+array-read-t23 : tie.Need-array-read-t23
+array-read-t23 c = search needs
 
 put-codeword-requires : tie.Need-put-codeword-requires
 put-codeword-requires c κs = search needs
@@ -76,12 +76,12 @@ put-build-spec =
     bits-room-requires
     slice-aggregate-read-bits
     read-bits-requires
+    array-read-t14
+    array-read-t17
+    array-read-t20
+    array-read-t23
     array-share-prefix-given
     slice-aggregate-put-codeword
-    array-read-put-codeword
-    array-read-put-codeword-2
-    array-read-put-codeword-3
-    array-read-put-codeword-4
     put-codeword-requires
     same-length
     returns)
