@@ -16,7 +16,6 @@ use Rattle.slots.specs.declared.State.{State}
 use Rattle.slots.specs.State.{headAt}
 use Rattle.slots.proofs.HeadLaws.{open-size}
 use Rattle.reading.proofs.Blocks.{size-told}
-use Rattle.slots.specs.declared.Answer.{Answer}
 use Rattle.slots.specs.declared.Outcome.{Outcome}
 use Rattle.slots.specs.declared.Answer.the-variants.{Done, Refused}
 use Rattle.slots.specs.Answers.{isDone, unlessRefused}

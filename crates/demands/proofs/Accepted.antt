@@ -1,15 +1,15 @@
 -- Demand 1, 'none where none applies': after any history that began with an accepted New over a store of at least S·M·18,528 bytes each call in 01's ranges is accepted.
 -- What is said is 01's ranges, and numbers by 01's definition of an answer's number.
 -- Assumes nothing.
-use mathlib.Core.Path.{_≡_, refl, sym, _∙_, ap}
+use mathlib.Core.Path.{_≡_, refl, ap}
 use mathlib.Core.Logic.{_⊎_, inl, inr}
-use mathlib.Core.Bool.{Bool, true, false, cond, not, _||_}
-use mathlib.Core.List.{List, [], _∷_, _++_}
+use mathlib.Core.Bool.{Bool, true, false, cond}
+use mathlib.Core.List.{List}
 use Prim.Native.Nat.{ℕ, _+_, _*_, _≤_, _<_}
 use native.Mathlib.Omega.{arith}
-use lib.Dec.{eqb, ltb}
+use lib.Dec.{eqb}
 use lib.ListN.{length}
-use borrow.Author.Tests.{le-ltb, lt-ltb, eq-eqb, ne-eqb}
+use borrow.Author.Tests.{le-ltb, ne-eqb}
 use Rattle.laws.specs.Bits.{AreBits}
 use Rattle.refusals.specs.Refusals.{firstOf}
 use Rattle.segmentation.specs.Segmentation.{blocks, sizeOf}
@@ -17,7 +17,7 @@ use Rattle.codeword.specs.Shares.{grant}
 use Rattle.slots.specs.declared.Answer.the-variants.{Done, Refused}
 use Rattle.slots.specs.declared.State.{State}
 use Rattle.slots.specs.declared.Outcome.{Outcome}
-use Rattle.slots.specs.State.{roomLength, headAt, tooMany, badShape}
+use Rattle.slots.specs.State.{roomLength, headAt, badShape}
 use Rattle.slots.specs.Room.{roomAt}
 use Rattle.slots.specs.Reading.{lacking, firstWrong, someWrong, wrongCheck, heardAnswer}
 use Rattle.slots.specs.Answers.{numberOf, Lacking, WrongBlock, unlessRefused}

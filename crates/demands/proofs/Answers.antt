@@ -20,7 +20,7 @@ use Rattle.slots.specs.Answers.{numberOf}
 use Rattle.slots.specs.Calls.{newOutcome, openOutcome, openStore, openDownOutcome, openDownStore, receiveOutcome, receiveStore, readOutcome, readOutput, streamsOutcome, streamsOutput, closeOutcome}
 use Rattle.slots.proofs.Refused as refusing
 use Rattle.demands.specs.Ranges.{Size, Allowed}
-use Rattle.demands.proofs.Ranges.{size-good, bits-good, version-good, allocation-good}
+use Rattle.demands.proofs.Ranges.{size-good, bits-good, allocation-good}
 
 -- ---- Build and Sizes
 

@@ -1,11 +1,10 @@
 -- Demand 1 for the exports and for packed stores: a refused call leaves the state's bytes, the store and the count as they were, New as 01 says.
 -- The exports' other answers and bytes are those of the calls that their contracts cite (face), so that page Answers speaks of them too.
 -- Assumes nothing.
-use mathlib.Core.Path.{_≡_, refl, sym, _∙_, ap}
-use mathlib.Core.Bool.{Bool, true, false, cond}
+use mathlib.Core.Path.{_≡_, refl, ap}
+use mathlib.Core.Bool.{Bool}
 use mathlib.Core.List.{List, [], _++_}
 use Prim.Native.Nat.{ℕ, _≤_, _<_}
-use lib.Dec.{eqb}
 use lib.ListN.{length, drop, getD, replicate, length-replicate}
 use borrow.Author.Tests.{lt-ltb, le-ltb, ne-eqb}
 use Rattle.laws.specs.Bits.{EachBelow}
@@ -14,7 +13,6 @@ use Rattle.slots.specs.declared.State.{State}
 use Rattle.slots.specs.declared.Outcome.{Outcome}
 use Rattle.slots.specs.State.{newState}
 use Rattle.slots.specs.Answers.{numberOf, valuesOf}
-use Rattle.slots.specs.Calls.{newOutcome}
 use Rattle.slots.proofs.Refused as refusing
 use Rattle.packing.specs.Store.{placesIn}
 use Rattle.history.specs.Links.{uplink, downlink, openingOutcome, openingStore}
@@ -22,7 +20,7 @@ use Rattle.history.specs.Calls.{Call, opening, receiving, reading, streaming, c
 use Rattle.history.specs.Run.{outcomeOf, storeAfterCall}
 use Rattle.forms.specs.Calls.{outcomeIn, storeAfterIn}
 use Rattle.forms.proofs.Calls.{left-alone}
-use Rattle.face.specs.StateBytes.{stateLength, stateBytes, bytesAfter, newNumber, newBytes, valueOf}
+use Rattle.face.specs.StateBytes.{stateBytes, bytesAfter, newNumber, newBytes, valueOf}
 
 -- ---- the state's bytes and the count
 

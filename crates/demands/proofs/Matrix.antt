@@ -1,15 +1,15 @@
 -- The definition of v(0) and v(1) is the matrix of clause 5.1.4.1.1, and R the minimum number of rows.
 -- Assumes nothing.
 use mathlib.Core.Path.{_≡_, refl, sym, _∙_, ap, ap₂}
-use mathlib.Core.List.{List, [], _∷_, _++_}
-use Prim.Native.Nat.{ℕ, zero, suc, _+_, _*_, _/_, _%_, _≤_, _<_}
-use native.Mathlib.Nat.{add-zero, add-suc, zero-mul}
+use mathlib.Core.List.{List, _∷_, _++_}
+use Prim.Native.Nat.{ℕ, zero, suc, _+_, _*_, _≤_, _<_}
+use native.Mathlib.Nat.{add-zero, zero-mul}
 use native.Mathlib.Omega.{arith}
 use lib.Arith.{digits-div, digits-mod}
 use lib.ListN.{length, getD, take, drop}
 use lib.Seq.{getD-take, getD-drop}
 use Rattle.laws.specs.Lists.{tab, tabFrom}
-use Rattle.laws.proofs.Tab.{getD-tab, tab-ext, tabFrom-ext, tabFrom-split, tabFrom-shift}
+use Rattle.laws.proofs.Tab.{getD-tab, tab-ext, tabFrom-split, tabFrom-shift}
 use Rattle.rate_matching.specs.Columns.{column}
 use Rattle.rate_matching.specs.SubBlocks.{rows, padded, readPlain, yAt, plain}
 use Rattle.rate_matching.proofs.Columns.{column-rule}

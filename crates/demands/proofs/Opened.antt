@@ -3,23 +3,23 @@
 use mathlib.Core.Path.{_≡_, refl, sym, _∙_, ap, ap₂}
 use mathlib.Core.Bool.{Bool, true, false, cond, true≢false}
 use mathlib.Core.List.{List, [], _∷_}
-use Prim.Native.Nat.{ℕ, _+_, _*_, _≤_, _<_, min}
+use Prim.Native.Nat.{ℕ, _+_, _*_, _≤_}
 use native.Mathlib.Decide.{ℕ-discrete}
 use native.Mathlib.Omega.{arith}
 use lib.Dec.{eqb, ltb}
-use lib.ListN.{length, take}
+use lib.ListN.{length}
 use lib.Seq.{length-take-le}
 use borrow.Author.Tests.{eqb-true, ltb-false}
 use Rattle.slots.specs.declared.Head.{Head}
 use Rattle.slots.specs.declared.State.{State}
 use Rattle.slots.specs.State.{roomLength, storeLength, closedHead, openHead, newState, headAt, badShape, badState}
-use Rattle.slots.specs.Calls.{withHead, newOutcome, closeNumber}
+use Rattle.slots.specs.Calls.{withHead, closeNumber}
 use Rattle.slots.proofs.HeadLaws.{other-head, closed-head, new-head}
 use Rattle.history.specs.Links.{shareIn, openingNumber}
 use Rattle.history.specs.Calls.{Call, opening, receiving, reading, streaming, closing, History}
-use Rattle.history.specs.Run.{World, lent, begin, run}
+use Rattle.history.specs.Run.{begin, run}
 use Rattle.history.specs.Accepted.{lentLength, headsAfterCall, headsAfter}
-use Rattle.history.specs.After.{stateAfter, roomsAfter, storeAfter}
+use Rattle.history.specs.After.{stateAfter, storeAfter}
 use Rattle.history.proofs.Links.{opening-fits}
 use Rattle.history.proofs.State.{rooms-long, rooms-lent, heads}
 use Rattle.history.proofs.Heads.{new-is, never-broken, run-good, refused-state}

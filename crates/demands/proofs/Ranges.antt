@@ -1,16 +1,16 @@
 -- What lies in the ranges of 01 is refused by none of the tests for them, and what the tests pass lies in the ranges.
 -- Assumes nothing.
-use mathlib.Core.Path.{_≡_, refl, sym, _∙_, ap, subst}
-use mathlib.Core.Logic.{_⊎_, inl, inr, ⊎-elim}
+use mathlib.Core.Path.{_≡_, refl}
+use mathlib.Core.Logic.{_⊎_, ⊎-elim}
 use mathlib.Core.Bool.{Bool, true, false, not, _||_}
 use mathlib.Core.List.{List, [], _∷_}
 use Prim.Native.Nat.{ℕ, zero, suc, _*_, _/_, _%_, _≤_, _<_}
 use native.Mathlib.Omega.{arith}
-use lib.Dec.{eqb, ltb}
-use borrow.Author.Tests.{lt-ltb, le-ltb, eq-eqb, ne-eqb, ltb-false, eqb-true, eqb-false}
+use lib.Dec.{eqb}
+use borrow.Author.Tests.{le-ltb, eq-eqb, ne-eqb}
 use Rattle.laws.specs.Bits.{AreBits}
 use Rattle.segmentation.specs.Sizes.{badSize}
-use Rattle.segmentation.proofs.Segmentation.{in-range, good-size}
+use Rattle.segmentation.proofs.Segmentation.{good-size}
 use Rattle.segmentation.specs.Segmentation.{blocks}
 use Rattle.rate_matching.specs.Circle.{cutAt}
 use Rattle.rate_matching.specs.SoftBuffer.{softShare}

@@ -1,7 +1,7 @@
 -- Demand 3 in its literal words: after any history from New, for a slot below S that is open for a terminal and A, whatever the store held and whoever used it before.
 -- The numbers and values are those of 01's definition of an answer's number and values. What a place holds is `place-holds` (history/proofs/Promises).
 -- Assumes nothing.
-use mathlib.Core.Path.{_≡_, refl, sym, _∙_, ap}
+use mathlib.Core.Path.{_≡_, sym, _∙_, ap}
 use mathlib.Core.Logic.{_↔_}
 use mathlib.Core.Bool.{Bool, true, false, cond}
 use mathlib.Core.List.{List, [], _∷_, _++_}
@@ -27,7 +27,7 @@ use Rattle.history.proofs.Restarts as restarting
 use Rattle.history.proofs.DataPlaces.{none-unsent}
 use Rattle.history.proofs.Promises.{block-released, at-once, reception-undecided, reading-undecided}
 use Rattle.demands.specs.Lent.{OpenFor}
-use Rattle.demands.proofs.Opened.{Ready, open-ready}
+use Rattle.demands.proofs.Opened.{open-ready}
 
 -- ---- reading
 

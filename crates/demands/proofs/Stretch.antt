@@ -23,7 +23,7 @@ use Rattle.rate_matching.proofs.Circle.{length-circle, start-below}
 use Rattle.rate_matching.proofs.Walk.{loop-is-selected}
 use Rattle.codeword.specs.declared.Grant.{Grant}
 use Rattle.codeword.specs.Shares.{granted, grantedBefore}
-use Rattle.codeword.specs.Codeword.{blockCircle, blockRows, blockCut, sentBits, blockBits, codewordIn, codeword}
+use Rattle.codeword.specs.Codeword.{blockCircle, blockRows, blockCut, sentBits, blockBits, codewordIn}
 use Rattle.codeword.specs.inner.Sending.{Accepted}
 use Rattle.codeword.proofs.Accepted.{given-bits}
 use Rattle.codeword.proofs.Data.{withCheck-bits, codeBlock-bits, block-filled, data-place}

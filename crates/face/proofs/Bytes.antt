@@ -1,7 +1,7 @@
 -- Numbers in bytes: the loop over the bytes of one number, the loop over several numbers, and a number read in halves.
 -- Assumes nothing.
 use mathlib.Core.Path.{_≡_, refl, sym, _∙_, ap}
-use mathlib.Core.List.{List, [], _∷_, _++_}
+use mathlib.Core.List.{List, _++_}
 use Prim.Native.Nat.{ℕ, zero, suc, _+_, _-_, _*_, _/_, _%_, _^_, _≤_, _<_}
 use native.Mathlib.Nat.{sub-zero, mul-le-mul-right, pow-suc}
 use native.Mathlib.Omega.{arith}

@@ -4,7 +4,7 @@
 use mathlib.Core.Path.{_≡_, refl, sym, _∙_, ap, ap₂}
 use mathlib.Core.Bool.{Bool, true, false, cond, _||_}
 use mathlib.Core.List.{List, [], _∷_, _++_, append-assoc}
-use Prim.Native.Nat.{ℕ, zero, suc, _+_, _*_, _/_, _^_, _≤_, _<_}
+use Prim.Native.Nat.{ℕ, _+_, _*_, _^_, _≤_, _<_}
 use native.Mathlib.Nat.{le-trans, div-le-self}
 use native.Mathlib.Omega.{arith}
 use borrow.Author.Tests.{lt-ltb, le-ltb, eqb-true}
@@ -13,7 +13,6 @@ use lib.ListN.{length, take, drop, getD, length-append, getD-replicate}
 use lib.Seq.{length-take-le}
 use Rattle.refusals.specs.Refusals.{rule, firstOf}
 use Rattle.segmentation.specs.Segmentation.{blocks}
-use Rattle.segmentation.specs.Sizes.{badSize}
 use Rattle.rate_matching.specs.SoftBuffer.{nIR, softShare, wholeShare}
 use Rattle.slots.specs.declared.Head.{Head}
 use Rattle.slots.specs.declared.State.{State}

@@ -9,7 +9,7 @@ use borrow.Author.Tests.{le-ltb}
 use borrow.Rule.Slice.PartMut.{putMid}
 use lib.ListN.{length, take, drop, getD, set, length-append}
 use lib.Seq.{getD-append-add}
-use Rattle.laws.proofs.Parts.{put-is, length-put, getD-put-before, getD-put-in, getD-put-after}
+use Rattle.laws.proofs.Parts.{put-is, length-put, getD-put-before, getD-put-after}
 use Rattle.slots.specs.declared.Head.{Head}
 use Rattle.face.specs.Numbers.{inBytes, numberFrom}
 use Rattle.face.specs.StateBytes.{headNumbers, headsNumbers, headOf, headFrom, headsFrom}

@@ -5,7 +5,7 @@ use mathlib.Core.List.{List, [], _∷_, _++_}
 use Prim.Native.Nat.{ℕ}
 use lib.Dec.{eqb, ltb}
 use lib.ListN.{length, drop}
-use Rattle.refusals.specs.Refusals.{Rule, rule, firstOf}
+use Rattle.refusals.specs.Refusals.{rule, firstOf}
 use Rattle.segmentation.specs.Sizes.{badSize, sizesAnswer, valuesOf}
 use Rattle.face.specs.Numbers.{inBytes}
 

@@ -1,6 +1,6 @@
 -- The state of the slots as the 272 bytes that a C caller keeps: 34 numbers of eight bytes; and the state that any bytes stand for.
 -- Assumes nothing.
-use mathlib.Core.Bool.{true, cond, _||_}
+use mathlib.Core.Bool.{cond, _||_}
 use mathlib.Core.List.{List, [], _∷_, _++_}
 use Prim.Native.Nat.{ℕ, zero, suc, _+_, _*_}
 use lib.Dec.{eqb, ltb}

@@ -3,7 +3,7 @@
 use mathlib.Core.Path.{_≡_, refl, ap, ap₂}
 use mathlib.Core.List.{List, [], _∷_, _++_, map}
 use Prim.Native.Nat.{ℕ, zero, suc, _+_}
-use lib.ListN.{length, getD, take, drop, set, replicate}
+use lib.ListN.{getD, take, drop, set, replicate}
 
 module _ (f : ℕ → ℕ) where
   pub map-append : (a b : List ℕ) → map f (a ++ b) ≡ map f a ++ map f b

@@ -3,13 +3,12 @@
 use mathlib.Core.Path.{_≡_, refl, sym, _∙_, ap, ap₂}
 use mathlib.Core.Bool.{Bool, true, false, cond}
 use mathlib.Core.List.{List, [], _++_, map}
-use Prim.Native.Nat.{ℕ, _+_, _*_, _/_, _%_, _≤_, _<_}
+use Prim.Native.Nat.{ℕ, _+_, _*_, _/_, _%_, _≤_}
 use native.Mathlib.Decide.{decLe}
 use native.Mathlib.Nat.{mul-le-mul-left}
 use native.Mathlib.Omega.{arith}
 use lib.ListN.{length, getD, take, drop, length-append, take-append-drop, List·getD-append}
 use lib.Seq.{length-take-le, take-all, take-at, getD-append-add}
-use Rattle.laws.specs.Bits.{EachBelow}
 use Rattle.laws.specs.Lists.{tab}
 use Rattle.laws.proofs.Tab.{tab-ext, tab-split}
 use Rattle.packing.specs.Packing.{inTwoBits, standingAt, placeIn, packed, unpacked}

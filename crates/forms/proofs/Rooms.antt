@@ -1,7 +1,7 @@
 -- Every room of a store changed into the other form, 02 E7: the store keeps the same places, with values above 3 become 2 where four stand in a byte.
 -- Assumes nothing.
 use mathlib.Core.Path.{_≡_, refl, sym, _∙_, ap, ap₂}
-use mathlib.Core.Bool.{Bool, true, false, cond, not}
+use mathlib.Core.Bool.{Bool, true, false, not}
 use mathlib.Core.List.{List, [], _++_}
 use Prim.Native.Nat.{ℕ, zero, suc, _+_, _*_, _≤_}
 use native.Mathlib.Omega.{arith}
@@ -9,7 +9,7 @@ use lib.ListN.{length, take, drop, length-drop}
 use lib.Seq.{length-take-le, take-add, take-append-add}
 use Rattle.slots.specs.State.{roomLength}
 use Rattle.packing.specs.Packing.{packed, unpacked}
-use Rattle.packing.specs.Change.{packedLength, badBlocks, packOutput, unpackOutput}
+use Rattle.packing.specs.Change.{packedLength, badBlocks}
 use Rattle.packing.specs.Store.{bytesABlock, placesIn}
 use Rattle.packing.proofs.Forms.{length-packed, length-unpacked, there-and-back}
 use Rattle.packing.proofs.Carried.{four-times, packs, unpacks}

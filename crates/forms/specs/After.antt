@@ -5,7 +5,7 @@ use mathlib.Core.List.{List}
 use Prim.Native.Nat.{ℕ}
 use Rattle.slots.specs.declared.State.{State}
 use Rattle.packing.specs.Store.{placesIn}
-use Rattle.history.specs.Calls.{Reception, History}
+use Rattle.history.specs.Calls.{Reception}
 use Rattle.history.specs.After.{acceptedAfter}
 use Rattle.forms.specs.Run.{Event, lentIn, runIn, withoutChanges}
 

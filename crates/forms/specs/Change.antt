@@ -3,7 +3,7 @@
 use mathlib.Core.Bool.{Bool, cond, not}
 use mathlib.Core.List.{List, _++_}
 use Prim.Native.Nat.{ℕ, zero, suc, _*_}
-use lib.ListN.{length, take, drop}
+use lib.ListN.{take, drop}
 use Rattle.packing.specs.Change.{changeNumber, packOutput, unpackOutput}
 use Rattle.packing.specs.Store.{bytesABlock}
 

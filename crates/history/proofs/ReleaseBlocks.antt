@@ -8,8 +8,8 @@ use Prim.Native.Nat.{ℕ, zero, suc, _+_, _-_, _≤_, _<_}
 use native.Mathlib.Decide.{decLt}
 use native.Mathlib.Omega.{arith}
 use lib.Dec.{eqb, eqb·suc-zero}
-use lib.ListN.{length, getD, drop, replicate, length-append, length-replicate, getD-replicate, List·getD-append}
-use lib.Seq.{ext-getD, getD-append-add, getD-take, getD-drop}
+use lib.ListN.{length, getD, replicate, length-append, length-replicate, getD-replicate, List·getD-append}
+use lib.Seq.{ext-getD, getD-append-add, getD-take}
 use borrow.Author.Tests.{eq-eqb}
 use Rattle.laws.specs.Lists.{tabFrom}
 use Rattle.laws.proofs.Tab.{length-tabFrom, getD-tabFrom}

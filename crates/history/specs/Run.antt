@@ -11,7 +11,7 @@ use Rattle.slots.specs.declared.Outcome.{Outcome}
 use Rattle.slots.specs.State.{storeLength}
 use Rattle.slots.specs.Calls.{newOutcome, receiveOutcome, receiveStore, readOutcome, streamsOutcome, closeOutcome}
 use Rattle.history.specs.Links.{openingOutcome, openingStore}
-use Rattle.history.specs.Calls.{Reception, Call, opening, receiving, reading, streaming, closing, Made, History}
+use Rattle.history.specs.Calls.{Call, opening, receiving, reading, streaming, closing, Made, History}
 
 -- the state, and the rooms: as much of the store as the state's rooms take
 pub record World : Type 0 where

@@ -1,12 +1,11 @@
 -- A room carried over and back by the two calls, 02 E7: there and back gives the old room with values above 3 become 2, back and there gives the new room itself.
 -- Assumes nothing.
 use mathlib.Core.Path.{_≡_, refl, sym, _∙_, ap}
-use mathlib.Core.Bool.{false, cond}
-use mathlib.Core.List.{List, [], _++_, append-nil, map}
-use Prim.Native.Nat.{ℕ, _+_, _*_, _≤_}
+use mathlib.Core.Bool.{false}
+use mathlib.Core.List.{List, _++_, append-nil, map}
+use Prim.Native.Nat.{ℕ, _+_, _*_}
 use native.Mathlib.Omega.{arith}
-use lib.Dec.{eqb}
-use lib.ListN.{length, drop, drop-of-length-le}
+use lib.ListN.{length, drop-of-length-le}
 use Rattle.laws.specs.Bits.{EachBelow}
 use Rattle.slots.specs.State.{roomLength}
 use Rattle.packing.specs.Packing.{inTwoBits, packed, packedOver, unpacked, unpackedOver}

@@ -1,22 +1,16 @@
 -- The two forms of a list of places, 02 E7: there and back gives the places with values above 3 become 2, back and there gives the bytes themselves.
 -- Assumes nothing.
 use mathlib.Core.Path.{_≡_, sym, _∙_, ap, ap₂}
-use mathlib.Core.Bool.{false, cond}
-use mathlib.Core.List.{List, [], _++_, append-nil, map}
-use Prim.Native.Nat.{ℕ, _+_, _*_, _/_, _%_, _≤_, _<_}
+use mathlib.Core.List.{List, map}
+use Prim.Native.Nat.{ℕ, _+_, _*_, _/_, _%_, _<_}
 use native.Mathlib.Nat.{add-zero}
 use native.Mathlib.Omega.{arith}
-use lib.Dec.{eqb, ltb}
-use lib.ListN.{length, getD, drop, length-map, List·getD-map, drop-of-length-le}
+use lib.ListN.{length, getD, length-map, List·getD-map}
 use lib.Seq.{ext-getD}
-use borrow.Author.Tests.{le-ltb}
 use Rattle.laws.specs.Bits.{EachBelow}
 use Rattle.laws.specs.Lists.{tab}
 use Rattle.laws.proofs.Tab.{length-tab, getD-tab}
-use Rattle.refusals.specs.Refusals.{firstOf}
-use Rattle.slots.specs.State.{roomLength}
-use Rattle.packing.specs.Packing.{inTwoBits, fourIn, packedAt, packed, packedOver, standingAt, placeIn, unpacked, unpackedOver}
-use Rattle.packing.specs.Change.{packedLength, badBlocks, changeNumber, packNumber, packOutput, unpackNumber, unpackOutput}
+use Rattle.packing.specs.Packing.{inTwoBits, fourIn, packedAt, packed, standingAt, placeIn, unpacked}
 use Rattle.packing.proofs.Places.{standing-packed, place-at, four-of-byte}
 
 pub length-packed : (n : ℕ) (places : List ℕ) → length (packed n places) ≡ n

@@ -1,6 +1,6 @@
 -- Places of which none is above 3, 02 E7: that none is, by the largest; and the byte of four of them by one product.
 -- Assumes nothing.
-use mathlib.Core.Path.{_≡_, sym, _∙_, ap}
+use mathlib.Core.Path.{_≡_, _∙_, ap}
 use mathlib.Core.List.{List}
 use Prim.Native.Nat.{ℕ, _+_, _*_, _/_, _%_, _≤_, _<_}
 use native.Mathlib.Decide.{decLt}
@@ -8,7 +8,7 @@ use native.Mathlib.Omega.{arith}
 use lib.Dec.{lit<}
 use lib.ListN.{length, getD, List·getD-eq-default}
 use Rattle.laws.specs.Bits.{EachBelow}
-use Rattle.packing.specs.Packing.{inTwoBits, fourIn}
+use Rattle.packing.specs.Packing.{fourIn}
 use Rattle.packing.proofs.Places.{two-bits-keep}
 
 -- ---- the largest

@@ -1,7 +1,7 @@
 -- Laws of a store in one of two forms, 02 E7: how many places it keeps, what a part of it keeps, and what it keeps when a part came back.
 -- Assumes nothing.
 use mathlib.Core.Path.{_≡_, refl, sym, _∙_, ap, ap₂}
-use mathlib.Core.Bool.{Bool, true, false, cond, not}
+use mathlib.Core.Bool.{Bool, true, false, not}
 use mathlib.Core.List.{List, _∷_, _++_}
 use Prim.Native.Nat.{ℕ, _+_, _-_, _*_, _/_, _%_, _≤_, _<_, min}
 use native.Mathlib.Nat.{mul-le-mul-right}
@@ -11,11 +11,10 @@ use lib.Dec.{ltb}
 use lib.ListN.{length, getD}
 use lib.Seq.{ext-getD}
 use borrow.Author.Tests.{lt-ltb, le-ltb}
-use borrow.Rule.Slice.PartMut.{midOf, putMid, same-len-mid}
+use borrow.Rule.Slice.PartMut.{midOf, putMid}
 use Rattle.laws.specs.Bits.{EachBelow}
-use Rattle.laws.specs.Lists.{tab}
 use Rattle.laws.proofs.Parts.{length-mid, getD-mid, length-put, getD-put-before, getD-put-in, getD-put-after}
-use Rattle.laws.proofs.Tab.{length-tab, getD-tab}
+use Rattle.laws.proofs.Tab.{getD-tab}
 use Rattle.refusals.specs.Refusals.{Rule, rule, firstOf}
 use Rattle.slots.specs.declared.State.{State}
 use Rattle.slots.specs.State.{roomLength, storeLength, badState}
@@ -23,7 +22,6 @@ use Rattle.slots.specs.Calls.{storeRules}
 use Rattle.slots.proofs.Accepted.{good}
 use Rattle.packing.specs.Packing.{standingAt, placeIn, packed, unpacked}
 use Rattle.packing.specs.Store.{placesAByte, bytesABlock, placesIn, inForm, placesAsked}
-use Rattle.packing.proofs.Places.{place-lt}
 use Rattle.packing.proofs.Forms.{length-unpacked, back-and-there}
 
 -- place j of unpacked bytes

@@ -8,7 +8,7 @@ ghost use Prim.Native.Nat.{_*_, _/_, _≤_, min};
 ghost use lib.ListN.{length};
 ghost use Rattle.packing.specs.Packing.{inTwoBits, fourIn, fourApart, packedOver, unpackedOver};
 ghost use Rattle.packing.specs.Store.{bytesABlock, placesAsked};
-ghost use Rattle.packing.specs.Change.{badBlocks, changeNumber, packNumber, packOutput, unpackNumber, unpackOutput};
+ghost use Rattle.packing.specs.Change.{badBlocks, packNumber, packOutput, unpackNumber, unpackOutput};
 pub use opening::open_down_packed;
 pub use opening::open_packed;
 

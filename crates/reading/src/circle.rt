@@ -100,7 +100,7 @@ pub(crate) fn read_stream(circle: &[u8], d: usize, s: usize, from: usize, out: &
     gather(circle, first_places(d, s), step, from, out);
 }
 
-// How many places of the circle from `from` to `to` have heard no bit. The byte of a place has its number.
+// How many places of the circle from `from` to `to` lack a bit. The byte of a place has its number.
 fn count_places(circle: &[u8], from: CirclePlace, to: CirclePlace) -> usize
     requires { ⌜ (from .0 ≤ to .0) × (to .0 ≤ length (now circle)) × (to .0 ≤ from .0 + 255) ⌝ }
     ensures { λ r. ⌜ r ≡ sumFrom (missingAt (now (circle .entry))) (from .0) (to .0 - from .0) ⌝ }

@@ -6,14 +6,14 @@ use mathlib.Core.Bool.{Bool, true, false, cond, not, _&&_, true≢false}
 use mathlib.Core.List.{List, [], _∷_, _++_}
 use Prim.Native.Nat.{ℕ, _+_, _-_, _%_, _≤_, _<_}
 use native.Mathlib.Omega.{arith}
-use lib.Dec.{eqb, ltb, lit<}
+use lib.Dec.{eqb}
 use lib.ListN.{length, take, drop, length-drop, take-append-drop}
 use borrow.Author.Tests.{eqb-true, eqb-false, eq-eqb, ne-eqb, ltb-true, ltb-false, not-false, not-true}
 use Rattle.laws.specs.Bits.{AreBits}
 use Rattle.laws.proofs.AreBits.{drop-below}
-use Rattle.check_bits.specs.CheckBits.{crc, checkBits, gCRC24A, gCRC24B}
+use Rattle.check_bits.specs.CheckBits.{crc, gCRC24A, gCRC24B}
 use Rattle.check_bits.proofs.Carried.{checked, carried}
-use Rattle.segmentation.specs.Segmentation.{checkLength, blocks, sizeOf}
+use Rattle.segmentation.specs.Segmentation.{blocks}
 use Rattle.segmentation.specs.CodeBlocks.{withCheck}
 use Rattle.segmentation.specs.Sizes.{badSize}
 use Rattle.slots.specs.declared.Answer.{Answer}

@@ -273,9 +273,6 @@ module _ (soft M slot A : ℕ) (g : Grant) (bits store : List ℕ) (fits : roomS
     unfolding roomAt roomLength
     blocks-fit = rw (length-drop (roomStart M slot) store) (omega (arith, mul-le-mul-right perBlock few))
 
-    pub length-stored : length after ≡ length store
-    length-stored = length-withRoom M slot _ store (length-received agreeing soft A g bits (roomAt M slot store))
-
     pub room-stored : roomAt M slot after ≡ received agreeing soft A g bits (roomAt M slot store)
     room-stored = room-with M slot _ store (omega arith)
 

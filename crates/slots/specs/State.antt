@@ -1,6 +1,6 @@
 -- The state of 01's slots: S, M and eight heads, each with its code blocks' share of the soft buffer (02, E6), and which states and stores are refused.
 -- Assumes nothing.
-use mathlib.Core.Bool.{Bool, true, false, not, _||_, _&&_}
+use mathlib.Core.Bool.{Bool, true, false, _||_, _&&_}
 use mathlib.Core.List.{List, [], _∷_}
 use Prim.Native.Nat.{ℕ, zero, suc, _+_, _*_}
 use lib.Dec.{eqb, ltb}

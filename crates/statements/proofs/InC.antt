@@ -1,6 +1,6 @@
 -- Demand 3 for a C caller: what he keeps stands for the state and the rooms of the same history, so that every promise over histories is one of his (`history-in-c`).
 -- Assumes nothing.
-use mathlib.Core.Path.{_≡_, refl, sym, _∙_, ap, ap₂}
+use mathlib.Core.Path.{_≡_, refl, sym, _∙_, ap}
 use mathlib.Core.Bool.{Bool, true, false, cond}
 use mathlib.Core.List.{List, [], _∷_}
 use Prim.Native.Nat.{ℕ, _≤_}
@@ -12,8 +12,8 @@ use Rattle.slots.specs.declared.Answer.the-variants.{Refused}
 use Rattle.slots.specs.declared.Outcome.{Outcome}
 use Rattle.slots.specs.Answers.{unlessRefused}
 use Rattle.slots.specs.Calls.{receiveOutcome, readOutcome, streamsOutcome}
-use Rattle.history.specs.Links.{Link, uplink, downlink, openingOutcome}
-use Rattle.history.specs.Calls.{Reception, Call, opening, receiving, reading, streaming, closing, Made, History}
+use Rattle.history.specs.Links.{uplink, downlink, openingOutcome}
+use Rattle.history.specs.Calls.{Call, opening, receiving, reading, streaming, closing, Made, History}
 use Rattle.history.specs.Run.{World, lent, outcomeOf, storeAfterCall, step, begin, run}
 use Rattle.face.specs.StateBytes.{stateLength, stateIn}
 use Rattle.face.proofs.Handed.{new-handed, open-handed, down-handed, close-handed}

@@ -5,7 +5,7 @@ use mathlib.Core.List.{List, [], append-nil}
 use Prim.Native.Nat.{ℕ}
 use Rattle.codeword.specs.declared.Grant.{Grant}
 use Rattle.slots.specs.declared.State.{State}
-use Rattle.statements.specs.Outcome.{Given, Gives, SingleOutcome}
+use Rattle.statements.specs.Outcome.{Gives, SingleOutcome}
 use Rattle.statements.specs.Calls.{SizesStatement, BuildStatement, BuildTwoStatement, BuildDownStatement, SizesToCStatement, ReportBuildStatement, ReportPartStatement, DataPartStatement, ControlStatement, WhoseStatement, WhoseToCStatement, WorstStatement, PackStatement, UnpackStatement, NewStatement, OpenStatement, OpenDownStatement, ReceiveStatement, ReadStatement, StreamsStatement, CloseStatement, OpenPackedStatement, OpenDownPackedStatement, ReceivePackedStatement, ReadPackedStatement, StreamsPackedStatement}
 
 -- the law: what an answer and the bytes afterwards are said to be, they are

@@ -7,7 +7,7 @@ use lib.ListN.{length, take}
 use Rattle.slots.specs.State.{storeLength}
 use Rattle.slots.specs.Calls.{newOutcome, closeOutcome}
 use Rattle.history.specs.Links.{Link, uplink, downlink, openingOutcome}
-use Rattle.history.specs.Calls.{Reception, Call, opening, receiving, reading, streaming, closing, Made, History}
+use Rattle.history.specs.Calls.{Call, opening, receiving, reading, streaming, closing, Made, History}
 use Rattle.history.specs.Run.{World, lent, storeAfterCall}
 use Rattle.face.specs.StateBytes.{stateIn, bytesAfter, newBytes}
 

@@ -1,6 +1,6 @@
 -- Laws of a line on both stores (`stepOf`): a change of form, or a call on the store that has the rooms.
 -- Assumes nothing.
-use mathlib.Core.Path.{_≡_, refl, sym, _∙_, ap}
+use mathlib.Core.Path.{_≡_, refl, sym, ap}
 use mathlib.Core.Bool.{Bool, true, false, cond}
 use mathlib.Core.List.{List}
 use Prim.Native.Nat.{ℕ, _≤_, _<_}
@@ -11,7 +11,6 @@ use borrow.Author.Tests.{lt-ltb, le-ltb}
 use Rattle.slots.specs.declared.State.{State}
 use Rattle.lines.specs.Put.{putAt, endAt}
 use Rattle.lines.proofs.Putting.{end-within}
-use Rattle.requests.specs.declared.Verb.{Verb}
 use Rattle.requests.specs.declared.Request.{Request}
 use Rattle.requests.specs.Request.{requestOf}
 use Rattle.yard.specs.declared.Step.{Step}

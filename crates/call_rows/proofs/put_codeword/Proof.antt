@@ -1,12 +1,8 @@
 -- `call_rows::put_codeword` meets its contract: the number decides.
 -- Assumes nothing.
-use mathlib.Core.Path.{_≡_, sym, _∙_}
 use native.Mathlib.Omega.{arith}
-use lib.ListN.{length, take}
 use denote.Ref.{now}
-use borrow.Author.Tests.{eq-eqb, ne-eqb}
 use Rattle.laws.proofs.Parts.{front-count}
-use Rattle.call_rows.specs.Rows.{buildRow}
 use Rattle.call_rows.proofs.Wrote.{build-refused, build-row}
 use borrow.Author.Needs.{needs}
 use Rattle.call_rows.proofs.put_codeword.Statement.{statement}

@@ -1,8 +1,6 @@
 -- `call_rows::put_codeword_down` meets its contract: the number decides.
 -- Assumes nothing.
-use mathlib.Core.Path.{_≡_, sym, _∙_}
 use native.Mathlib.Omega.{arith}
-use lib.ListN.{length, take}
 use denote.Ref.{now}
 use Rattle.laws.proofs.Parts.{front-count}
 use Rattle.call_rows.proofs.Wrote.{down-refused, down-row}

@@ -2,15 +2,15 @@
 -- Assumes nothing.
 use mathlib.Core.Path.{_≡_, sym, _∙_, ap}
 use mathlib.Core.Bool.{true}
-use Prim.Native.Nat.{ℕ, _+_, _*_, _≤_}
+use Prim.Native.Nat.{_+_, _*_, _≤_}
 use native.Mathlib.Omega.{arith}
-use lib.ListN.{length, take}
+use lib.ListN.{length}
 use denote.Ref.{now}
 use Rattle.slots.specs.declared.Outcome.{Outcome}
 use Rattle.slots.specs.Calls.{streamsOutcome}
 use Rattle.slots.specs.Answers.{isDone}
 use Rattle.packing.specs.Store.{placesIn}
-use Rattle.call_rows.specs.Rows.{streamsRow, streamLength}
+use Rattle.call_rows.specs.Rows.{streamLength}
 use Rattle.call_rows.proofs.Wrote.{runs-fit, stream-size, streams-refused, streams-row}
 use borrow.Author.Needs.{needs}
 use Rattle.call_rows.proofs.put_streams.Statement.{statement}

@@ -1,6 +1,6 @@
 -- `form_changes::move_rooms` meets its contract: each way by its own, with the laws of `Changed`.
 -- Assumes nothing.
-use mathlib.Core.Path.{_≡_, refl}
+use mathlib.Core.Path.{refl}
 use borrow.Author.Tests.{not-true, not-false}
 use borrow.Author.Needs.{needs}
 use Rattle.form_changes.proofs.Changed.{rooms-fit}

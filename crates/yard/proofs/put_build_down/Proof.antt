@@ -1,12 +1,8 @@
 -- `yard::put_build_down` meets its contract: the line's BITS are the block.
 -- Assumes nothing.
-use mathlib.Core.Path.{_≡_}
-use Prim.Native.Nat.{_≤_}
 use native.Mathlib.Omega.{arith}
-use lib.ListN.{length, take}
 use denote.Ref.{now}
 use Rattle.laws.proofs.Parts.{front-count}
-use Rattle.requests.specs.Request.{bitsFrom}
 use Rattle.yard.proofs.Given.{given-bits}
 use borrow.Author.Needs.{needs}
 use Rattle.yard.proofs.put_build_down.Statement.{statement}

@@ -1,7 +1,6 @@
 -- `control::zemrukste_control_whose` meets its contract: the answer in two numbers.
 -- Assumes nothing.
 use mathlib.Core.Path.{_∙_, ap}
-use Prim.Native.Nat.{ℕ}
 use Rattle.control_messages.specs.declared.Owner.{Owner}
 use Rattle.control_messages.specs.Calls.{numberOf, terminalOf}
 use borrow.Author.Needs.{needs}

@@ -14,7 +14,7 @@ use Rattle.slots.specs.Answers.{isDone}
 use Rattle.slots.specs.Calls.{openNumber, openOutcome, openStore}
 use Rattle.slots.proofs.Accepted.{Stored}
 use Rattle.slots.proofs.Done.{open-told, open-stored, eight}
-use Rattle.packing.specs.Store.{placesIn, inForm}
+use Rattle.packing.specs.Store.{placesIn}
 use Rattle.packing.proofs.Stores.{form-back}
 use Rattle.packing.proofs.Opened.{asked-open}
 use Rattle.packing.proofs.opening.open_packed.Statement.{statement}

@@ -1,4 +1,4 @@
--- `circle::missing` meets its contract: a byte above 1 has heard no bit (`Bytes`).
+-- `circle::missing` meets its contract: a byte above 1 lacks a bit (`Bytes`).
 -- Assumes nothing.
 use borrow.Author.Needs.{needs}
 use Rattle.reading.proofs.Bytes.{missing-is}

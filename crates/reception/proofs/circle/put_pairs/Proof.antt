@@ -1,7 +1,7 @@
 -- `circle::put_pairs` meets its contract: one pair of columns a turn (`Walking`).
 -- Assumes nothing.
 use mathlib.Core.Path.{_≡_, _∙_}
-use Prim.Native.Nat.{_-_, _≤_, _<_}
+use Prim.Native.Nat.{_-_, _≤_}
 use native.Mathlib.Omega.{arith}
 use lib.ListN.{length}
 use Rattle.rate_matching.specs.Units.{unitWithin}

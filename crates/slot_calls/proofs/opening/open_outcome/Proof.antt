@@ -1,6 +1,6 @@
 -- `opening::open_outcome` meets its contract: number 0 says that there is such a slot.
 -- Assumes nothing.
-use mathlib.Core.Path.{_∙_, sym, ap}
+use mathlib.Core.Path.{_∙_, sym}
 use borrow.Author.Needs.{needs}
 use Rattle.slots.specs.Calls.{openOutcome}
 use Rattle.slots.proofs.Done.{open-stored, eight}
