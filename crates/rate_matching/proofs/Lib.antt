@@ -1,6 +1,6 @@
 pub mod Columns
 pub mod Places
-pub mod Firsts
+pub mod Matrix
 pub mod Circle
 pub mod SoftBuffer
 pub mod Kept

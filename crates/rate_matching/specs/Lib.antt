@@ -8,4 +8,5 @@ pub mod Places
 pub mod Shape
 pub mod Units
 pub mod Matcher
+pub mod Matrix
 pub mod Turns

@@ -1,11 +1,10 @@
 -- Places in a stream and places on the circle, clauses 5.1.4.1.1 and 5.1.4.1.2 read place by place: which stream place a circle place holds, and where a stream place lies.
 -- Assumes nothing.
-use mathlib.Core.Bool.{cond, _&&_}
-use mathlib.Core.List.{List, map}
+use mathlib.Core.Bool.{cond}
+use mathlib.Core.List.{List}
 use Prim.Native.Nat.{ℕ, zero, suc, _+_, _-_, _*_, _/_, _%_, _<_}
-use lib.Dec.{ltb, leb, eqb}
-use lib.ListN.{getD, replicate}
-use Rattle.laws.specs.Lists.{tab}
+use lib.Dec.{ltb, eqb}
+use lib.ListN.{getD}
 use Rattle.turbo.specs.Streams.{NULL}
 use Rattle.rate_matching.specs.declared.StreamPlace.{StreamPlace}
 use Rattle.rate_matching.specs.declared.CirclePlace.{CirclePlace}
@@ -57,17 +56,9 @@ placeOf D p = record { 0 = placeNumber D (p .0) (p .1) }
 abbrev pub circlePlace : ℕ → CirclePlace
 circlePlace j = record { 0 = j }
 
--- where the first 32 places of stream s lie, one in each column
-unfoldable pub firstPlaces : ℕ → ℕ → List CirclePlace
-firstPlaces D s = map circlePlace (tab 32 (placeNumber D s))
-
 -- no code block's streams are longer: D = K + 4 for K = 6,144
 abbrev pub longest : ℕ
 longest = 6148
-
--- where the first 32 places of stream s lie; all at place 0 of the circle if streams of D places have no such places
-unfoldable pub firstsWithin : ℕ → ℕ → List CirclePlace
-firstsWithin D s = cond (leb 32 D && leb D longest && leb s 2) (firstPlaces D s) (replicate 32 (circlePlace 0))
 
 -- the three streams of D places have the place p
 pub record InStreams (D : ℕ) (p : StreamPlace) : Type 0 where

@@ -4,8 +4,10 @@ mod matcher;
 mod shortened;
 pub mod table;
 
+pub use mapping::circle_length;
+pub use mapping::column_heads;
 pub use mapping::column_unit_at;
-pub use mapping::first_places;
+pub use mapping::matrix_place;
 pub use mapping::pair_unit_at;
 pub use mapping::unit_at;
 pub use matcher::rate_match;
@@ -17,6 +19,12 @@ pub struct StreamPlace(pub usize, pub usize);
 
 // A place on the circle, which runs to 96·R.
 pub struct CirclePlace(pub usize);
+
+// Where a stream place stands in the matrix of clause 5.1.4.1.1, which is written row by row.
+pub struct MatrixPlace {
+    pub row: usize,
+    pub column: usize,
+}
 
 // A unit of the circle: a column of stream 0, or a column of streams 1 and 2 by turns. Every place from `both` to `end` holds a bit, and `both` holds the
 // stream place `first`; row for row the stream place is 32 further. Before it, where stream 1 has dummies and filler, stream 2 stands alone at every

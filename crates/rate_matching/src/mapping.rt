@@ -1,15 +1,14 @@
-// The mapping functions: where a unit of the circle lies and which stream places it holds, and where a stream's first places lie, clauses 5.1.4.1.1 and
-// 5.1.4.1.2.
+// The mapping functions: where a unit of the circle lies and which stream places it holds, and where the columns of a stream's matrix lie, clauses 5.1.4.1.1
+// and 5.1.4.1.2.
 use crate::CirclePlace;
+use crate::MatrixPlace;
 use crate::StreamPlace;
 use crate::Unit;
 use crate::table::column_at;
-use crate::table::columns;
 ghost use mathlib.Core.Path.{_≡_};
 ghost use Prim.Native.Nat.{_*_, _≤_, _<_};
-ghost use Rattle.rate_matching.specs.Columns.{columnTable};
 ghost use Rattle.rate_matching.specs.SubBlocks.{rows, rowsBefore};
-ghost use Rattle.rate_matching.specs.Places.{plainPlace, shiftedPlace, placeOf, firstPlaces, firstsWithin, InStreams};
+ghost use Rattle.rate_matching.specs.Matrix.{lengthWithin, headsFrom, headsWithin, matrixWithin};
 ghost use Rattle.rate_matching.specs.Units.{columnUnit, pairUnit, noUnit, unitWithin, columnWithin, pairWithin};
 
 // The largest D: that of K = 6,144.
@@ -21,6 +20,16 @@ pub(crate) fn rows_of(d: usize) -> usize
     ensures { λ r. ⌜ r ≡ rows d ⌝ }
 {
     (d + 31) / 32
+}
+
+// The places of the circle of streams of d places, 96·R; 0 where no code block has such streams.
+pub fn circle_length(d: usize) -> usize
+    ensures { λ r. ⌜ r ≡ lengthWithin d ⌝ }
+{
+    if d > LONGEST {
+        return 0;
+    }
+    96 * rows_of(d)
 }
 
 // How many of the places p, p + 32, p + 64, .. lie before place i: the rows of a column that are above it.
@@ -119,65 +128,50 @@ pub fn pair_unit_at(d: usize, filler: usize, c: usize) -> Unit
     pair_unit(d, filler, c)
 }
 
-// Where the plain rule reads y place p. The table is lent, since a constant is copied whole wherever it is read.
-fn plain_place(table: &[u8; 32], rows: usize, p: usize) -> usize
-    requires { ⌜ (now table ≡ columnTable) × (rows ≤ 193) × (p < 32 * rows) ⌝ }
-    ensures { λ r. ⌜ (r ≡ plainPlace rows p) × (r < 32 * rows) ⌝ }
+// Where the columns of a stream's matrix lie on the circle, the first place of each, in the order in which the matrix is written; all at place 0 where there is
+// no such stream. A row is one place further in stream 0, and two in streams 1 and 2, which stand by turns.
+pub fn column_heads(d: usize, stream: usize) -> [CirclePlace; 32]
+    ensures { λ r. ⌜ r ≡ headsWithin d stream ⌝ }
 {
-    (table[p % 32] as usize) * rows + p / 32
-}
-
-// Where the shifted rule reads y place p.
-fn shifted_place(table: &[u8; 32], rows: usize, p: usize) -> usize
-    requires { ⌜ (now table ≡ columnTable) × (rows ≤ 193) × (p < 32 * rows) ⌝ }
-    ensures { λ r. ⌜ (r ≡ shiftedPlace rows p) × (r < 32 * rows) ⌝ }
-{
-    let n = 32 * rows;
-    plain_place(table, rows, (p + (n - 1)) % n)
-}
-
-// Where a place of the streams of d places lies on the circle.
-fn lies_on_circle(table: &[u8; 32], d: usize, place: StreamPlace) -> CirclePlace
-    requires { ⌜ (now table ≡ columnTable) × (d ≤ 6148) × InStreams d place ⌝ }
-    ensures { λ r. ⌜ r ≡ placeOf d place ⌝ }
-{
+    let there = (d <= LONGEST) & (stream <= 2);
+    if !there {
+        let none = CirclePlace(0);
+        return [none; 32];
+    }
     let rows = rows_of(d);
-    let first = 32 * rows;
-    let p = first - d + place.1;
-    let s = place.0;
-    if s == 0 {
-        return CirclePlace(plain_place(table, rows, p));
+    if stream == 0 {
+        return heads_from(0, rows);
     }
-    if s == 1 {
-        return CirclePlace(first + 2 * plain_place(table, rows, p));
-    }
-    CirclePlace(first + 2 * shifted_place(table, rows, p) + 1)
+    heads_from(32 * rows + (stream - 1), 2 * rows)
 }
 
-// Where the first 32 places of stream s lie, one in each column; all at place 0 where streams of d places have no such places.
-pub fn first_places(d: usize, s: usize) -> [CirclePlace; 32]
-    ensures { λ r. ⌜ r ≡ firstsWithin d s ⌝ }
+// The first places of 32 columns of `width` places, the columns lying one after another from `begin` on.
+fn heads_from(begin: usize, width: usize) -> [CirclePlace; 32]
+    requires { ⌜ (begin ≤ 18528) × (width ≤ 386) ⌝ }
+    ensures { λ r. ⌜ r ≡ headsFrom begin width ⌝ }
 {
-    let there = (32 <= d) & (d <= LONGEST) & (s <= 2);
-    if there {
-        return firsts_of(d, s);
-    }
     let none = CirclePlace(0);
-    [none; 32]
+    let mut heads = [none; 32];
+    let mut p = 0;
+    while p < 32 {
+        heads[p] = CirclePlace(begin + column_at(p) * width);
+        p += 1;
+    }
+    heads
 }
 
-// The same for streams that have them.
-fn firsts_of(d: usize, s: usize) -> [CirclePlace; 32]
-    requires { ⌜ (32 ≤ d) × (d ≤ 6148) × (s < 3) ⌝ }
-    ensures { λ r. ⌜ r ≡ firstPlaces d s ⌝ }
+// The row and the column of the matrix where a stream place stands, as the matrix is written; of stream 2, which is read one further, where the place before it
+// does. Both are 0 where there is no such place.
+pub fn matrix_place(d: usize, place: StreamPlace) -> MatrixPlace
+    ensures { λ r. ⌜ r ≡ matrixWithin d place ⌝ }
 {
-    let table = columns();
-    let none = CirclePlace(0);
-    let mut firsts = [none; 32];
-    let mut i = 0;
-    while i < 32 {
-        firsts[i] = lies_on_circle(&table, d, StreamPlace(s, i));
-        i += 1;
+    let there = (d <= LONGEST) & (d % 32 != 0) & (place.0 <= 2) & (place.1 < d);
+    if !there {
+        return MatrixPlace { row: 0, column: 0 };
     }
-    firsts
+    let y = 32 * rows_of(d) - d + place.1 - place.0 / 2;
+    MatrixPlace {
+        row: y / 32,
+        column: y % 32,
+    }
 }

@@ -218,7 +218,7 @@ module _ {state : State} {store : List ℕ} {slot terminal r : ℕ} {out : List 
       three-needs = rw (k-is, f-is) (
         omega (arith, filler-below A (fitting-good fits) r),
         ample,
-        stretch A (fitting-good fits) r 2 0 (sizeOf (A + 24) r + 4) (omega arith) (omega arith) (omega arith),
+        stretch A (fitting-good fits) r 2 0 (sizeOf (A + 24) r + 4) (omega arith) (omega arith) (omega arith) (omega arith),
       )
 
       pub streams-told : {out′ : List ℕ} → out′ ≡ streamsOn (circleAt (slot * state .blocks + r) store) (k + 4) f ++ drop (3 * (k + 4)) out

@@ -34,8 +34,8 @@ module _ (A : ℕ) (admitted : badSize A ≡ false) where
   filler-below r = omega (arith, filler-within (A + 24) high (omega arith) r)
 
   -- n places of stream s from place i on
-  pub stretch : (r s i n : ℕ) {long : ℕ} → s < 3 → i + n ≤ sizeOf (A + 24) r + 4 → perBlock ≤ long → Stretch long (sizeOf (A + 24) r + 4) s i n
-  stretch r s i n u h l = record { sized = streams r; stream = u; within = h; room = omega (arith, l, reach-most s (streams r .most)) }
+  pub stretch : (r s i n : ℕ) {long : ℕ} → s < 3 → i < sizeOf (A + 24) r + 4 → i + n ≤ sizeOf (A + 24) r + 4 → perBlock ≤ long → Stretch long (sizeOf (A + 24) r + 4) s i n
+  stretch r s i n u b h l = record { sized = streams r; stream = u; begin = b; within = h; room = omega (arith, l, reach-most s (streams r .most)) }
 
 -- ---- the segmentation s of a block of A bits, nothing where A is out of range
 

@@ -66,10 +66,10 @@ index-fits false i store h = omega (arith, plain-times store)
 
 -- the places of a stretch lie on any circle of enough places
 pub stretch-on : {long long′ D s i n : ℕ} → Stretch long D s i n → perBlock ≤ long′ → Stretch long′ D s i n
-stretch-on {s = s} w h = record { sized = w .sized; stream = w .stream; within = w .within; room = omega (arith, h, reach-most s (w .sized .most)) }
+stretch-on {s = s} w h = record { sized = w .sized; stream = w .stream; begin = w .begin; within = w .within; room = omega (arith, h, reach-most s (w .sized .most)) }
 
 pub stretch-in : {long long′ D s i n : ℕ} → Stretch long D s i n → reachOf D s ≤ long′ → Stretch long′ D s i n
-stretch-in w h = record { sized = w .sized; stream = w .stream; within = w .within; room = h }
+stretch-in w h = record { sized = w .sized; stream = w .stream; begin = w .begin; within = w .within; room = h }
 
 pub plain-long : {four : Bool} → four ≡ false → bytesABlock four ≡ perBlock
 unfolding bytesABlock

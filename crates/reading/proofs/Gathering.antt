@@ -48,8 +48,8 @@ module _ {f : ℕ → ℕ} {from : ℕ} {out₀ : List ℕ} where
 
 -- ---- the places of a row, by their columns
 
-module _ (firsts : List CirclePlace) (step r : ℕ) where
-  place-of-row : (c : ℕ) → c < 32 → placeBy firsts step (32 * r + c) ≡ getD firsts c (circlePlace 0) .0 + step * r
+module _ (heads : List CirclePlace) (step r : ℕ) where
+  pub place-of-row : (c : ℕ) → c < 32 → placeBy heads step (32 * r + c) ≡ getD heads c (circlePlace 0) .0 + step * r
   unfolding placeBy
   place-of-row c h = rw (column, row)
     where
@@ -60,14 +60,14 @@ module _ (firsts : List CirclePlace) (step r : ℕ) where
       row = omega arith
 
   -- what is gathered of a row
-  pub row-kept : (circle : List ℕ) (c n : ℕ) → c + n ≤ 32 → tabFrom c n (keptBelow circle firsts (step * r)) ≡ tabFrom (32 * r + c) n (keptBy circle firsts step)
+  pub row-kept : (circle : List ℕ) (c n : ℕ) → c + n ≤ 32 → tabFrom c n (keptBelow circle heads (step * r)) ≡ tabFrom (32 * r + c) n (keptBy circle heads step)
   unfolding keptBelow keptBy
   row-kept circle c n h =
       tabFrom-ext c n _ _ (λ k a b. sym (ap (λ (j : ℕ). getD circle j 0) (place-of-row k (omega arith))))
-      ∙ sym (tabFrom-shift (32 * r) c n (keptBy circle firsts step))
+      ∙ sym (tabFrom-shift (32 * r) c n (keptBy circle heads step))
 
   -- and where it lies
-  pub row-along : {long i n : ℕ} (c m : ℕ) → i ≤ 32 * r + c → 32 * r + c + m ≤ i + n → c + m ≤ 32 → Along long firsts step i n → AlongRow long firsts (step * r) c m
+  pub row-along : {long i n : ℕ} (c m : ℕ) → i ≤ 32 * r + c → 32 * r + c + m ≤ i + n → c + m ≤ 32 → Along long heads step i n → AlongRow long heads (step * r) c m
   row-along c m low high few w = record {
     most = few;
     places = λ k a b. rw (← (place-of-row k (omega arith))) (w .places (32 * r + k) (omega arith) (omega arith));
@@ -76,14 +76,14 @@ module _ (firsts : List CirclePlace) (step r : ℕ) where
 -- ---- row by row
 
 -- the rows before place `at` are gathered, and the next is so far below the first
-pub record Rowing (circle : List ℕ) (firsts : List CirclePlace) (step row : ℕ) (out₀ out : List ℕ) (below at : ℕ) : Type 0 where
+pub record Rowing (circle : List ℕ) (heads : List CirclePlace) (step row : ℕ) (out₀ out : List ℕ) (below at : ℕ) : Type 0 where
   pub whole : at % 32 ≡ 0
   pub passed : at ≤ length out₀
   pub rows : below ≡ step * (row + at / 32)
-  pub wrote : Writing out₀ out at (tabFrom (32 * row + at) (length out₀ - at) (keptBy circle firsts step)) (tabFrom (32 * row) (length out₀) (keptBy circle firsts step))
+  pub wrote : Writing out₀ out at (tabFrom (32 * row + at) (length out₀ - at) (keptBy circle heads step)) (tabFrom (32 * row) (length out₀) (keptBy circle heads step))
 
-module _ {circle : List ℕ} {firsts : List CirclePlace} {step row : ℕ} {out₀ : List ℕ} where
-  pub rowing-start : Rowing circle firsts step row out₀ out₀ (step * row) 0
+module _ {circle : List ℕ} {heads : List CirclePlace} {step row : ℕ} {out₀ : List ℕ} where
+  pub rowing-start : Rowing circle heads step row out₀ out₀ (step * row) 0
   rowing-start = record {
     whole = refl;
     passed = omega arith;
@@ -91,21 +91,21 @@ module _ {circle : List ℕ} {firsts : List CirclePlace} {step row : ℕ} {out�
     wrote = same (rw (add-zero (32 * row), sub-zero (length out₀))) start;
   }
 
-  module _ {out : List ℕ} {below at : ℕ} (w : Rowing circle firsts step row out₀ out below at) where
+  module _ {out : List ℕ} {below at : ℕ} (w : Rowing circle heads step row out₀ out below at) where
     -- the place of the next row
     here : 32 * (row + at / 32) + 0 ≡ 32 * row + at
     here = omega (arith, w .whole)
 
     -- m places of it, as they are gathered
-    next-kept : (m : ℕ) → m ≤ 32 → tabFrom 0 m (keptBelow circle firsts below) ≡ tabFrom (32 * row + at) m (keptBy circle firsts step)
+    next-kept : (m : ℕ) → m ≤ 32 → tabFrom 0 m (keptBelow circle heads below) ≡ tabFrom (32 * row + at) m (keptBy circle heads step)
     next-kept m h =
-        ap (λ (b : ℕ). tabFrom 0 m (keptBelow circle firsts b)) (w .rows)
-        ∙ row-kept firsts step (row + at / 32) circle 0 m (omega arith)
-        ∙ ap (λ (i : ℕ). tabFrom i m (keptBy circle firsts step)) here
+        ap (λ (b : ℕ). tabFrom 0 m (keptBelow circle heads b)) (w .rows)
+        ∙ row-kept heads step (row + at / 32) circle 0 m (omega arith)
+        ∙ ap (λ (i : ℕ). tabFrom i m (keptBy circle heads step)) here
 
-    pub next-along : {long : ℕ} (m : ℕ) → m ≤ 32 → at + m ≤ length out₀ → Along long firsts step (32 * row) (length out₀) → AlongRow long firsts below 0 m
+    pub next-along : {long : ℕ} (m : ℕ) → m ≤ 32 → at + m ≤ length out₀ → Along long heads step (32 * row) (length out₀) → AlongRow long heads below 0 m
     next-along {long} m h l a =
-        rw (w .rows) (row-along firsts step (row + at / 32) 0 m (omega (arith, here)) (omega (arith, here)) (omega arith) a)
+        rw (w .rows) (row-along heads step (row + at / 32) 0 m (omega (arith, here)) (omega (arith, here)) (omega arith) a)
 
     -- the parts that are lent
     pub row-lent : at + 32 ≤ length out → length (midOf at (at + 32 - at) out) ≡ 32
@@ -117,73 +117,69 @@ module _ {circle : List ℕ} {firsts : List CirclePlace} {step row : ℕ} {out�
     pub last-back : (part : List ℕ) → length part ≡ length (midOf at (length out - at) out) → length (putMid at (length out - at) out part) ≡ length out₀
     last-back part e = length-put at (length out) out part (omega arith) (e ∙ length-mid at (length out) out (omega arith)) ∙ w .wrote .long
 
-    pub rowing-next : {part : List ℕ} → at + 32 ≤ length out → part ≡ tabFrom 0 (length (midOf at (at + 32 - at) out)) (keptBelow circle firsts below)
-        → Rowing circle firsts step row out₀ (putMid at (at + 32 - at) out part) (below + step) (at + 32)
+    pub rowing-next : {part : List ℕ} → at + 32 ≤ length out → part ≡ tabFrom 0 (length (midOf at (at + 32 - at) out)) (keptBelow circle heads below)
+        → Rowing circle heads step row out₀ (putMid at (at + 32 - at) out part) (below + step) (at + 32)
     rowing-next {part} h e = record {
       whole = omega (arith, w .whole);
       passed = omega (arith, w .wrote .long);
       rows = rw more (omega (arith, w .rows));
-      wrote = pushPart said (omega arith) h (ap length said ∙ length-tabFrom (32 * row + at) 32 (keptBy circle firsts step) ∙ sym (add-sub-cancel-left at 32)) (same future (w .wrote));
+      wrote = pushPart said (omega arith) h (ap length said ∙ length-tabFrom (32 * row + at) 32 (keptBy circle heads step) ∙ sym (add-sub-cancel-left at 32)) (same future (w .wrote));
     }
       where
         more : (at + 32) / 32 ≡ at / 32 + 1
         more = omega arith
 
-        said : part ≡ tabFrom (32 * row + at) 32 (keptBy circle firsts step)
-        said = e ∙ ap (λ (m : ℕ). tabFrom 0 m (keptBelow circle firsts below)) (row-lent h) ∙ next-kept 32 (omega arith)
+        said : part ≡ tabFrom (32 * row + at) 32 (keptBy circle heads step)
+        said = e ∙ ap (λ (m : ℕ). tabFrom 0 m (keptBelow circle heads below)) (row-lent h) ∙ next-kept 32 (omega arith)
 
         turns : length out₀ - at ≡ 32 + (length out₀ - (at + 32))
         turns = omega (arith, w .wrote .long)
 
-        future : tabFrom (32 * row + at) (length out₀ - at) (keptBy circle firsts step)
-            ≡ tabFrom (32 * row + at) 32 (keptBy circle firsts step) ++ tabFrom (32 * row + (at + 32)) (length out₀ - (at + 32)) (keptBy circle firsts step)
+        future : tabFrom (32 * row + at) (length out₀ - at) (keptBy circle heads step)
+            ≡ tabFrom (32 * row + at) 32 (keptBy circle heads step) ++ tabFrom (32 * row + (at + 32)) (length out₀ - (at + 32)) (keptBy circle heads step)
         future =
-            ap (λ (m : ℕ). tabFrom (32 * row + at) m (keptBy circle firsts step)) turns
-            ∙ tabFrom-split (32 * row + at) 32 (length out₀ - (at + 32)) (keptBy circle firsts step)
-            ∙ ap (λ (i : ℕ). tabFrom (32 * row + at) 32 (keptBy circle firsts step) ++ tabFrom i (length out₀ - (at + 32)) (keptBy circle firsts step)) (add-assoc (32 * row) at 32)
+            ap (λ (m : ℕ). tabFrom (32 * row + at) m (keptBy circle heads step)) turns
+            ∙ tabFrom-split (32 * row + at) 32 (length out₀ - (at + 32)) (keptBy circle heads step)
+            ∙ ap (λ (i : ℕ). tabFrom (32 * row + at) 32 (keptBy circle heads step) ++ tabFrom i (length out₀ - (at + 32)) (keptBy circle heads step)) (add-assoc (32 * row) at 32)
 
     -- the last row came back
-    pub rowing-last : {part : List ℕ} → length out - at < 32 → part ≡ tabFrom 0 (length (midOf at (length out - at) out)) (keptBelow circle firsts below)
-        → putMid at (length out - at) out part ≡ tabFrom (32 * row) (length out₀) (keptBy circle firsts step)
+    pub rowing-last : {part : List ℕ} → length out - at < 32 → part ≡ tabFrom 0 (length (midOf at (length out - at) out)) (keptBelow circle heads below)
+        → putMid at (length out - at) out part ≡ tabFrom (32 * row) (length out₀) (keptBy circle heads step)
     rowing-last {part} h e = finish-all (omega (arith, as-long)) refl (pushPart said (omega (arith, w .wrote .long, w .passed)) (omega arith) part-long (same future (w .wrote)))
       where
-        said : part ≡ tabFrom (32 * row + at) (length out₀ - at) (keptBy circle firsts step)
-        said = e ∙ ap (λ (m : ℕ). tabFrom 0 m (keptBelow circle firsts below)) last-lent ∙ next-kept (length out₀ - at) (omega (arith, w .wrote .long))
+        said : part ≡ tabFrom (32 * row + at) (length out₀ - at) (keptBy circle heads step)
+        said = e ∙ ap (λ (m : ℕ). tabFrom 0 m (keptBelow circle heads below)) last-lent ∙ next-kept (length out₀ - at) (omega (arith, w .wrote .long))
 
         part-long : length part ≡ length out - at
-        part-long = ap length said ∙ length-tabFrom (32 * row + at) (length out₀ - at) (keptBy circle firsts step) ∙ omega (arith, w .wrote .long)
+        part-long = ap length said ∙ length-tabFrom (32 * row + at) (length out₀ - at) (keptBy circle heads step) ∙ omega (arith, w .wrote .long)
 
         as-long : length (putMid at (length out - at) out part) ≡ length out
         as-long = length-put at (length out) out part (omega arith) part-long
 
-        future : tabFrom (32 * row + at) (length out₀ - at) (keptBy circle firsts step) ≡ tabFrom (32 * row + at) (length out₀ - at) (keptBy circle firsts step) ++ []
-        future = sym (append-nil (tabFrom (32 * row + at) (length out₀ - at) (keptBy circle firsts step)))
+        future : tabFrom (32 * row + at) (length out₀ - at) (keptBy circle heads step) ≡ tabFrom (32 * row + at) (length out₀ - at) (keptBy circle heads step) ++ []
+        future = sym (append-nil (tabFrom (32 * row + at) (length out₀ - at) (keptBy circle heads step)))
 
--- ---- from any place on: the rest of its row, and the rows after it
+-- ---- from any entry on: the rest of its row, and the rows after it
 
-module _ (circle : List ℕ) (firsts : List CirclePlace) (step from : ℕ) where
-  -- the place by its row and its column
-  there : 32 * (from / 32) + from % 32 ≡ from
-  there = omega arith
+module _ (circle : List ℕ) (heads : List CirclePlace) (step row column : ℕ) (low : column < 32) where
+  pub front-kept : (m : ℕ) → m ≤ 32 - column → tabFrom column m (keptBelow circle heads (step * row)) ≡ tabFrom (32 * row + column) m (keptBy circle heads step)
+  front-kept m h = row-kept heads step row circle column m (omega arith)
 
-  pub front-kept : (m : ℕ) → m ≤ 32 - from % 32 → tabFrom (from % 32) m (keptBelow circle firsts (step * (from / 32))) ≡ tabFrom from m (keptBy circle firsts step)
-  front-kept m h = row-kept firsts step (from / 32) circle (from % 32) m (omega arith) ∙ ap (λ (i : ℕ). tabFrom i m (keptBy circle firsts step)) there
+  pub front-along : {long n : ℕ} (m : ℕ) → m ≤ 32 - column → m ≤ n → Along long heads step (32 * row + column) n → AlongRow long heads (step * row) column m
+  front-along m h l w = row-along heads step row column m (omega arith) (omega arith) (omega arith) w
 
-  pub front-along : {long n : ℕ} (m : ℕ) → m ≤ 32 - from % 32 → m ≤ n → Along long firsts step from n → AlongRow long firsts (step * (from / 32)) (from % 32) m
-  front-along m h l w = row-along firsts step (from / 32) (from % 32) m (omega arith) (omega arith) (omega arith) w
-
-  pub rest-along : {long n : ℕ} → 32 - from % 32 ≤ n → Along long firsts step from n → Along long firsts step (32 * (from / 32 + 1)) (n - (32 - from % 32))
+  pub rest-along : {long n : ℕ} → 32 - column ≤ n → Along long heads step (32 * row + column) n → Along long heads step (32 * (row + 1)) (n - (32 - column))
   rest-along h w = record { most = omega (arith, w .most); places = λ k a b. w .places k (omega arith) (omega arith) }
 
-  pub both-kept : (n : ℕ) {front rest : List ℕ} → 32 - from % 32 ≤ n → front ≡ tabFrom (from % 32) (32 - from % 32) (keptBelow circle firsts (step * (from / 32)))
-      → rest ≡ tabFrom (32 * (from / 32 + 1)) (n - (32 - from % 32)) (keptBy circle firsts step) → front ++ rest ≡ tabFrom from n (keptBy circle firsts step)
+  pub both-kept : (n : ℕ) {front rest : List ℕ} → 32 - column ≤ n → front ≡ tabFrom column (32 - column) (keptBelow circle heads (step * row))
+      → rest ≡ tabFrom (32 * (row + 1)) (n - (32 - column)) (keptBy circle heads step) → front ++ rest ≡ tabFrom (32 * row + column) n (keptBy circle heads step)
   both-kept n {front} {rest} h e f =
-      ap₂ _++_ (e ∙ front-kept (32 - from % 32) (omega arith)) (f ∙ ap (λ (i : ℕ). tabFrom i (n - (32 - from % 32)) (keptBy circle firsts step)) next)
-      ∙ sym (tabFrom-split from (32 - from % 32) (n - (32 - from % 32)) (keptBy circle firsts step))
-      ∙ ap (λ (m : ℕ). tabFrom from m (keptBy circle firsts step)) whole
+      ap₂ _++_ (e ∙ front-kept (32 - column) (omega arith)) (f ∙ ap (λ (i : ℕ). tabFrom i (n - (32 - column)) (keptBy circle heads step)) next)
+      ∙ sym (tabFrom-split (32 * row + column) (32 - column) (n - (32 - column)) (keptBy circle heads step))
+      ∙ ap (λ (m : ℕ). tabFrom (32 * row + column) m (keptBy circle heads step)) whole
     where
-      next : 32 * (from / 32 + 1) ≡ from + (32 - from % 32)
+      next : 32 * (row + 1) ≡ 32 * row + column + (32 - column)
       next = omega arith
 
-      whole : 32 - from % 32 + (n - (32 - from % 32)) ≡ n
+      whole : 32 - column + (n - (32 - column)) ≡ n
       whole = omega arith

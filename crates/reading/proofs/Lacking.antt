@@ -1,39 +1,42 @@
--- The count of the data places that lack a bit, 01 'Slots': code block by code block, each column by column or from a copy of its data places.
+-- The count of the data places that lack a bit, 01 'Slots': of a circle, all of stream 0 less what is no data place; and of a copy of the data places.
 -- Assumes nothing.
 use mathlib.Core.Path.{_≡_, refl, sym, _∙_, ap, ap₂}
-use mathlib.Core.Bool.{true, false, cond, _&&_, and-eq-true-iff}
+use mathlib.Core.Bool.{true, false, _&&_, and-eq-true-iff}
 use mathlib.Core.List.{List}
-use Prim.Native.Nat.{ℕ, _+_, _-_, _*_, _/_, _%_, _^_, _≤_, _<_}
-use native.Mathlib.Nat.{add-zero, zero-add, mul-le-mul-right}
+use Prim.Native.Nat.{ℕ, _+_, _-_, _*_, _/_, _%_, _≤_, _<_}
+use native.Mathlib.Nat.{add-zero, zero-add}
 use native.Mathlib.Omega.{arith}
-use lib.Dec.{eqb, ltb, leb}
-use lib.ListN.{length, getD}
-use borrow.Author.Tests.{eqb-true, leb-true, eq-eqb, le-leb, lt-leb}
+use lib.Dec.{eqb, leb}
+use lib.ListN.{length, getD, take}
+use lib.Seq.{getD-take, length-take-le}
+use borrow.Author.Tests.{eqb-true, leb-true, eq-eqb, le-leb}
 use borrow.Rule.Slice.PartMut.{midOf}
 use Rattle.laws.specs.Bits.{bitsOf}
 use Rattle.laws.proofs.Parts.{length-mid, getD-mid}
 use Rattle.laws.proofs.Tab.{length-tabFrom, getD-tabFrom}
-use Rattle.segmentation.specs.declared.Segments.{Segments}
-use Rattle.segmentation.specs.Segmentation.{blocks, sizeOf, fillerOf}
-use Rattle.segmentation.specs.Sizes.{badSize, segmentsFor}
+use Rattle.segmentation.specs.Segmentation.{sizeOf, fillerOf}
+use Rattle.segmentation.specs.Sizes.{badSize}
+use Rattle.rate_matching.specs.declared.CirclePlace.{CirclePlace}
+use Rattle.rate_matching.specs.declared.MatrixPlace.{MatrixPlace}
 use Rattle.rate_matching.specs.Columns.{numberOf, turnedRound, column}
 use Rattle.rate_matching.specs.SubBlocks.{rows, dummies, rowsBefore}
 use Rattle.rate_matching.specs.Circle.{circleLength}
-use Rattle.rate_matching.specs.Places.{plainPlace, placeNumber}
+use Rattle.rate_matching.specs.Places.{plainPlace, placeNumber, longest}
+use Rattle.rate_matching.specs.Matrix.{headBy, headBegin, headWidth, matrixWithin}
 use Rattle.rate_matching.proofs.Columns.{column-rule}
-use Rattle.slots.specs.State.{perBlock}
+use Rattle.rate_matching.proofs.Places.{dummies-add, place-lt}
+use Rattle.rate_matching.proofs.Matrix.{written-is, head-at}
 use Rattle.slots.specs.Room.{circleAt}
 use Rattle.slots.specs.Circle.{keptOn, missing, missingOn, sumFrom, lackingOn, heardOn}
-use Rattle.slots.specs.Reading.{lackingIn, lacking}
+use Rattle.slots.specs.Reading.{lackingIn}
 use Rattle.slots.proofs.Sums.{sumFrom-ext, sumFrom-shift, sumFrom-most}
-use Rattle.reading.specs.Circle.{missingAt, countable, Streams, reachOf, Stretch}
-use Rattle.reading.specs.Room.{roomFits}
-use Rattle.reading.proofs.Rows.{reach-most, reach-last}
-use Rattle.reading.proofs.Sums.{Summing, start, next, finish, sumFrom-split}
+use Rattle.reading.specs.Circle.{missingAt, placeBy, keptBelow, keptBy, missingBelow, missingBy, countable, AlongRow, Along, Streams, reachOf, Stretch}
+use Rattle.reading.proofs.Rows.{heads, matrix-there, reach-last}
+use Rattle.reading.proofs.Gathering.{place-of-row, row-along}
+use Rattle.reading.proofs.Sums.{sumFrom-split, sumFrom-last, sumFrom-runs}
 use Rattle.reading.proofs.ColumnSums.{inColumn, by-columns}
 use Rattle.reading.proofs.Bytes.{missing-le}
-use Rattle.reading.proofs.Blocks.{streams, filler-below, stretch, by-range, blocks-few, Block, block-of}
-use Rattle.reading.proofs.Lent.{circle-alike, lacking-alike}
+use Rattle.reading.proofs.Blocks.{streams}
 
 -- ---- bytes by parts
 
@@ -90,31 +93,16 @@ pub counted : (circle : List ℕ) (K F : ℕ) {count : ℕ} {lent : List ℕ} �
     → count ≡ lackingOn circle K F
 counted circle K F e t = t ∙ rw (e, length-heard circle K F (K - F)) (count-heard circle K F)
 
--- ---- column by column
+-- ---- all of stream 0's columns, less what is no data place
 
 -- 1 where y place y of stream 0 lacks a bit
 missingY : List ℕ → ℕ → ℕ → ℕ
 missingY circle R y = missing (getD circle (plainPlace R y) 0)
 
--- how many data places from f to k lack a bit in column c of the circle
-pub inPart : List ℕ → ℕ → ℕ → ℕ → ℕ
-inPart circle k f c = inColumn (missingY circle (rows (k + 4))) (dummies (k + 4) + f) (dummies (k + 4) + k) (column c)
-
 -- each column of the matrix is one of the circle's
 all-columns : (g : ℕ → ℕ) → sumFrom (λ (c : ℕ). g (column c)) 0 32 ≡ sumFrom g 0 32
 unfolding sumFrom numberOf bitsOf turnedRound column
 all-columns g = omega arith
-
-pub parts-sum : (circle : List ℕ) (k f : ℕ) → f ≤ k → sumFrom (inPart circle k f) 0 32 ≡ lackingOn circle k f
-unfolding inPart missingY lackingOn missingOn keptOn placeNumber
-parts-sum circle k f h =
-    all-columns (inColumn (missingY circle (rows (k + 4))) (dummies (k + 4) + f) (dummies (k + 4) + k))
-    ∙ ap (λ (e : ℕ). sumFrom (inColumn (missingY circle (rows (k + 4))) (dummies (k + 4) + f) e) 0 32) end
-    ∙ by-columns (missingY circle (rows (k + 4))) (dummies (k + 4) + f) (k - f)
-    ∙ sumFrom-shift (dummies (k + 4)) f (k - f) (missingY circle (rows (k + 4)))
-  where
-    end : dummies (k + 4) + k ≡ dummies (k + 4) + f + (k - f)
-    end = omega arith
 
 -- row t of column c lies t places from the column's begin
 row-is : (R c t : ℕ) → c < 32 → plainPlace R (column c + 32 * t) ≡ c * R + t
@@ -127,43 +115,217 @@ row-is R c t h = rw (same, further, column-rule c h .1) refl
     further : (column c + 32 * t) / 32 ≡ t
     further = omega (arith, column-rule c h .0)
 
--- the data places of column c lie from `from` to `to`
-module _ (circle : List ℕ) {k f : ℕ} (low : f ≤ k) (w : Stretch (length circle) (k + 4) 0 f (k - f)) {c : ℕ} (h : c < 32) {from to : ℕ}
-    (begins : from ≡ c * rows (k + 4) + rowsBefore (dummies (k + 4) + f) (column c)) (ends : to ≡ c * rows (k + 4) + rowsBefore (dummies (k + 4) + k) (column c)) where
-  abbrev R : ℕ
-  R = rows (k + 4)
+module _ (circle : List ℕ) (R : ℕ) where
+  -- the whole of column c
+  column-is : (c : ℕ) → c < 32 → inColumn (missingY circle R) 0 (0 + 32 * R) (column c) ≡ sumFrom (missingAt circle) (c * R) R
+  unfolding rowsBefore missingY missingAt
+  column-is c h =
+      ap₂ (sumFrom (λ (t : ℕ). missingY circle R (column c + 32 * t))) none all
+      ∙ sumFrom-ext (λ (t : ℕ). missingY circle R (column c + 32 * t)) (λ (t : ℕ). missingAt circle (c * R + t)) 0 R
+      (λ t low high. ap (λ (i : ℕ). missing (getD circle i 0)) (row-is R c t h))
+      ∙ sym (sumFrom-shift (c * R) 0 R (missingAt circle))
+      ∙ ap (λ (i : ℕ). sumFrom (missingAt circle) i R) (add-zero (c * R))
+    where
+      none : (0 - column c + 31) / 32 ≡ 0
+      none = omega arith
 
-  abbrev a : ℕ
-  a = rowsBefore (dummies (k + 4) + f) (column c)
+      all : (0 + 32 * R - column c + 31) / 32 - (0 - column c + 31) / 32 ≡ R
+      all = omega (arith, column-rule c h .0)
 
-  abbrev b : ℕ
-  b = rowsBefore (dummies (k + 4) + k) (column c)
+  -- the columns lie side by side
+  columns-sum : sumFrom (missingY circle R) 0 (32 * R) ≡ sumFrom (missingAt circle) 0 (32 * R)
+  columns-sum =
+      sym (by-columns (missingY circle R) 0 (32 * R))
+      ∙ sym (all-columns (inColumn (missingY circle R) 0 (0 + 32 * R)))
+      ∙ sumFrom-ext (λ (c : ℕ). inColumn (missingY circle R) 0 (0 + 32 * R) (column c)) (λ (c : ℕ). sumFrom (missingAt circle) (c * R) R) 0 32 (λ c a b. column-is c (omega arith))
+      ∙ sumFrom-runs (missingAt circle) R 32
 
-  rows-few : (a ≤ b) × (b ≤ R) × (R ≤ 193)
-  unfolding rowsBefore dummies rows
-  rows-few = (omega arith, omega arith, omega (arith, w .sized .most))
+-- the data places lie between the dummies and the filler, and the tail bits
+lacking-between : (circle : List ℕ) (k f : ℕ) → f ≤ k
+    → sumFrom (missingAt circle) 0 (32 * rows (k + 4))
+    ≡ sumFrom (missingY circle (rows (k + 4))) 0 (dummies (k + 4) + f) + (lackingOn circle k f + sumFrom (missingY circle (rows (k + 4))) (dummies (k + 4) + k) 4)
+unfolding missingY lackingOn missingOn keptOn placeNumber
+lacking-between circle k f h =
+    sym (columns-sum circle R)
+    ∙ ap (sumFrom (missingY circle R) 0) whole
+    ∙ sumFrom-split (missingY circle R) 0 (dummies (k + 4) + f) (k - f + 4)
+    ∙ ap (λ (x : ℕ). sumFrom (missingY circle R) 0 (dummies (k + 4) + f) + x)
+    (sumFrom-split (missingY circle R) (0 + (dummies (k + 4) + f)) (k - f) 4
+    ∙ ap₂ (λ (i j : ℕ). sumFrom (missingY circle R) i (k - f) + sumFrom (missingY circle R) j 4) (zero-add (dummies (k + 4) + f)) tail
+    ∙ ap (λ (x : ℕ). x + sumFrom (missingY circle R) (dummies (k + 4) + k) 4) (sumFrom-shift (dummies (k + 4)) f (k - f) (missingY circle R)))
+  where
+    R : ℕ
+    R = rows (k + 4)
 
-  -- on the circle
-  pub column-there : (from ≤ to) × (to ≤ length circle) × (to ≤ from + 193)
-  unfolding reachOf
-  column-there = (omega (arith, begins, ends, rows-few), omega (arith, ends, rows-few, mul-le-mul-right R h, w .room), omega (arith, begins, ends, rows-few))
+    whole : 32 * R ≡ dummies (k + 4) + f + (k - f + 4)
+    whole = omega (arith, dummies-add (k + 4))
 
-  -- and are counted
-  module _ {x : ℕ} (s : x ≡ sumFrom (missingAt circle) from (to - from)) where
-    pub column-few : x ≤ 193
-    column-few = omega (arith, s, missing-few circle from (to - from), column-there)
+    tail : 0 + (dummies (k + 4) + f) + (k - f) ≡ dummies (k + 4) + k
+    tail = omega arith
 
-    pub column-is : x ≡ inPart circle k f c
-    unfolding inPart missingY missingAt
-    column-is =
-        s
-        ∙ ap₂ (sumFrom (missingAt circle)) begins count
-        ∙ sumFrom-shift (c * R) a (b - a) (missingAt circle)
-        ∙ sumFrom-ext (λ (t : ℕ). missingAt circle (c * R + t)) (λ (t : ℕ). missingY circle R (column c + 32 * t)) a (b - a)
-        (λ t low high. ap (λ (i : ℕ). missing (getD circle i 0)) (sym (row-is R c t h)))
+-- ---- entries of the matrix, row by row
+
+-- entry y of stream 0's matrix is y place y
+y-place : (D y : ℕ) → placeBy (heads D 0) 1 y ≡ plainPlace (rows D) y
+unfolding placeBy plainPlace headBegin headWidth headBy
+y-place D y = rw (head-at 0 (rows D) (y % 32) (omega arith)) (omega arith)
+
+-- and lies on the circle
+pub matrix-along : {D long : ℕ} (y n : ℕ) → D ≤ longest → 32 * rows D ≤ long → y + n ≤ 32 * rows D → Along long (heads D 0) 1 y n
+unfolding rows
+matrix-along {D} y n most fits h = record {
+  most = omega arith;
+  places = λ k a b. rw (y-place D k) (omega (arith, place-lt (rows D) k (omega arith)));
+}
+
+module _ (circle : List ℕ) (D : ℕ) where
+  by-y : (y : ℕ) → missingBy circle (heads D 0) y ≡ missingY circle (rows D) y
+  unfolding missingBy missingY keptBy
+  by-y y = ap (λ (i : ℕ). missing (getD circle i 0)) (y-place D y)
+
+  entries-y : (y n : ℕ) → sumFrom (missingBy circle (heads D 0)) y n ≡ sumFrom (missingY circle (rows D)) y n
+  entries-y y n = sumFrom-ext (missingBy circle (heads D 0)) (missingY circle (rows D)) y n (λ k a b. by-y k)
+
+-- all of stream 0, less the entries before the data places and behind them
+pub lacking-entries : (circle : List ℕ) (k f : ℕ) → f ≤ k
+    → sumFrom (missingAt circle) 0 (32 * rows (k + 4))
+    ≡ sumFrom (missingBy circle (heads (k + 4) 0)) 0 (dummies (k + 4) + f) + (lackingOn circle k f + sumFrom (missingBy circle (heads (k + 4) 0)) (dummies (k + 4) + k) 4)
+lacking-entries circle k f h =
+    lacking-between circle k f h
+    ∙ ap₂ (λ (x y : ℕ). x + (lackingOn circle k f + y)) (sym (entries-y circle (k + 4) 0 (dummies (k + 4) + f))) (sym (entries-y circle (k + 4) (dummies (k + 4) + k) 4))
+
+-- a row by its columns
+pub row-entries : (circle : List ℕ) (hs : List CirclePlace) (row c n : ℕ) → c + n ≤ 32
+    → sumFrom (missingBelow circle hs row) c n ≡ sumFrom (missingBy circle hs) (32 * row + c) n
+unfolding missingBelow missingBy keptBelow keptBy
+row-entries circle hs row c n h =
+    sumFrom-ext (missingBelow circle hs row) (λ (k : ℕ). missingBy circle hs (32 * row + k)) c n
+    (λ k a b. ap (λ (i : ℕ). missing (getD circle i 0)) (sym (place-of-row hs 1 row k (omega arith) ∙ omega arith)))
+    ∙ sym (sumFrom-shift (32 * row) c n (missingBy circle hs))
+
+pub row-few : (circle : List ℕ) (hs : List CirclePlace) (row c n : ℕ) → sumFrom (missingBelow circle hs row) c n ≤ n
+unfolding missingBelow
+row-few circle hs row c n = sumFrom-most (missingBelow circle hs row) c n (λ p. missing-le (keptBelow circle hs row p))
+
+-- the columns from `from` to p of a row are counted
+pub record InRow (circle : List ℕ) (hs : List CirclePlace) (row from to n p : ℕ) : Type 0 where
+  pub passed : (from ≤ p) × (p ≤ to)
+  pub told : n ≡ sumFrom (missingBelow circle hs row) from (p - from)
+
+module _ {circle : List ℕ} {hs : List CirclePlace} {row from to : ℕ} where
+  pub in-row-start : from ≤ to → InRow circle hs row from to 0 from
+  unfolding sumFrom
+  in-row-start h = record { passed = (omega arith, h); told = ap (sumFrom (missingBelow circle hs row) from) none }
+    where
+      none : 0 ≡ from - from
+      none = omega arith
+
+  pub in-row-few : {n p : ℕ} → InRow circle hs row from to n p → n ≤ p - from
+  in-row-few {n} {p} w = rw (w .told) (row-few circle hs row from (p - from))
+
+  pub in-row-next : {n p x : ℕ} → p < to → x ≡ missingBelow circle hs row p → InRow circle hs row from to n p → InRow circle hs row from to (n + x) (p + 1)
+  in-row-next {n} {p} {x} h e w = record {
+    passed = (omega (arith, w .passed), omega arith);
+    told = ap₂ _+_ (w .told) (e ∙ ap (missingBelow circle hs row) here) ∙ sym (sumFrom-last (missingBelow circle hs row) from (p - from)) ∙ ap (sumFrom (missingBelow circle hs row) from) more;
+  }
+    where
+      here : p ≡ from + (p - from)
+      here = omega (arith, w .passed)
+
+      more : p - from + 1 ≡ p + 1 - from
+      more = omega (arith, w .passed)
+
+  pub in-row-finish : {n p : ℕ} → to ≤ p → InRow circle hs row from to n p → n ≡ sumFrom (missingBelow circle hs row) from (to - from)
+  in-row-finish {n} {p} h w = w .told ∙ ap (λ (q : ℕ). sumFrom (missingBelow circle hs row) from (q - from)) all
+    where
+      all : p ≡ to
+      all = omega (arith, w .passed)
+
+-- the rows before `row` are counted
+pub record Before (circle : List ℕ) (hs : List CirclePlace) (n row : ℕ) : Type 0 where
+  pub few : n ≤ 32 * row
+  pub told : n ≡ sumFrom (missingBy circle hs) 0 (32 * row)
+
+module _ {circle : List ℕ} {hs : List CirclePlace} where
+  pub before-start : Before circle hs 0 0
+  unfolding sumFrom
+  before-start = record { few = omega arith; told = refl }
+
+  module _ {n row : ℕ} (w : Before circle hs n row) where
+    -- and so many columns of the next row
+    pub before-part : {x : ℕ} (c : ℕ) → c ≤ 32 → x ≡ sumFrom (missingBelow circle hs row) 0 c → (n + x ≡ sumFrom (missingBy circle hs) 0 (32 * row + c)) × (x ≤ c)
+    before-part {x} c h e = (
+      ap₂ _+_ (w .told) (e ∙ row-entries circle hs row 0 c (omega arith) ∙ ap (λ (i : ℕ). sumFrom (missingBy circle hs) i c) here) ∙ sym (sumFrom-split (missingBy circle hs) 0 (32 * row) c),
+      rw e (row-few circle hs row 0 c),
+    )
       where
-        count : to - from ≡ b - a
-        count = omega (arith, begins, ends)
+        here : 32 * row + 0 ≡ 0 + 32 * row
+        here = omega arith
+
+    pub before-next : {x : ℕ} → x ≡ sumFrom (missingBelow circle hs row) 0 (32 - 0) → Before circle hs (n + x) (row + 1)
+    before-next {x} e = record { few = omega (arith, w .few, part .1); told = part .0 ∙ ap (sumFrom (missingBy circle hs) 0) more }
+      where
+        part : (n + x ≡ sumFrom (missingBy circle hs) 0 (32 * row + 32)) × (x ≤ 32)
+        part = before-part 32 (omega arith) e
+
+        more : 32 * row + 32 ≡ 32 * (row + 1)
+        more = omega arith
+
+-- the count of the front of a list
+pub front-counted : (bytes : List ℕ) (n : ℕ) → n ≤ length bytes → sumFrom (missingAt (take n bytes)) 0 (length (take n bytes)) ≡ sumFrom (missingAt bytes) 0 n
+unfolding missingAt
+front-counted bytes n h =
+    ap (sumFrom (missingAt (take n bytes)) 0) (length-take-le n bytes h)
+    ∙ sumFrom-ext (missingAt (take n bytes)) (missingAt bytes) 0 n (λ k a b. ap missing (getD-take n bytes k 0 (omega arith)))
+
+-- ---- the count of a circle
+
+-- where the tail bits and the data places begin in the matrix
+module _ (circle : List ℕ) {k f : ℕ} (low : f ≤ k) (w : Stretch (length circle) (k + 4) 0 f (k - f)) {tail bits : MatrixPlace}
+    (t : tail ≡ matrixWithin (k + 4) (0, k)) (d : bits ≡ matrixWithin (k + 4) (0, f)) where
+  abbrev D : ℕ
+  D = k + 4
+
+  -- the tail bits end the last row
+  pub tail-last : (tail .column ≡ 28) × (32 * (tail .row + 1) ≡ 32 * rows D) × (32 * tail .row + 28 ≡ dummies D + k)
+  tail-last =
+      let m = matrix-there (w .sized) 0 k (omega arith) (omega arith) t in
+      let y : 32 * tail .row + tail .column ≡ dummies D + k = omega (arith, m .1, written-is D 0 k) in
+      let all = dummies-add D in
+      (omega (arith, m .0, y, all), omega (arith, m .0, y, all), omega (arith, m .0, y, all))
+
+  pub bits-first : (bits .column < 32) × (32 * bits .row + bits .column ≡ dummies D + f)
+  bits-first = let m = matrix-there (w .sized) 0 f (omega arith) (omega arith) d in (m .0, omega (arith, m .1, written-is D 0 f))
+
+  pub stream-fits : (32 * rows D ≤ length circle) × (32 * rows D ≤ 6176)
+  unfolding reachOf rows
+  stream-fits = (w .room, omega (arith, w .sized .most))
+
+  pub front-needs : Along (length circle) (heads D 0) 1 0 (32 * bits .row + bits .column)
+  front-needs = matrix-along 0 _ (w .sized .most) (stream-fits .0) (omega (arith, bits-first .1, dummies-add D))
+
+  pub back-needs : AlongRow (length circle) (heads D 0) (tail .row) (tail .column) (32 - tail .column)
+  back-needs =
+      rw (one, tail-last .0)
+      (row-along (heads D 0) 1 (tail .row) 28 4 (omega arith) (omega arith) (omega arith) (matrix-along (32 * tail .row + 28) 4 (w .sized .most) (stream-fits .0) (omega (arith, tail-last .1))))
+    where
+      one : tail .row ≡ 1 * tail .row
+      one = omega arith
+
+  module _ {all front back : ℕ} (a : all ≡ sumFrom (missingAt (take (32 * (tail .row + 1)) circle)) 0 (length (take (32 * (tail .row + 1)) circle)))
+      (b : front ≡ sumFrom (missingBy circle (heads D 0)) 0 (32 * bits .row + bits .column))
+      (c : back ≡ sumFrom (missingBelow circle (heads D 0) (tail .row)) (tail .column) (32 - tail .column)) where
+    pub all-parts : all ≡ front + (lackingOn circle k f + back)
+    all-parts =
+        a
+        ∙ front-counted circle (32 * (tail .row + 1)) (omega (arith, tail-last .1, stream-fits))
+        ∙ ap (sumFrom (missingAt circle) 0) (tail-last .1)
+        ∙ lacking-entries circle k f low
+        ∙ ap₂ (λ (x y : ℕ). x + (lackingOn circle k f + y))
+        (ap (sumFrom (missingBy circle (heads D 0)) 0) (sym (bits-first .1)) ∙ sym b)
+        (ap (λ (y : ℕ). sumFrom (missingBy circle (heads D 0)) y 4) (sym (tail-last .2))
+        ∙ sym (row-entries circle (heads D 0) (tail .row) 28 4 (omega arith))
+        ∙ sym (rw (tail-last .0) at c))
 
 -- ---- a circle by itself
 
@@ -178,7 +340,7 @@ countable-told long K F t =
     let least = leb-true 40 K (d .1) in
     let most = leb-true K 6144 (d .0) in
     let bytes = eqb-true (K % 8) 0 (c .1) in
-    (low, record { sized = record { least = omega (arith, least); most = omega (arith, most); bytes = omega (arith, bytes) }; stream = omega arith; within = omega (arith, low); room = omega (arith, reach-last (K + 4) 0, leb-true (circleLength (rows (K + 4))) long (a .1)) })
+    (low, record { sized = record { least = omega (arith, least); most = omega (arith, most); bytes = omega (arith, bytes) }; stream = omega arith; begin = omega (arith, low); within = omega (arith, low); room = omega (arith, reach-last (K + 4) 0, leb-true (circleLength (rows (K + 4))) long (a .1)) })
 
 pub countable-is : {long K F : ℕ} → F ≤ K → Streams (K + 4) → circleLength (rows (K + 4)) ≤ long → countable long K F ≡ true
 unfolding countable
@@ -190,12 +352,6 @@ countable-is {long} {K} {F} low w h =
 
 -- ---- code block by code block
 
--- the count of code block r, whose circle is lent
-block-lacking : (A r : ℕ) {from : ℕ} (room : List ℕ) → badSize A ≡ false → from ≡ r * perBlock
-    → lackingOn (midOf from (from + perBlock - from) room) (sizeOf (A + 24) r) (fillerOf (A + 24) r) ≡ lackingIn (A + 24) room r
-unfolding lackingIn
-block-lacking A r room good e = lacking-alike (sizeOf (A + 24) r) (streams A good r) (circle-alike r room e) (reach-most 0 (streams A good r .most)) (fillerOf (A + 24) r)
-
 -- no count is above 6,144
 pub block-few : (A r : ℕ) (room : List ℕ) → badSize A ≡ false → lackingIn (A + 24) room r ≤ 6144
 unfolding lackingIn lackingOn missingOn
@@ -206,63 +362,3 @@ block-few A r room good =
           (λ i. missing-le (keptOn (circleAt r room) (sizeOf (A + 24) r + 4) 0 i)),
       streams A good r .most,
     )
-
--- ---- the whole room
-
--- a room that is too short
-pub short-room : (A n x : ℕ) {s : Segments} → s ≡ segmentsFor A → n < s .blocks * perBlock → 0 ≡ cond (roomFits A n) x 0
-unfolding roomFits
-short-room A n x {s} e h =
-    by-range A (0 ≡ cond (roomFits A n) x 0) e (λ t z. rw t) (λ t z. rw (t, lt-leb (blocks (A + 24) * perBlock) n (rw z at h)))
-
--- one that is not
-whole-room : (A : ℕ) {s : Segments} {sum : ℕ} (room : List ℕ) → s ≡ segmentsFor A → s .blocks * perBlock ≤ length room
-    → sum ≡ sumFrom (lackingIn (A + 24) room) 0 (s .blocks) → sum ≡ cond (roomFits A (length room)) (lacking A room) 0
-unfolding roomFits lacking sumFrom
-whole-room A {s} {sum} room e h t =
-    by-range A (sum ≡ cond (roomFits A (length room)) (lacking A room) 0) e
-    (λ b z. t ∙ rw (z, b))
-    (λ b z. t ∙ rw (z, b, le-leb (blocks (A + 24) * perBlock) (length room) (rw z at h)))
-
--- the data places of the code blocks before r are counted
-pub record Counting (A : ℕ) (s : Segments) (room : List ℕ) (n from r : ℕ) : Type 0 where
-  pub told : s ≡ segmentsFor A
-  pub long : s .blocks * perBlock ≤ length room
-  pub place : from ≡ r * perBlock
-  pub sum : Summing (lackingIn (A + 24) room) (s .blocks) 6144 r n
-
-pub counting-start : {A : ℕ} {s : Segments} {room : List ℕ} → s ≡ segmentsFor A → s .blocks * perBlock ≤ length room → Counting A s room 0 0 0
-counting-start e h = record { told = e; long = h; place = refl; sum = start }
-
-module _ {A : ℕ} {s : Segments} {room : List ℕ} {n from r : ℕ} where
-  -- the circle of code block r lies in the room
-  pub circle-within : r < s .blocks → Counting A s room n from r → from + perBlock ≤ length room
-  circle-within h w = omega (arith, w .long, w .place, mul-le-mul-right perBlock h)
-
-  module _ {K F : ℕ} (h : r < s .blocks) (k : K ≡ cond (ltb r (s .shorts)) (s .short) (s .long)) (f : F ≡ cond (eqb r 0) (s .filler) 0) (w : Counting A s room n from r) where
-    here : Block A s r
-    here = block-of A (w .told) h
-
-    pub data-stretch : (F ≤ K) × Stretch (length (midOf from (from + perBlock - from) room)) (K + 4) 0 F (K - F)
-    data-stretch =
-        let low : fillerOf (A + 24) r ≤ sizeOf (A + 24) r = omega (arith, filler-below A (here .admitted) r) in
-        let room-is : perBlock ≤ length (midOf from (from + perBlock - from) room) = omega (arith, length-mid from (from + perBlock) room (circle-within h w)) in
-        rw (k ∙ here .size, f ∙ here .filled) (low, stretch A (here .admitted) r 0 _ _ (omega arith) (omega arith) room-is)
-
-    module _ {x : ℕ} (e : x ≡ lackingOn (midOf from (from + perBlock - from) room) K F) where
-      block-is : x ≡ lackingIn (A + 24) room r
-      block-is = e ∙ rw (k ∙ here .size, f ∙ here .filled) (block-lacking A r room (here .admitted) (w .place))
-
-      pub sum-fits : n + x < 2 ^ 64
-      sum-fits = omega (arith, block-is, block-few A r room (here .admitted), w .sum .few, blocks-few A (w .told))
-
-      pub counting-next : Counting A s room (n + x) (from + perBlock) (r + 1)
-      counting-next = record {
-        told = w .told;
-        long = w .long;
-        place = omega (arith, w .place);
-        sum = next h block-is (rw block-is (block-few A r room (here .admitted))) (w .sum);
-      }
-
-  pub counting-finish : s .blocks ≤ r → Counting A s room n from r → n ≡ cond (roomFits A (length room)) (lacking A room) 0
-  counting-finish h w = whole-room A room (w .told) (w .long) (finish h (w .sum))

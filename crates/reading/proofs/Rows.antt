@@ -1,81 +1,54 @@
--- Where a stream's places lie on the circle row by row, clause 5.1.4.1.1: 32 places further in the stream is one row further.
--- Stream 2's shift never wraps, since the streams of a code block always have dummies before them.
+-- Where a stream's places lie on the circle row by row, clause 5.1.4.1.1: as many rows below the heads of their columns as the matrix says. Stream 2's shift
+-- never wraps, since the streams of a code block always have dummies before them.
 -- Assumes nothing.
 use mathlib.Core.Path.{_≡_, sym, _∙_, ap}
-use mathlib.Core.Bool.{Bool, true, false, cond}
+use mathlib.Core.Bool.{Bool, true, false, not, cond, _&&_}
 use mathlib.Core.List.{List}
 use Prim.Native.Nat.{ℕ, zero, suc, _+_, _-_, _*_, _/_, _%_, _≤_, _<_}
 use native.Mathlib.Omega.{arith}
-use lib.Dec.{eqb, eqb·suc-zero}
-use lib.ListN.{getD, List·getD-map}
-use borrow.Author.Tests.{le-leb}
-use Rattle.laws.specs.Lists.{tab, tabFrom}
-use Rattle.laws.proofs.Tab.{getD-tab, tabFrom-ext}
+use lib.Dec.{eqb, leb, ltb, eqb·suc-zero}
+use lib.ListN.{getD}
+use borrow.Author.Tests.{le-leb, lt-ltb, ne-eqb}
+use Rattle.laws.specs.Lists.{tabFrom}
+use Rattle.laws.proofs.Tab.{tabFrom-ext, tabFrom-shift}
+use Rattle.rate_matching.specs.declared.CirclePlace.{CirclePlace}
+use Rattle.rate_matching.specs.declared.MatrixPlace.{MatrixPlace}
 use Rattle.rate_matching.specs.SubBlocks.{rows, dummies}
 use Rattle.rate_matching.specs.Circle.{circleLength}
-use Rattle.rate_matching.specs.Places.{plainPlace, shiftedPlace, placeNumber, placeOf, circlePlace, firstPlaces, longest, firstsWithin}
-use Rattle.rate_matching.proofs.Places.{dummies-add, place-lt, once-round, place-on-circle}
+use Rattle.rate_matching.specs.Places.{placeNumber, placeOf, longest}
+use Rattle.rate_matching.specs.Matrix.{headsFrom, headBegin, headWidth, headsWithin, rowStep, writtenAt, matrixWithin}
+use Rattle.rate_matching.proofs.Places.{dummies-add, place-lt, place-on-circle}
+use Rattle.rate_matching.proofs.Matrix.{dummies-some, written-is, place-by, head-at}
 use Rattle.slots.specs.State.{perBlock}
 use Rattle.slots.specs.Circle.{keptOn}
-use Rattle.reading.specs.Circle.{rowStep, placeBy, keptBy, Along, Streams, reachOf, Stretch}
+use Rattle.reading.specs.Circle.{placeBy, keptBy, Along, Streams, reachOf, Stretch}
 
--- q rows further by the plain rule
-plain-further : (R y q : ℕ) → plainPlace R (y + 32 * q) ≡ plainPlace R y + q
-unfolding plainPlace
-plain-further R y q = rw (column-same, row-further) (omega arith)
-  where
-    column-same : (y + 32 * q) % 32 ≡ y % 32
-    column-same = omega arith
-
-    row-further : (y + 32 * q) / 32 ≡ y / 32 + q
-    row-further = omega arith
-
--- the shifted rule before the wrap: where the place before it is read by the plain rule
-shifted-plain : (R y : ℕ) → y + 1 < 32 * R → shiftedPlace R (y + 1) ≡ plainPlace R y
-unfolding shiftedPlace
-shifted-plain R y h = ap (plainPlace R) (once-round (32 * R) y (y + 1 + (32 * R - 1)) (omega arith) (omega arith))
-
-dummies-some : {D : ℕ} → Streams D → 0 < dummies D
-unfolding dummies rows
-dummies-some w = omega (arith, w .bytes)
+-- where the columns of stream s begin
+abbrev pub heads : ℕ → ℕ → List CirclePlace
+heads D s = headsFrom (headBegin D s) (headWidth D s)
 
 module _ {D : ℕ} (w : Streams D) where
-  -- the y place of a stream's place, and the one before it
-  y-before : (i : ℕ) → dummies D + i ≡ dummies D - 1 + i + 1
-  y-before i = omega (arith, dummies-some w)
+  no-whole-row : D % 32 ≡ 0 → ⊥
+  no-whole-row e = omega (arith, w .bytes)
 
-  shifted-further : (i q : ℕ) → i + 32 * q < D → shiftedPlace (rows D) (dummies D + (i + 32 * q)) ≡ shiftedPlace (rows D) (dummies D + i) + q
-  shifted-further i q h =
-      ap (shiftedPlace (rows D)) (y-before (i + 32 * q))
-      ∙ shifted-plain (rows D) (dummies D - 1 + (i + 32 * q)) (omega (arith, dummies-add D, dummies-some w))
-      ∙ ap (plainPlace (rows D)) sums
-      ∙ plain-further (rows D) (dummies D - 1 + i) q
-      ∙ ap (λ (n : ℕ). n + q) (sym (ap (shiftedPlace (rows D)) (y-before i) ∙ shifted-plain (rows D) (dummies D - 1 + i) (omega (arith, dummies-add D, dummies-some w))))
-    where
-      sums : dummies D - 1 + (i + 32 * q) ≡ dummies D - 1 + i + 32 * q
-      sums = omega arith
+  -- places side by side in the stream are entries side by side
+  pub written-on : (s i : ℕ) → s < 3 → writtenAt D (s, i) ≡ dummies D - s / 2 + i
+  written-on s i u = omega (arith, written-is D s i, dummies-some D no-whole-row)
 
-  plain-from : (i q : ℕ) → plainPlace (rows D) (dummies D + (i + 32 * q)) ≡ plainPlace (rows D) (dummies D + i) + q
-  plain-from i q = ap (plainPlace (rows D)) sums ∙ plain-further (rows D) (dummies D + i) q
-    where
-      sums : dummies D + (i + 32 * q) ≡ dummies D + i + 32 * q
-      sums = omega arith
+  pub written-most : (s i : ℕ) → i ≤ D → writtenAt D (s, i) ≤ 32 * rows D
+  written-most s i h = omega (arith, written-is D s i, dummies-add D)
 
-  pub place-further : (s i q : ℕ) → s < 3 → i + 32 * q < D → placeNumber D s (i + 32 * q) ≡ placeNumber D s i + rowStep s * q
-  unfolding placeNumber rowStep
-  place-further zero i q u h = omega (arith, plain-from i q)
-  place-further (suc zero) i q u h = omega (arith, plain-from i q)
-  place-further (suc (suc zero)) i q u h = omega (arith, shifted-further i q h)
-  place-further (suc (suc (suc s))) i q u h = absurd (omega arith)
-
-  pub first-at : (s c : ℕ) → c < 32 → getD (firstPlaces D s) c (circlePlace 0) ≡ circlePlace (placeNumber D s c)
-  unfolding firstPlaces
-  first-at s c h = List·getD-map circlePlace (tab 32 (placeNumber D s)) c 0 ∙ ap circlePlace (getD-tab 32 (placeNumber D s) c 0 h)
-
-  -- from the first 32 places
-  pub place-by : (s i : ℕ) → s < 3 → i < D → placeBy (firstPlaces D s) (rowStep s) i ≡ placeNumber D s i
+  pub entry-place : (s i : ℕ) → s < 3 → i < D → placeBy (heads D s) (rowStep s) (writtenAt D (s, i)) ≡ placeNumber D s i
   unfolding placeBy
-  place-by s i u h = rw (first-at s (i % 32) (omega arith)) (sym (place-further s (i % 32) (i / 32) u (omega arith)) ∙ ap (placeNumber D s) (omega arith))
+  entry-place s i u h = rw (head-at (headBegin D s) (headWidth D s) (writtenAt D (s, i) % 32) (omega arith)) (sym (place-by D s i no-whole-row u h))
+
+  -- the place of the matrix, and its entry
+  pub matrix-there : (s i : ℕ) {m : MatrixPlace} → s < 3 → i < D → m ≡ matrixWithin D (s, i) → (m .column < 32) × (32 * m .row + m .column ≡ writtenAt D (s, i))
+  unfolding matrixWithin
+  matrix-there s i {m} u h e = rw is (omega arith, omega arith)
+    where
+      is : m ≡ record { row = writtenAt D (s, i) / 32; column = writtenAt D (s, i) % 32 }
+      is = e ∙ simp (le-leb D longest (w .most), ne-eqb (D % 32) 0 no-whole-row, le-leb s 2 (omega arith), lt-ltb i D h)
 
   first-there : (i : ℕ) → i < D → placeNumber D 0 i < 32 * rows D
   unfolding placeNumber
@@ -104,26 +77,35 @@ reach-last D s = either (eqb s 0)
     either true = omega arith
     either false = omega arith
 
--- the stretch of a stream lies on the circle
-pub along : {long D s i n : ℕ} → Stretch long D s i n → Along long (firstPlaces D s) (rowStep s) i n
+-- the entries of a stretch lie on the circle
+pub along : {long D s i n : ℕ} → Stretch long D s i n → Along long (heads D s) (rowStep s) (writtenAt D (s, i)) n
+unfolding rows
 along {long} {D} {s} {i} {n} w = record {
-  most = omega (arith, w .within, w .sized .most);
-  places = λ k a b. rw (place-by (w .sized) s k (w .stream) (omega (arith, w .within))) (omega (arith, w .room, place-there (w .sized) s k (w .stream) (omega (arith, w .within))));
+  most = omega (arith, written-on (w .sized) s i (w .stream), w .within, dummies-add D, w .sized .most);
+  places = λ k a b. let from = written-on (w .sized) s i (w .stream) in there k (omega (arith, from)) (omega (arith, from, w .within, w .begin)) (omega (arith, from));
 }
+  where
+    there : (k : ℕ) → dummies D - s / 2 ≤ k → k - (dummies D - s / 2) < D → dummies D - s / 2 + (k - (dummies D - s / 2)) ≡ k → placeBy (heads D s) (rowStep s) k < long
+    there k a b e =
+        let j : ℕ = k - (dummies D - s / 2) in
+        rw (← (written-on (w .sized) s j (w .stream) ∙ e), entry-place (w .sized) s j (w .stream) b) (omega (arith, place-there (w .sized) s j (w .stream) b, w .room))
 
--- what is read along it
-pub kept-along : {long D s i n : ℕ} (circle : List ℕ) → Stretch long D s i n → tabFrom i n (keptBy circle (firstPlaces D s) (rowStep s)) ≡ tabFrom i n (keptOn circle D s)
+-- what is read along them
+pub kept-along : {long D s i n : ℕ} (circle : List ℕ) → Stretch long D s i n → tabFrom (writtenAt D (s, i)) n (keptBy circle (heads D s) (rowStep s)) ≡ tabFrom i n (keptOn circle D s)
 unfolding keptBy keptOn
 kept-along {long} {D} {s} {i} {n} circle w =
-    tabFrom-ext i n (keptBy circle (firstPlaces D s) (rowStep s)) (keptOn circle D s)
-    (λ k a b. ap (λ (j : ℕ). getD circle j 0) (place-by (w .sized) s k (w .stream) (omega (arith, w .within))))
+    ap (λ (j : ℕ). tabFrom j n (keptBy circle (heads D s) (rowStep s))) (written-on (w .sized) s i (w .stream))
+    ∙ tabFrom-shift (dummies D - s / 2) i n (keptBy circle (heads D s) (rowStep s))
+    ∙ tabFrom-ext i n _ (keptOn circle D s)
+    (λ k a b. ap (λ (j : ℕ). getD circle j 0)
+    (ap (placeBy (heads D s) (rowStep s)) (sym (written-on (w .sized) s k (w .stream))) ∙ entry-place (w .sized) s k (w .stream) (omega (arith, w .within))))
 
--- the streams have them
-pub firsts-there : {long D s i n : ℕ} → Stretch long D s i n → firstsWithin D s ≡ firstPlaces D s
-unfolding firstsWithin
-firsts-there {long} {D} {s} w = simp (le-leb 32 D (omega (arith, w .sized .least)), le-leb D longest (w .sized .most), le-leb s 2 (omega (arith, w .stream)))
+-- the stream has them
+pub heads-there : {long D s i n : ℕ} → Stretch long D s i n → headsWithin D s ≡ heads D s
+unfolding headsWithin
+heads-there {long} {D} {s} w = simp (le-leb D longest (w .sized .most), le-leb s 2 (omega (arith, w .stream)))
 
 -- where stream 2 lies, so does each
 pub any-stream : {long D s i n : ℕ} → Stretch long D 2 i n → s < 3 → Stretch long D s i n
 unfolding reachOf
-any-stream {long} {D} {s} w u = record { sized = w .sized; stream = u; within = w .within; room = omega (arith, reach-last D s, w .room) }
+any-stream {long} {D} {s} w u = record { sized = w .sized; stream = u; begin = w .begin; within = w .within; room = omega (arith, reach-last D s, w .room) }

@@ -181,7 +181,7 @@ module _ (A : ℕ) {room b₀ b : List ℕ} {n right at r : ℕ} (below : r < bl
   part-long = length-mid at (at + holds (A + 24) r) b ends ∙ add-sub-cancel-left at (holds (A + 24) r)
 
   data-stretch : Stretch perBlock (sizeOf (A + 24) r + 4) 0 (fillerOf (A + 24) r) (length (midOf at (at + holds (A + 24) r - at) b))
-  data-stretch = stretch A good r 0 _ _ (omega arith) (omega (arith, part-long, filler-below A good r)) (omega arith)
+  data-stretch = stretch A good r 0 _ _ (omega arith) (omega (arith, filler-below A good r)) (omega (arith, part-long, filler-below A good r)) (omega arith)
 
   module _ {part : List ℕ} {x : ℕ}
       (e : part ≡ heardOn (circleAt r room) (sizeOf (A + 24) r) (fillerOf (A + 24) r) (length (midOf at (at + holds (A + 24) r - at) b)))

@@ -76,3 +76,19 @@ sumFrom-one f n c h g =
   where
     whole : n ≡ c + suc (n - (c + 1))
     whole = omega arith
+
+-- runs of R terms, one after another
+pub sumFrom-runs : (g : ℕ → ℕ) (R n : ℕ) → sumFrom (λ (c : ℕ). sumFrom g (c * R) R) 0 n ≡ sumFrom g 0 (n * R)
+unfolding sumFrom
+sumFrom-runs g R zero = ap (sumFrom g 0) none
+  where
+    none : 0 ≡ 0 * R
+    none = omega arith
+sumFrom-runs g R (suc n) =
+    ap (sumFrom (λ (c : ℕ). sumFrom g (c * R) R) 0) (sym (add-one n))
+    ∙ sumFrom-last (λ (c : ℕ). sumFrom g (c * R) R) 0 n
+    ∙ rw (sumFrom-runs g R n, zero-add n)
+    (sym (sumFrom-split g 0 (n * R) R ∙ ap (λ (i : ℕ). sumFrom g 0 (n * R) + sumFrom g i R) (zero-add (n * R))) ∙ ap (sumFrom g 0) more)
+  where
+    more : n * R + R ≡ suc n * R
+    more = omega arith

@@ -21,31 +21,34 @@ missingAt bytes k = missing (getD bytes k 0)
 unfoldable pub shownAt : List ℕ → ℕ → ℕ
 shownAt bytes k = shown (getD bytes k 0)
 
--- a row is one place of the circle in the part of stream 0, and two where streams 1 and 2 stand by turns
-unfoldable pub rowStep : ℕ → ℕ
-rowStep s = cond (eqb s 0) 1 2
-
--- where place i of a stream lies, from where its first 32 lie: i / 32 rows further
+-- where entry y of a matrix, which is written row by row, lies from where its columns begin: y / 32 rows further
 unfoldable pub placeBy : List CirclePlace → ℕ → ℕ → ℕ
-placeBy firsts step i = getD firsts (i % 32) (circlePlace 0) .0 + step * (i / 32)
+placeBy heads step y = getD heads (y % 32) (circlePlace 0) .0 + step * (y / 32)
 
--- the byte so far below the first place of column c
+-- the byte so far below the head of column p
 unfoldable pub keptBelow : List ℕ → List CirclePlace → ℕ → ℕ → ℕ
-keptBelow circle firsts below c = getD circle (getD firsts c (circlePlace 0) .0 + below) 0
+keptBelow circle heads below p = getD circle (getD heads p (circlePlace 0) .0 + below) 0
 
--- the byte where place i of a stream lies
+-- the byte where entry y lies
 unfoldable pub keptBy : List ℕ → List CirclePlace → ℕ → ℕ → ℕ
-keptBy circle firsts step i = getD circle (placeBy firsts step i) 0
+keptBy circle heads step y = getD circle (placeBy heads step y) 0
 
--- n columns from column c on have a place so far below their first on a circle of the length
-pub record AlongRow (long : ℕ) (firsts : List CirclePlace) (below c n : ℕ) : Type 0 where
+-- 1 where it lacks a bit; of stream 0, whose rows are one place apart
+unfoldable pub missingBelow : List ℕ → List CirclePlace → ℕ → ℕ → ℕ
+missingBelow circle heads row p = missing (keptBelow circle heads row p)
+
+unfoldable pub missingBy : List ℕ → List CirclePlace → ℕ → ℕ
+missingBy circle heads y = missing (keptBy circle heads 1 y)
+
+-- n columns from column c on have a place so far below their heads on a circle of the length
+pub record AlongRow (long : ℕ) (heads : List CirclePlace) (below c n : ℕ) : Type 0 where
   pub most : c + n ≤ 32
-  pub places : (k : ℕ) → c ≤ k → k < c + n → getD firsts k (circlePlace 0) .0 + below < long
+  pub places : (k : ℕ) → c ≤ k → k < c + n → getD heads k (circlePlace 0) .0 + below < long
 
--- these n places from place i on lie on a circle of the length
-pub record Along (long : ℕ) (firsts : List CirclePlace) (step i n : ℕ) : Type 0 where
-  pub most : i + n ≤ longest
-  pub places : (k : ℕ) → i ≤ k → k < i + n → placeBy firsts step k < long
+-- these n entries from entry y on lie on a circle of the length
+pub record Along (long : ℕ) (heads : List CirclePlace) (step y n : ℕ) : Type 0 where
+  pub most : y + n ≤ 32 * 193
+  pub places : (k : ℕ) → y ≤ k → k < y + n → placeBy heads step k < long
 
 -- D = K + 4 for a K of table 5.1.3-3: the sizes are multiples of 8
 pub record Streams (D : ℕ) : Type 0 where
@@ -61,6 +64,7 @@ reachOf D s = cond (eqb s 0) (32 * rows D) (circleLength (rows D))
 pub record Stretch (long D s i n : ℕ) : Type 0 where
   pub sized : Streams D
   pub stream : s < 3
+  pub begin : i < D
   pub within : i + n ≤ D
   pub room : reachOf D s ≤ long
 

@@ -1,7 +1,9 @@
 // What the circle of one code block keeps: the bytes of a stream, and how many of them lack a bit.
 use rate_matching::CirclePlace;
-use rate_matching::column_unit_at;
-use rate_matching::first_places;
+use rate_matching::StreamPlace;
+use rate_matching::circle_length;
+use rate_matching::column_heads;
+use rate_matching::matrix_place;
 ghost use mathlib.Core.Path.{_≡_};
 ghost use mathlib.Core.Bool.{cond};
 ghost use mathlib.Core.List.{_++_};
@@ -9,7 +11,7 @@ ghost use Prim.Native.Nat.{ℕ, _+_, _-_, _*_, _≤_, _<_};
 ghost use lib.ListN.{length, drop, replicate};
 ghost use Rattle.laws.specs.Lists.{tab, tabFrom};
 ghost use Rattle.slots.specs.Circle.{sumFrom, keptOn, missing, lackingOn, shown, streamOn, streamsOn};
-ghost use Rattle.reading.specs.Circle.{countable, missingAt, keptBelow, keptBy, shownAt, AlongRow, Along, Stretch};
+ghost use Rattle.reading.specs.Circle.{countable, missingAt, keptBelow, keptBy, missingBelow, missingBy, shownAt, AlongRow, Along, Stretch};
 
 // 1 where a byte of a room lacks a bit.
 fn missing(byte: u8) -> u8
@@ -46,86 +48,118 @@ pub(crate) fn count_missing(bytes: &[u8]) -> usize
     n + (count_few(&bytes[i..]) as usize)
 }
 
-// Fills `out` with what the circle keeps `below` places below the first places of a stream, from column `from` on.
-fn gather_row(circle: &[u8], firsts: [CirclePlace; 32], below: usize, from: usize, out: &mut [u8])
-    requires { ⌜ AlongRow (length (now circle)) firsts below from (length (now out)) ⌝ }
-    ensures { λ _. ⌜ now (out .exit) ≡ tabFrom from (length (now (out .entry))) (keptBelow (now (circle .entry)) firsts below) ⌝ }
+// Fills `out` with what the circle keeps `below` places below the heads of a stream's columns, from column `from` on.
+fn gather_row(circle: &[u8], heads: [CirclePlace; 32], below: usize, from: usize, out: &mut [u8])
+    requires { ⌜ AlongRow (length (now circle)) heads below from (length (now out)) ⌝ }
+    ensures { λ _. ⌜ now (out .exit) ≡ tabFrom from (length (now (out .entry))) (keptBelow (now (circle .entry)) heads below) ⌝ }
 {
     let mut k = 0;
     while k < out.len() {
-        let first = firsts[from + k];
-        out[k] = circle[first.0 + below];
+        let head = heads[from + k];
+        out[k] = circle[head.0 + below];
         k += 1;
     }
 }
 
-// Fills `out` with what the circle keeps for the stream's places from row `row` on, 32 places a row.
-fn gather_rows(circle: &[u8], firsts: [CirclePlace; 32], step: usize, row: usize, out: &mut [u8])
-    requires { ⌜ (step ≤ 2) × Along (length (now circle)) firsts step (32 * row) (length (now out)) ⌝ }
-    ensures { λ _. ⌜ now (out .exit) ≡ tabFrom (32 * row) (length (now (out .entry))) (keptBy (now (circle .entry)) firsts step) ⌝ }
+// Fills `out` with what the circle keeps for the entries of a stream's matrix from row `row` on, 32 a row.
+fn gather_rows(circle: &[u8], heads: [CirclePlace; 32], step: usize, row: usize, out: &mut [u8])
+    requires { ⌜ (step ≤ 2) × Along (length (now circle)) heads step (32 * row) (length (now out)) ⌝ }
+    ensures { λ _. ⌜ now (out .exit) ≡ tabFrom (32 * row) (length (now (out .entry))) (keptBy (now (circle .entry)) heads step) ⌝ }
 {
     let mut below = step * row;
     let mut at = 0;
     while 32 <= out.len() - at {
         let end = at + 32;
-        gather_row(circle, firsts, below, 0, &mut out[at..end]);
+        gather_row(circle, heads, below, 0, &mut out[at..end]);
         at = end;
         below += step;
     }
-    gather_row(circle, firsts, below, 0, &mut out[at..]);
+    gather_row(circle, heads, below, 0, &mut out[at..]);
 }
 
-// Fills `out` with what the circle keeps for the stream's places from `from` on. Place i lies i / 32 rows below its column's first.
-fn gather(circle: &[u8], firsts: [CirclePlace; 32], step: usize, from: usize, out: &mut [u8])
-    requires { ⌜ (step ≤ 2) × Along (length (now circle)) firsts step from (length (now out)) ⌝ }
-    ensures { λ _. ⌜ now (out .exit) ≡ tabFrom from (length (now (out .entry))) (keptBy (now (circle .entry)) firsts step) ⌝ }
+// Fills `out` with what the circle keeps for the entries of a stream's matrix from a row and a column on.
+fn gather(
+    circle: &[u8],
+    heads: [CirclePlace; 32],
+    step: usize,
+    row: usize,
+    column: usize,
+    out: &mut [u8],
+)
+    requires { ⌜ (step ≤ 2) × (column < 32) × Along (length (now circle)) heads step (32 * row + column) (length (now out)) ⌝ }
+    ensures { λ _. ⌜ now (out .exit) ≡ tabFrom (32 * row + column) (length (now (out .entry))) (keptBy (now (circle .entry)) heads step) ⌝ }
 {
-    let row = from / 32;
-    let column = from % 32;
     let left = 32 - column;
     if out.len() <= left {
-        gather_row(circle, firsts, step * row, column, out);
+        gather_row(circle, heads, step * row, column, out);
         return;
     }
-    gather_row(circle, firsts, step * row, column, &mut out[..left]);
-    gather_rows(circle, firsts, step, row + 1, &mut out[left..]);
+    gather_row(circle, heads, step * row, column, &mut out[..left]);
+    gather_rows(circle, heads, step, row + 1, &mut out[left..]);
 }
 
-// Fills `out` with what the circle keeps for the places of stream s from `from` on, of streams of d places.
-pub(crate) fn read_stream(circle: &[u8], d: usize, s: usize, from: usize, out: &mut [u8])
-    requires { ⌜ Stretch (length (now circle)) d s from (length (now out)) ⌝ }
-    ensures { λ _. ⌜ now (out .exit) ≡ tabFrom from (length (now (out .entry))) (keptOn (now (circle .entry)) d s) ⌝ }
+// Fills `out` with what the circle keeps for the places of a stream of d places from `from` on: row by row, since a row's places lie in the columns' order.
+pub(crate) fn read_stream(circle: &[u8], d: usize, from: StreamPlace, out: &mut [u8])
+    requires { ⌜ Stretch (length (now circle)) d (from .0) (from .1) (length (now out)) ⌝ }
+    ensures { λ _. ⌜ now (out .exit) ≡ tabFrom (from .1) (length (now (out .entry))) (keptOn (now (circle .entry)) d (from .0)) ⌝ }
 {
-    let step = if s == 0 { 1 } else { 2 };
-    gather(circle, first_places(d, s), step, from, out);
+    let stream = from.0;
+    let step = if stream == 0 { 1 } else { 2 };
+    let at = matrix_place(d, from);
+    gather(
+        circle,
+        column_heads(d, stream),
+        step,
+        at.row,
+        at.column,
+        out,
+    );
 }
 
-// How many places of the circle from `from` to `to` lack a bit. The byte of a place has its number.
-fn count_places(circle: &[u8], from: CirclePlace, to: CirclePlace) -> usize
-    requires { ⌜ (from .0 ≤ to .0) × (to .0 ≤ length (now circle)) × (to .0 ≤ from .0 + 255) ⌝ }
-    ensures { λ r. ⌜ r ≡ sumFrom (missingAt (now (circle .entry))) (from .0) (to .0 - from .0) ⌝ }
+// How many entries of row `row` of stream 0's matrix lack a bit, from column `from` to column `to`.
+fn count_row(circle: &[u8], heads: [CirclePlace; 32], row: usize, from: usize, to: usize) -> usize
+    requires { ⌜ (from ≤ to) × AlongRow (length (now circle)) heads row from (to - from) ⌝ }
+    ensures { λ r. ⌜ r ≡ sumFrom (missingBelow (now (circle .entry)) heads row) from (to - from) ⌝ }
 {
-    let start = from.0;
-    let end = to.0;
-    count_few(&circle[start..end]) as usize
+    let mut n: usize = 0;
+    let mut p = from;
+    while p < to {
+        let head = heads[p];
+        n += missing(circle[head.0 + row]) as usize;
+        p += 1;
+    }
+    n
 }
 
-// How many data places of a code block of size k lack a bit, the first f being filler: column by column, since a column's lie side by side. The tail bits
-// behind them begin where the bits would if all k were filler.
+// How many entries of stream 0's matrix lack a bit before a row and a column.
+fn count_before(circle: &[u8], heads: [CirclePlace; 32], row: usize, column: usize) -> usize
+    requires { ⌜ (column < 32) × Along (length (now circle)) heads 1 0 (32 * row + column) ⌝ }
+    ensures { λ r. ⌜ r ≡ sumFrom (missingBy (now (circle .entry)) heads) 0 (32 * row + column) ⌝ }
+{
+    let mut n = 0;
+    let mut above = 0;
+    while above < row {
+        n += count_row(circle, heads, above, 0, 32);
+        above += 1;
+    }
+    n + count_row(circle, heads, row, 0, column)
+}
+
+// How many data places of a code block of size k lack a bit, the first f being filler. Stream 0 has the front of the circle, so that all of it is counted, many
+// places at a time, and what is no data place is taken off: the dummies and the filler, which are the first entries of the matrix, and the tail bits, the last.
 pub(crate) fn lacking_on(circle: &[u8], k: usize, f: usize) -> usize
     requires { ⌜ (f ≤ k) × Stretch (length (now circle)) (k + 4) 0 f (k - f) ⌝ }
     ensures { λ r. ⌜ r ≡ lackingOn (now (circle .entry)) k f ⌝ }
 {
     let d = k + 4;
-    let mut n = 0;
-    let mut c = 0;
-    while c < 32 {
-        let data = column_unit_at(d, f, c);
-        let tail = column_unit_at(d, k, c);
-        n += count_places(circle, data.both, tail.both);
-        c += 1;
-    }
-    n
+    let heads = column_heads(d, 0);
+    let tail = matrix_place(d, StreamPlace(0, k));
+    let end = 32 * (tail.row + 1);
+    let all = count_missing(&circle[..end]);
+    let data = matrix_place(d, StreamPlace(0, f));
+    let front = count_before(circle, heads, data.row, data.column);
+    let back = count_row(circle, heads, tail.row, tail.column, 32);
+    all - front - back
 }
 
 // The same for any numbers: 0 where there is no such code block, or the circle is too short for it.
@@ -135,9 +169,7 @@ pub fn lacking_of(circle: &[u8], k: usize, f: usize) -> usize
     if k > 6144 {
         return 0;
     }
-    let d = k + 4;
-    let rows = (d + 31) / 32;
-    let there = (40 <= k) & (k % 8 == 0) & (f <= k) & (96 * rows <= circle.len());
+    let there = (40 <= k) & (k % 8 == 0) & (f <= k) & (circle_length(k + 4) <= circle.len());
     if there {
         return lacking_on(circle, k, f);
     }
@@ -179,7 +211,7 @@ fn stream(circle: &[u8], d: usize, s: usize, f: usize, out: &mut [u8])
     requires { ⌜ (f ≤ d) × (length (now out) ≡ d) × Stretch (length (now circle)) d s 0 d ⌝ }
     ensures { λ _. ⌜ now (out .exit) ≡ tab d (streamOn (now (circle .entry)) d f s) ⌝ }
 {
-    read_stream(circle, d, s, 0, out);
+    read_stream(circle, d, StreamPlace(s, 0), out);
     show(out);
     if s < 2 {
         clear(out, f);

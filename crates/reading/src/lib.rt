@@ -8,4 +8,3 @@ pub use calls::read_packed;
 pub use calls::streams;
 pub use calls::streams_packed;
 pub use circle::lacking_of;
-pub use room::lacking_in;

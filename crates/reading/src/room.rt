@@ -2,10 +2,10 @@
 use crate::circle;
 use packing::bytes_a_block;
 use packing::unpack_places;
+use rate_matching::StreamPlace;
 use segmentation::Segments;
 use segmentation::block;
 use slot_calls::states;
-use slot_calls::states::PER_BLOCK;
 use slots::Answer;
 ghost use mathlib.Core.Path.{_≡_};
 ghost use mathlib.Core.Bool.{true, cond, _&&_, _||_};
@@ -21,30 +21,6 @@ ghost use Rattle.packing.specs.Store.{placesIn};
 ghost use Rattle.reading.specs.Circle.{Stretch};
 ghost use Rattle.reading.specs.inner.Form.{streamMost, Unpacks, Circles};
 ghost use Rattle.reading.specs.Room.{roomFits, roomOutput};
-
-// How many data places of a block of `a` bits lack a bit; 0 where `a` is out of range or the room is too short for it.
-pub fn lacking_in(a: usize, room: &[u8]) -> usize
-    ensures { λ r. ⌜ r ≡ cond (roomFits a (length (now (room .entry)))) (lacking a (now (room .entry))) 0 ⌝ }
-{
-    let s = segmentation::segments_for(a);
-    if room.len() < s.blocks * PER_BLOCK {
-        return 0;
-    }
-    let mut n = 0;
-    let mut from = 0;
-    let mut r = 0;
-    while r < s.blocks {
-        let to = from + PER_BLOCK;
-        n += circle::lacking_on(
-            &room[from..to],
-            block::size_of(s, r),
-            block::filler_of(s, r),
-        );
-        from = to;
-        r += 1;
-    }
-    n
-}
 
 // L: each of several code blocks ends in 24 check bits of its own.
 fn check_length(s: Segments) -> usize
@@ -100,10 +76,10 @@ fn read_data(
     if four {
         let to = from + 8 * ((k + 35) / 32);
         unpack_places(&room[from..to], circle);
-        circle::read_stream(circle, k + 4, 0, f, out);
+        circle::read_stream(circle, k + 4, StreamPlace(0, f), out);
     } else {
         let to = from + long;
-        circle::read_stream(&room[from..to], k + 4, 0, f, out);
+        circle::read_stream(&room[from..to], k + 4, StreamPlace(0, f), out);
     }
 }
 

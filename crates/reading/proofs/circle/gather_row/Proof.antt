@@ -11,10 +11,10 @@ use Rattle.reading.proofs.circle.gather_row.Statement.{statement}
 use Rattle.reading.proofs.circle.gather_row.Tie as tie
 
 abbrev Inv-loop : tie.InvT-loop
-Inv-loop circle below from out₀ firsts k₀ out k = Gathering (keptBelow circle firsts below) from out₀ out k
+Inv-loop circle below from out₀ heads k₀ out k = Gathering (keptBelow circle heads below) from out₀ out k
 
 abbrev μ-loop : tie.MeasureT-loop
-μ-loop circle below from out₀ firsts k₀ out k = length out₀ - k
+μ-loop circle below from out₀ heads k₀ out k = length out₀ - k
 
 -- the ways back
 abbrev at-start : tie.At-loop Inv-loop μ-loop → tie.Start Inv-loop μ-loop
@@ -34,14 +34,14 @@ lies c = at-start (c .before) .pre .places (at-start (c .before) .args .from + c
 loop-holds : tie.Need-loop-holds Inv-loop μ-loop
 loop-holds c = gathering-start
 
-add-first : tie.Need-add-first Inv-loop μ-loop
-add-first c = omega arith
+add-head : tie.Need-add-head Inv-loop μ-loop
+add-head c = omega arith
 
-mul-first : tie.Need-mul-first Inv-loop μ-loop
-mul-first c = omega arith
+mul-head : tie.Need-mul-head Inv-loop μ-loop
+mul-head c = omega arith
 
-array-copy-out-first : tie.Need-array-copy-out-first Inv-loop μ-loop
-array-copy-out-first c = omega arith
+array-copy-out-head : tie.Need-array-copy-out-head Inv-loop μ-loop
+array-copy-out-head c = omega arith
 
 add-out : tie.Need-add-out Inv-loop μ-loop
 add-out c = omega (arith, lies (at-turn-from-add-out c))
@@ -75,9 +75,9 @@ gather-row-spec =
     Inv-loop
     μ-loop
     loop-holds
-    add-first
-    mul-first
-    array-copy-out-first
+    add-head
+    mul-head
+    array-copy-out-head
     add-out
     shared-slice-read-out
     slice-write-out

@@ -9,10 +9,10 @@ use Rattle.reading.proofs.circle.gather_rows.Statement.{statement}
 use Rattle.reading.proofs.circle.gather_rows.Tie as tie
 
 abbrev Inv-loop : tie.InvT-loop
-Inv-loop circle firsts step row out₀ below₀ at₀ out below at = Rowing circle firsts step row out₀ out below at
+Inv-loop circle heads step row out₀ below₀ at₀ out below at = Rowing circle heads step row out₀ out below at
 
 abbrev μ-loop : tie.MeasureT-loop
-μ-loop circle firsts step row out₀ below₀ at₀ out below at = length out₀ - at
+μ-loop circle heads step row out₀ below₀ at₀ out below at = length out₀ - at
 
 -- the ways back
 abbrev at-start-from-mul-below : tie.After-slice-known Inv-loop μ-loop → tie.Start Inv-loop μ-loop

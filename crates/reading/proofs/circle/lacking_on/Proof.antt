@@ -1,93 +1,127 @@
--- `circle::lacking_on` meets its contract: the columns passed are added up (`Lacking`).
+-- `circle::lacking_on` meets its contract: all of stream 0 is what stands before the data places, what lacks of them, and what stands behind them (`Lacking`).
 -- Assumes nothing.
-use mathlib.Core.Path.{_≡_, _∙_}
-use Prim.Native.Nat.{_+_, _-_, _*_, _≤_, _<_}
+use mathlib.Core.Path.{_≡_, refl, _∙_, ap}
+use mathlib.Core.List.{List}
+use Prim.Native.Nat.{_+_, _-_, _*_, _≤_}
 use native.Mathlib.Omega.{arith}
 use lib.ListN.{length}
-use Rattle.rate_matching.specs.Columns.{column}
-use Rattle.rate_matching.specs.SubBlocks.{rows, dummies, rowsBefore}
-use Rattle.rate_matching.proofs.UnitPlaces as units
-use Rattle.rate_matching.proofs.UnitPlaces.{column-begins}
-use Rattle.reading.proofs.Sums.{Summing, start, next, finish}
-use Rattle.reading.proofs.Lacking.{inPart, parts-sum, column-there, column-few, column-is}
+use borrow.Author.Needs.{needs}
+use Rattle.laws.proofs.Parts.{front-count}
+use Rattle.rate_matching.specs.declared.CirclePlace.{CirclePlace}
+use Rattle.slots.specs.Circle.{sumFrom, lackingOn}
+use Rattle.reading.specs.Circle.{missingBelow, missingBy}
+use Rattle.reading.proofs.Rows.{heads-there}
+use Rattle.reading.proofs.Lacking.{tail-last, bits-first, stream-fits, front-needs, back-needs, all-parts}
 use Rattle.reading.proofs.circle.lacking_on.Statement.{statement}
 use Rattle.reading.proofs.circle.lacking_on.Tie as tie
 
-abbrev Inv-loop : tie.InvT-loop
-Inv-loop circle k f d n₀ c₀ n c = Summing (inPart circle k f) 32 193 c n
+-- the ways back
+abbrev at-start : tie.After-column-heads → tie.Start
+at-start c = c .before .before
 
-abbrev μ-loop : tie.MeasureT-loop
-μ-loop circle k f d n₀ c₀ n c = 32 - c
+abbrev at-heads : tie.After-matrix-place → tie.After-column-heads
+at-heads c = c .before
 
--- with both units: the function's entry, where the column's data places lie, and what is counted of them
-abbrev entry : tie.After-column-unit-at2 Inv-loop μ-loop → tie.Start Inv-loop μ-loop
-entry c = c .before .before .before .before .before
+abbrev at-tail : tie.After-count-missing-arg → tie.After-matrix-place
+at-tail c = c .before .before
 
-low : (c : tie.After-column-unit-at2 Inv-loop μ-loop) → c .before .before .before .loop .c < 32
-low c = omega (arith, c .before .before .loop-test .taken)
+abbrev at-all : tie.After-matrix-place2 → tie.After-count-missing
+at-all c = c .before
 
-begins : (c : tie.After-column-unit-at2 Inv-loop μ-loop) → let k = entry c .args .k in let u = c .before .before .before .loop .c in
-    c .before .column-unit-at .result .both .0 ≡ u * rows (k + 4) + rowsBefore (dummies (k + 4) + entry c .args .f) (column u)
-begins c = let s = entry c in column-begins _ (s .pre .1 .sized .most) (omega (arith, s .pre .0)) (c .before .column-unit-at .ensures ∙ units.column-is _ _ (low c)) (low c)
+abbrev at-bits : tie.After-count-before → tie.After-matrix-place2
+at-bits c = c .before
 
-ends : (c : tie.After-column-unit-at2 Inv-loop μ-loop) → let k = entry c .args .k in let u = c .before .before .before .loop .c in
-    c .column-unit-at2 .result .both .0 ≡ u * rows (k + 4) + rowsBefore (dummies (k + 4) + k) (column u)
-ends c = let s = entry c in column-begins _ (s .pre .1 .sized .most) (omega arith) (c .column-unit-at2 .ensures ∙ units.column-is _ _ (low c)) (low c)
+abbrev at-front : tie.After-count-row → tie.After-count-before
+at-front c = c .before
 
-there : (c : tie.After-column-unit-at2 Inv-loop μ-loop) → let from = c .before .column-unit-at .result .both .0 in let to = c .column-unit-at2 .result .both .0 in
-    (from ≤ to) × (to ≤ length (entry c .args .circle .now)) × (to ≤ from + 193)
-there c = let s = entry c in column-there (s .args .circle .now) (s .pre .0) (s .pre .1) (low c) (begins c) (ends c)
+-- the end of stream 0 is on the circle
+end-fits : (c : tie.After-matrix-place) → let end = 32 * (c .matrix-place .result .row + 1) in (end ≤ length (at-start (at-heads c) .args .circle .now)) × (end ≤ 6176)
+end-fits c =
+    let s = at-start (at-heads c) in
+    let l = tail-last (s .args .circle .now) (s .pre .0) (s .pre .1) (c .matrix-place .ensures) refl .1 in
+    let f = stream-fits (s .args .circle .now) (s .pre .0) (s .pre .1) (c .matrix-place .ensures) refl in
+    (omega (arith, l, f), omega (arith, l, f))
 
-counted : (c : tie.After-count-places Inv-loop μ-loop) → (c .count-places .result ≤ 193)
-    × (c .count-places .result ≡ inPart (entry (c .before) .args .circle .now) (entry (c .before) .args .k) (entry (c .before) .args .f) (c .before .before .before .before .loop .c))
-counted c =
-    let u = c .before in
-    let s = entry u in
-    (column-few _ (s .pre .0) (s .pre .1) (low u) (begins u) (ends u) (c .count-places .ensures), column-is _ (s .pre .0) (s .pre .1) (low u) (begins u) (ends u) (c .count-places .ensures))
+-- the counts add up
+parts : (c : tie.After-count-row) → let s = at-start (at-heads (at-tail (at-all (at-bits (at-front c)) .before))) in
+    at-all (at-bits (at-front c)) .count-missing .result
+    ≡ at-front c .count-before .result + (lackingOn (s .args .circle .now) (s .args .k) (s .args .f) + c .count-row .result)
+parts c =
+    let bits = at-bits (at-front c) in
+    let tail = at-tail (at-all bits .before) in
+    let s = at-start (at-heads tail) in
+    let found = at-heads tail .column-heads .ensures ∙ heads-there (s .pre .1) in
+    let first = bits .matrix-place2 .result in
+    let last = tail .matrix-place .result in
+    all-parts (s .args .circle .now) (s .pre .0) (s .pre .1) (tail .matrix-place .ensures) (bits .matrix-place2 .ensures) (at-all bits .count-missing .ensures)
+    (at-front c .count-before .ensures ∙ ap (λ (hs : List CirclePlace). sumFrom (missingBy (s .args .circle .now) hs) 0 (32 * first .row + first .column)) found)
+    (c .count-row .ensures ∙ ap (λ (hs : List CirclePlace). sumFrom (missingBelow (s .args .circle .now) hs (last .row)) (last .column) (32 - last .column)) found)
 
-add-d : tie.Need-add-d Inv-loop μ-loop
-add-d c = omega (arith, c .before .pre .1 .sized .most)
+add-d : tie.Need-add-d
+add-d c = search needs
 
-loop-holds : tie.Need-loop-holds Inv-loop μ-loop
-loop-holds c = start
+column-heads-requires : tie.Need-column-heads-requires
+column-heads-requires c κs = search needs
 
-column-unit-at-requires : tie.Need-column-unit-at-requires Inv-loop μ-loop
-column-unit-at-requires c κs = tt
+matrix-place-requires : tie.Need-matrix-place-requires
+matrix-place-requires c κs = search needs
 
-column-unit-at-requires-2 : tie.Need-column-unit-at-requires-2 Inv-loop μ-loop
-column-unit-at-requires-2 c κs = tt
+add-end : tie.Need-add-end
+add-end c = omega (arith, end-fits (c .before) .1)
 
-count-places-requires : tie.Need-count-places-requires Inv-loop μ-loop
-count-places-requires c κs = let t = there c in (t .0, t .1, omega (arith, t .2))
+mul-end : tie.Need-mul-end
+mul-end c = omega (arith, end-fits (c .before) .1)
 
-add-n : tie.Need-add-n Inv-loop μ-loop
-add-n c = omega (arith, counted c .0, c .before .before .before .before .loop .inv .few)
+slice-aggregate-count-missing : tie.Need-slice-aggregate-count-missing
+slice-aggregate-count-missing c = front-count _ _ (end-fits (at-tail c) .0)
 
-add-c : tie.Need-add-c Inv-loop μ-loop
-add-c c = omega arith
+count-missing-requires : tie.Need-count-missing-requires
+count-missing-requires c κs = search needs
 
-loop-less : tie.Need-loop-less Inv-loop μ-loop
-loop-less c = omega arith
+matrix-place-requires-2 : tie.Need-matrix-place-requires-2
+matrix-place-requires-2 c κs = search needs
 
-loop-again : tie.Need-loop-again Inv-loop μ-loop
-loop-again c = next (omega arith) (counted c .1) (counted c .0) (c .before .before .before .before .loop .inv)
+count-before-requires : tie.Need-count-before-requires
+count-before-requires c κs =
+    let tail = at-tail (at-all c .before) in
+    let s = at-start (at-heads tail) in
+    let t = tail .matrix-place .ensures in (
+      bits-first (s .args .circle .now) (s .pre .0) (s .pre .1) t (c .matrix-place2 .ensures) .0,
+      rw (at-heads tail .column-heads .ensures ∙ heads-there (s .pre .1)) (front-needs (s .args .circle .now) (s .pre .0) (s .pre .1) t (c .matrix-place2 .ensures)),
+    )
 
-returns : tie.Need-returns Inv-loop μ-loop
-returns c = let s = c .before .before .before in finish (omega arith) (c .before .loop .inv) ∙ parts-sum _ _ _ (s .pre .0)
+count-row-requires : tie.Need-count-row-requires
+count-row-requires c κs =
+    let tail = at-tail (at-all (at-bits c) .before) in
+    let s = at-start (at-heads tail) in
+    let t = tail .matrix-place .ensures in (
+      omega (arith, tail-last (s .args .circle .now) (s .pre .0) (s .pre .1) t refl .0),
+      rw (at-heads tail .column-heads .ensures ∙ heads-there (s .pre .1)) (back-needs (s .args .circle .now) (s .pre .0) (s .pre .1) t refl),
+    )
+
+sub-result : tie.Need-sub-result
+sub-result c = omega (arith, parts c)
+
+sub-result-2 : tie.Need-sub-result-2
+sub-result-2 c = omega (arith, parts c)
+
+returns : tie.Need-returns
+returns c = omega (arith, parts c)
 
 pub lacking-on-spec : {M : Type 1} → statement M
 lacking-on-spec =
     tie.close
     (tie.spec
-    Inv-loop
-    μ-loop
     add-d
-    loop-holds
-    column-unit-at-requires
-    column-unit-at-requires-2
-    count-places-requires
-    add-n
-    add-c
-    loop-less
-    loop-again
+    column-heads-requires
+    matrix-place-requires
+    add-end
+    mul-end
+    slice-aggregate-count-missing
+    count-missing-requires
+    matrix-place-requires-2
+    count-before-requires
+    count-row-requires
+    sub-result
+    sub-result-2
     returns)

@@ -8,8 +8,8 @@ use native.Mathlib.Omega.{arith}
 use lib.Dec.{eqb}
 use borrow.Author.Tests.{eq-eqb, ne-eqb}
 use borrow.Author.Needs.{needs}
-use Rattle.reading.specs.Circle.{rowStep}
-use Rattle.reading.proofs.Rows.{along, kept-along, firsts-there}
+use Rattle.rate_matching.specs.Matrix.{rowStep}
+use Rattle.reading.proofs.Rows.{along, kept-along, heads-there, matrix-there}
 use Rattle.reading.proofs.circle.read_stream.Statement.{statement}
 use Rattle.reading.proofs.circle.read_stream.Tie as tie
 
@@ -17,13 +17,16 @@ use Rattle.reading.proofs.circle.read_stream.Tie as tie
 abbrev at-start : tie.Joined1 → tie.Start
 at-start c = c .before .before .before
 
-abbrev at-joined1 : tie.After-first-places → tie.Joined1
+abbrev at-joined1 : tie.After-matrix-place → tie.Joined1
 at-joined1 c = c .before
 
-abbrev at-first-places : tie.After-gather-arg → tie.After-first-places
-at-first-places c = c .before
+abbrev at-matrix-place : tie.After-column-heads → tie.After-matrix-place
+at-matrix-place c = c .before
 
-step-is : (c : tie.Joined1) → c .if1 .step ≡ rowStep (at-start c .args .s)
+abbrev at-column-heads : tie.After-gather-arg → tie.After-column-heads
+at-column-heads c = c .before
+
+step-is : (c : tie.Joined1) → c .if1 .step ≡ rowStep (at-start c .args .from .0)
 unfolding rowStep
 step-is c = ⊎-elim (λ w. rw (eq-eqb _ 0 (w .0 .taken)) (w .1)) (λ w. rw (ne-eqb _ 0 (w .0 .left)) (w .1)) (c .if1 .came)
 
@@ -35,13 +38,20 @@ step-few s = go (eqb s 0)
     go true = omega arith
     go false = omega arith
 
-first-places-requires : tie.Need-first-places-requires
-first-places-requires c κs = search needs
+matrix-place-requires : tie.Need-matrix-place-requires
+matrix-place-requires c κs = search needs
+
+column-heads-requires : tie.Need-column-heads-requires
+column-heads-requires c κs = search needs
 
 gather-requires : tie.Need-gather-requires
 gather-requires c κs =
-    let w = at-start (at-joined1 (at-first-places c)) .pre in
-    rw (at-first-places c .first-places .ensures ∙ firsts-there w, step-is (at-joined1 (at-first-places c))) (step-few _, along w)
+    let heads = at-column-heads c in
+    let matrix = at-matrix-place heads in
+    let joined = at-joined1 matrix in
+    let w = at-start joined .pre in
+    let m = matrix-there (w .sized) _ _ (w .stream) (w .begin) (matrix .matrix-place .ensures) in
+    rw (heads .column-heads .ensures ∙ heads-there w, step-is joined, m .1) (step-few _, m .0, along w)
 
 same-length : tie.Need-same-length
 same-length c = search needs
@@ -49,9 +59,15 @@ same-length c = search needs
 returns : tie.Need-returns
 returns c =
     let gather = c .before .before in
-    let found = at-first-places (gather .before) in
-    let entry = at-start (at-joined1 found) in
-    gather .gather .ensures ∙ rw (found .first-places .ensures ∙ firsts-there (entry .pre), step-is (at-joined1 found)) (kept-along (entry .args .circle .now) (entry .pre))
+    let heads = at-column-heads (gather .before) in
+    let matrix = at-matrix-place heads in
+    let joined = at-joined1 matrix in
+    let entry = at-start joined in
+    let w = entry .pre in
+    let m = matrix-there (w .sized) _ _ (w .stream) (w .begin) (matrix .matrix-place .ensures) in
+    gather .gather .ensures ∙ rw (heads .column-heads .ensures ∙ heads-there w, step-is joined, m .1) (kept-along (entry .args .circle .now) w)
 
 pub read-stream-spec : {M : Type 1} → statement M
-read-stream-spec = tie.close (tie.spec first-places-requires gather-requires same-length returns)
+read-stream-spec =
+    tie.close
+    (tie.spec matrix-place-requires column-heads-requires gather-requires same-length returns)
