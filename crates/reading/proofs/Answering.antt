@@ -28,7 +28,7 @@ use Rattle.codeword.specs.Build.{outputRule}
 use Rattle.slots.specs.Calls.{codeBlockRule, storeRules, ownerRules, sizeAtHead, readNumber, readOutcome, released, readOutput, streamsNumber, streamsOutcome, streamsOutput}
 use Rattle.slots.specs.Reading.{heardAnswer, heardBlock, threeStreams}
 use Rattle.slots.proofs.Accepted.{Fitting, Stored, stored, owned, served}
-use Rattle.reading.specs.Circle.{Stretch}
+use Rattle.kept_bits.specs.inner.Rows.{Stretch}
 use Rattle.reading.specs.Room.{roomFits, roomOutput}
 use Rattle.reading.proofs.Blocks.{streams, filler-below, stretch, blocks-told, size-told, filler-told}
 use Rattle.reading.proofs.Lent.{circle-in-store, answer-lent, block-lent, room-fits}

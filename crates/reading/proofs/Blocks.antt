@@ -2,7 +2,8 @@
 -- Assumes nothing.
 use mathlib.Core.Path.{_≡_, refl, _∙_, ap}
 use mathlib.Core.Bool.{Bool, true, false, cond}
-use Prim.Native.Nat.{ℕ, _+_, _≤_, _<_}
+use mathlib.Core.List.{List}
+use Prim.Native.Nat.{ℕ, _+_, _-_, _≤_, _<_}
 use native.Mathlib.Omega.{arith}
 use lib.Dec.{eqb, ltb}
 use Rattle.interleaver.proofs.Rows.{Row, row-keeps}
@@ -12,8 +13,13 @@ use Rattle.segmentation.specs.Sizes.{badSize, segmentsOf, segmentsFor, noSegmen
 use Rattle.segmentation.proofs.Segmentation.{in-range, blocks-most, row-below, size-row}
 use Rattle.segmentation.proofs.CodeBlocks.{filler-within}
 use Rattle.slots.specs.State.{perBlock}
-use Rattle.reading.specs.Circle.{Streams, Stretch}
-use Rattle.reading.proofs.Rows.{reach-most}
+use Rattle.slots.specs.Room.{circleAt}
+use Rattle.slots.specs.Circle.{keptOn, missingOn, lackingOn}
+use Rattle.slots.specs.Reading.{lackingIn}
+use Rattle.slots.proofs.Sums.{sumFrom-most}
+use Rattle.kept_bits.specs.inner.Rows.{Streams, Stretch}
+use Rattle.kept_bits.proofs.Bytes.{missing-le}
+use Rattle.kept_bits.proofs.Rows.{reach-most}
 
 -- ---- a block of A bits, A in range
 
@@ -36,6 +42,17 @@ module _ (A : ℕ) (admitted : badSize A ≡ false) where
   -- n places of stream s from place i on
   pub stretch : (r s i n : ℕ) {long : ℕ} → s < 3 → i < sizeOf (A + 24) r + 4 → i + n ≤ sizeOf (A + 24) r + 4 → perBlock ≤ long → Stretch long (sizeOf (A + 24) r + 4) s i n
   stretch r s i n u b h l = record { sized = streams r; stream = u; begin = b; within = h; room = omega (arith, l, reach-most s (streams r .most)) }
+
+  -- no count of a code block is above 6,144
+  pub block-few : (r : ℕ) (room : List ℕ) → lackingIn (A + 24) room r ≤ 6144
+  unfolding lackingIn lackingOn missingOn
+  block-few r room =
+      omega (
+        arith,
+        sumFrom-most (missingOn (circleAt r room) (sizeOf (A + 24) r + 4)) (fillerOf (A + 24) r) (sizeOf (A + 24) r - fillerOf (A + 24) r)
+            (λ i. missing-le (keptOn (circleAt r room) (sizeOf (A + 24) r + 4) 0 i)),
+        streams r .most,
+      )
 
 -- ---- the segmentation s of a block of A bits, nothing where A is out of range
 

@@ -23,9 +23,10 @@ use Rattle.packing.proofs.Stores.{places-are, places-mid, asked-enough}
 use Rattle.rate_matching.specs.SubBlocks.{rows}
 use Rattle.rate_matching.specs.Circle.{circleLength}
 use Rattle.slots.proofs.RoomLaws.{circle-entry}
-use Rattle.reading.specs.Circle.{Streams, reachOf, Stretch}
+use Rattle.kept_bits.specs.Circle.{reachOf}
+use Rattle.kept_bits.specs.inner.Rows.{Streams, Stretch}
 use Rattle.reading.specs.inner.Form.{Circles}
-use Rattle.reading.proofs.Rows.{reach-most, reach-last}
+use Rattle.kept_bits.proofs.Rows.{reach-most, reach-last}
 use Rattle.reading.proofs.Lent.{Alike, circle-alike}
 
 -- the numbers of either form

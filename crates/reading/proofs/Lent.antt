@@ -25,9 +25,10 @@ use Rattle.slots.proofs.RoomLaws.{room-byte, circle-entry, place-in-room}
 use Rattle.slots.proofs.PlaceBounds.{place-below}
 use Rattle.slots.proofs.SameKept.{same-lacking, same-answer, same-block}
 use Rattle.slots.proofs.Sums.{sumFrom-ext}
-use Rattle.reading.specs.Circle.{Streams, reachOf}
+use Rattle.kept_bits.specs.Circle.{reachOf}
+use Rattle.kept_bits.specs.inner.Rows.{Streams}
 use Rattle.reading.specs.Room.{roomFits}
-use Rattle.reading.proofs.Rows.{place-there}
+use Rattle.kept_bits.proofs.Rows.{place-there}
 
 -- a part that came back, lent again
 pub mid-put : (a k : ℕ) (xs ys : List ℕ) → a ≤ length xs → length ys ≡ k → midOf a k (putMid a k xs ys) ≡ ys

@@ -1,14 +1,7 @@
-pub mod Sums
-pub mod ColumnSums
-pub mod Bytes
-pub mod Rows
-pub mod Gathering
 pub mod Blocks
 pub mod Form
 pub mod Lent
 pub mod Zeros
-pub mod Lacking
 pub mod Sequence
 pub mod Release
-pub mod Runs
 pub mod Answering

@@ -29,12 +29,13 @@ use Rattle.slots.specs.Room.{circleAt}
 use Rattle.slots.specs.Circle.{keptOn, sumFrom, heardOn, codeBlockOn}
 use Rattle.slots.specs.Reading.{lackingIn, lacking, heardCodeBlock, wrongBlock, firstFrom, firstWrong, heardIn, heardFrom, heardSequence}
 use Rattle.slots.proofs.First.{firstFrom-more}
-use Rattle.reading.specs.Circle.{missingAt, Stretch}
+use Rattle.kept_bits.specs.Circle.{missingAt}
+use Rattle.kept_bits.specs.inner.Rows.{Stretch}
 use Rattle.reading.specs.Room.{roomFits}
-use Rattle.reading.proofs.Blocks.{high, few, filler-below, stretch, blocks-told, Block, block-of}
+use Rattle.reading.proofs.Blocks.{high, few, filler-below, stretch, block-few, blocks-told, Block, block-of}
 use Rattle.reading.proofs.Lent.{mid-put}
-use Rattle.reading.proofs.Sums.{Summing, start, next, finish}
-use Rattle.reading.proofs.Lacking.{length-heard, counted, block-few}
+use Rattle.kept_bits.proofs.Sums.{Summing, start, next, finish}
+use Rattle.kept_bits.proofs.Lacking.{length-heard, counted}
 
 -- what a room that fits tells
 pub record Fit (A long : ℕ) : Type 0 where
@@ -207,7 +208,7 @@ module _ (A : ℕ) {room b₀ b : List ℕ} {n right at r : ℕ} (below : r < bl
       count = counted (circleAt r room) (sizeOf (A + 24) r) (fillerOf (A + 24) r) back s
 
       count-fits : n + x < 2 ^ 64
-      count-fits = omega (arith, count, block-few A r room good, w .sum .few, w .passed, few A good)
+      count-fits = omega (arith, count, block-few A good r room, w .sum .few, w .passed, few A good)
 
       -- the sequence with the bits that code block r carries
       front : take (at + holds (A + 24) r - checkLength (A + 24)) b′ ≡ take at b ++ heardIn (A + 24) room r
@@ -256,7 +257,7 @@ module _ (A : ℕ) {room b₀ b : List ℕ} {n right at r : ℕ} (below : r < bl
             ∙ append-assoc (take at b) (heardIn (A + 24) room r) (heardFrom (A + 24) room (r + 1) (blocks (A + 24) - (r + 1)))
             ∙ ap (λ (l : List ℕ). take at b ++ l) (sym (heard-more (A + 24) (blocks (A + 24)) r room below))
             ∙ w .told;
-        sum = next below count (rw count (block-few A r room good)) (w .sum);
+        sum = next below count (rw count (block-few A good r room)) (w .sum);
         first = first-after e;
       }
 

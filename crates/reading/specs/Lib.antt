@@ -1,3 +1,2 @@
-pub mod Circle
 pub mod Room
 pub mod inner

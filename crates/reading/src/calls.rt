@@ -1,5 +1,4 @@
 // The calls Read and Streams.
-use crate::circle;
 use crate::room;
 use refusals::or_else;
 use segmentation::block;
@@ -16,7 +15,7 @@ ghost use Rattle.slots.specs.State.{perBlock};
 ghost use Rattle.slots.specs.Room.{circleAt};
 ghost use Rattle.slots.specs.Circle.{streamsOn};
 ghost use Rattle.packing.specs.Store.{placesIn};
-ghost use Rattle.reading.specs.Circle.{Stretch};
+ghost use Rattle.kept_bits.specs.inner.Rows.{Stretch};
 ghost use Rattle.reading.specs.inner.Form.{streamMost, Unpacks, Circles};
 ghost use Rattle.slots.specs.Calls.{readNumber, readOutcome, readOutput, streamsNumber, streamsOutcome, streamsOutput};
 
@@ -131,10 +130,10 @@ fn runs_of(
     if four {
         let to = from + 24 * ((d + 31) / 32);
         packing::unpack_places(&store[from..to], circle);
-        circle::three_streams(circle, d, f, out);
+        kept_bits::three_streams(circle, d, f, out);
     } else {
         let to = from + long;
-        circle::three_streams(&store[from..to], d, f, out);
+        kept_bits::three_streams(&store[from..to], d, f, out);
     }
 }
 

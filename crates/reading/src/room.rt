@@ -1,5 +1,4 @@
 // What a room keeps, lent by itself.
-use crate::circle;
 use packing::bytes_a_block;
 use packing::unpack_places;
 use rate_matching::StreamPlace;
@@ -18,7 +17,7 @@ ghost use Rattle.slots.specs.Room.{circleAt};
 ghost use Rattle.slots.specs.Circle.{heardOn};
 ghost use Rattle.slots.specs.Reading.{lacking, firstWrong, heardSequence, heardAnswer};
 ghost use Rattle.packing.specs.Store.{placesIn};
-ghost use Rattle.reading.specs.Circle.{Stretch};
+ghost use Rattle.kept_bits.specs.inner.Rows.{Stretch};
 ghost use Rattle.reading.specs.inner.Form.{streamMost, Unpacks, Circles};
 ghost use Rattle.reading.specs.Room.{roomFits, roomOutput};
 
@@ -76,10 +75,10 @@ fn read_data(
     if four {
         let to = from + 8 * ((k + 35) / 32);
         unpack_places(&room[from..to], circle);
-        circle::read_stream(circle, k + 4, StreamPlace(0, f), out);
+        kept_bits::read_stream(circle, k + 4, StreamPlace(0, f), out);
     } else {
         let to = from + long;
-        circle::read_stream(&room[from..to], k + 4, StreamPlace(0, f), out);
+        kept_bits::read_stream(&room[from..to], k + 4, StreamPlace(0, f), out);
     }
 }
 
@@ -102,7 +101,7 @@ fn collect(four: bool, a: usize, room: &[u8], circle: &mut [u8], b: &mut [u8]) -
         let f = block::filler_of(s, r);
         let end = at + (k - f);
         read_data(four, r, k, f, room, circle, &mut b[at..end]);
-        lacking += circle::count_missing(&b[at..end]);
+        lacking += kept_bits::count_missing(&b[at..end]);
         right = right_after(lacking, check, right, r, &b[at..end]);
         at = end - check;
         r += 1;
@@ -139,7 +138,8 @@ fn release(
     Answer::Done
 }
 
-// The same, with an array for the sequence of one code block, or of several.
+// The same, with an array for the sequence. All of an array is cleared when it is made, so there are three: for a K of up to 1,024, for one code block, and for
+// several.
 pub(crate) fn read_room(
     four: bool,
     a: usize,
@@ -151,14 +151,25 @@ pub(crate) fn read_room(
     ensures { λ r. ⌜ r ≡ heardAnswer a (placesIn four (now (room .entry))) ⌝ }
     ensures { λ r. ⌜ now (out .exit) ≡ roomOutput a (placesIn four (now (room .entry))) (now (out .entry)) ⌝ }
 {
-    if a <= 6120 {
+    if a <= 1000 {
         read_short(four, a, room, circle, out)
+    } else if a <= 6120 {
+        read_middle(four, a, room, circle, out)
     } else {
         read_long(four, a, room, circle, out)
     }
 }
 
 fn read_short(four: bool, a: usize, room: &[u8], circle: &mut [u8], out: &mut [u8]) -> Answer
+    requires { ⌜ (a ≤ 1000) × (roomFits a (length (placesIn four (now room))) ≡ true) × (a ≤ length (now out)) × Unpacks four streamMost (length (now circle)) ⌝ }
+    ensures { λ r. ⌜ r ≡ heardAnswer a (placesIn four (now (room .entry))) ⌝ }
+    ensures { λ r. ⌜ now (out .exit) ≡ roomOutput a (placesIn four (now (room .entry))) (now (out .entry)) ⌝ }
+{
+    let mut b = [0u8; 1048];
+    release(four, a, room, circle, &mut b, out)
+}
+
+fn read_middle(four: bool, a: usize, room: &[u8], circle: &mut [u8], out: &mut [u8]) -> Answer
     requires { ⌜ (a ≤ 6120) × (roomFits a (length (placesIn four (now room))) ≡ true) × (a ≤ length (now out)) × Unpacks four streamMost (length (now circle)) ⌝ }
     ensures { λ r. ⌜ r ≡ heardAnswer a (placesIn four (now (room .entry))) ⌝ }
     ensures { λ r. ⌜ now (out .exit) ≡ roomOutput a (placesIn four (now (room .entry))) (now (out .entry)) ⌝ }

@@ -5,7 +5,7 @@ use mathlib.Core.List.{List, _++_}
 use Prim.Native.Nat.{ℕ, _+_, _*_, _/_, _≤_}
 use native.Mathlib.Omega.{arith}
 use lib.ListN.{length, drop}
-use Rattle.reading.proofs.Rows.{reach-most}
+use Rattle.kept_bits.proofs.Rows.{reach-most, streams-shown}
 use Rattle.reading.proofs.Lent.{streams-alike}
 use Rattle.reading.proofs.Form.{part-within, part-long, plain-long, plain-alike, stretch-on, stretch-in, front-within, front-alike, circle-few, circle-reach}
 use borrow.Author.Needs.{needs}
@@ -69,10 +69,7 @@ unpack-places-requires : tie.Need-unpack-places-requires
 unpack-places-requires c κs = search needs
 
 three-streams-requires : tie.Need-three-streams-requires
-three-streams-requires c κs =
-    let then = at-then1 (at-unpack-places c) in
-    let e = at-start (then .before) in
-    (e .pre .1, e .pre .2, stretch-in (e .pre .3) (omega (arith, circle-reach (e .args .d) 2, ample then, at-unpack-places c .unpack-places .kept .1 .0)))
+three-streams-requires c κs = search needs
 
 add-to-3 : tie.Need-add-to-3
 add-to-3 c = omega (arith, within (c .before))
@@ -87,9 +84,7 @@ part-three-streams-end : tie.Need-part-three-streams-end
 part-three-streams-end c = within (c .before)
 
 three-streams-requires-2 : tie.Need-three-streams-requires-2
-three-streams-requires-2 c κs =
-    let e = at-start (at-else1 c .before) in
-    (e .pre .1, e .pre .2, stretch-on (e .pre .3) (omega (arith, part-long (e .pre .0) (at-else1 c .before .bytes-a-block .ensures), plain-long (at-else1 c .if1 .left))))
+three-streams-requires-2 c κs = search needs
 
 same-length : tie.Need-same-length
 same-length c = search needs
@@ -103,7 +98,8 @@ returns c =
     let asked = three-streams .before in
     let then = at-then1 (at-unpack-places asked) in
     let e = at-start (then .before) in
-    three-streams .three-streams .ensures
+    streams-shown _ _ _ _ (three-streams .three-streams .ensures) (e .pre .1) (e .pre .2)
+    (stretch-in (e .pre .3) (omega (arith, circle-reach (e .args .d) 2, ample then, at-unpack-places asked .unpack-places .kept .1 .0)))
     ∙ ap (λ (l : List ℕ). l ++ drop (3 * e .args .d) (e .args .out .now))
     (streams-alike (e .pre .3 .sized)
     (front-alike (e .pre .0) (then .if1 .taken) (then .before .bytes-a-block .ensures) (few then) (ample then) (at-unpack-places asked .unpack-places .ensures))
@@ -117,7 +113,8 @@ returns-2 c =
     let three-streams2 = c .before .before in
     let asked = three-streams2 .before in
     let e = at-start (at-else1 asked .before) in
-    three-streams2 .three-streams2 .ensures
+    streams-shown _ _ _ _ (three-streams2 .three-streams2 .ensures) (e .pre .1) (e .pre .2)
+    (stretch-on (e .pre .3) (omega (arith, part-long (e .pre .0) (at-else1 asked .before .bytes-a-block .ensures), plain-long (at-else1 asked .if1 .left))))
     ∙ ap (λ (l : List ℕ). l ++ drop (3 * e .args .d) (e .args .out .now))
     (streams-alike (e .pre .3 .sized) (plain-alike (e .args .i) (e .args .store .now) (at-else1 asked .before .bytes-a-block .ensures) (at-else1 asked .if1 .left))
     (e .args .f) (λ s. reach-most s (e .pre .3 .sized .most)))

@@ -1,11 +1,12 @@
 -- `room::read_data` meets its contract: the circle is lent from the room, or the places of stream 0 are unpacked first (`Form`).
 -- Assumes nothing.
 use mathlib.Core.Path.{_∙_}
-use Prim.Native.Nat.{_+_, _*_, _/_, _≤_}
+use Prim.Native.Nat.{_+_, _-_, _*_, _/_, _≤_}
 use native.Mathlib.Omega.{arith}
+use borrow.Rule.Slice.PartMut.{midOf}
 use lib.ListN.{length}
 use Rattle.slots.specs.Circle.{heardOn}
-use Rattle.reading.proofs.Rows.{reach-most}
+use Rattle.kept_bits.proofs.Rows.{reach-most, stream-read}
 use Rattle.reading.proofs.Lent.{heard-alike}
 use Rattle.reading.proofs.Form.{part-within, part-long, plain-long, plain-alike, stretch-on, stretch-in, front-within, front-alike, data-few, data-reach}
 use borrow.Author.Needs.{needs}
@@ -72,10 +73,7 @@ add-read-stream : tie.Need-add-read-stream
 add-read-stream c = search needs
 
 read-stream-requires : tie.Need-read-stream-requires
-read-stream-requires c κs =
-    let then = at-then1 (at-unpack-places c) in
-    let e = at-start (then .before) in
-    stretch-in (e .pre .1) (omega (arith, data-reach (e .args .k), ample then, at-unpack-places c .unpack-places .kept .1 .0))
+read-stream-requires c κs = search needs
 
 add-to-3 : tie.Need-add-to-3
 add-to-3 c = omega (arith, within (c .before))
@@ -93,9 +91,7 @@ add-read-stream-2 : tie.Need-add-read-stream-2
 add-read-stream-2 c = search needs
 
 read-stream-requires-2 : tie.Need-read-stream-requires-2
-read-stream-requires-2 c κs =
-    let e = at-start (at-else1 c .before) in
-    stretch-on (e .pre .1) (omega (arith, part-long (e .pre .0) (at-else1 c .before .bytes-a-block .ensures), plain-long (at-else1 c .if1 .left)))
+read-stream-requires-2 c κs = search needs
 
 same-length : tie.Need-same-length
 same-length c = search needs
@@ -110,7 +106,7 @@ returns c =
     let asked = read-stream .before in
     let then = at-then1 (at-unpack-places asked) in
     let e = at-start (then .before) in
-    read-stream .read-stream .ensures
+    stream-read (at-unpack-places asked .unpack-places .last .1 .0) (e .args .out .now) (e .args .k + 4) 0 (e .args .f) (read-stream .read-stream .ensures) (stretch-in (e .pre .1) (omega (arith, data-reach (e .args .k), ample then, at-unpack-places asked .unpack-places .kept .1 .0)))
     ∙ heard-alike (e .args .k) (e .pre .1 .sized)
     (front-alike (e .pre .0) (then .if1 .taken) (then .before .bytes-a-block .ensures) (omega (arith, few then)) (ample then) (at-unpack-places asked .unpack-places .ensures))
     (data-reach (e .args .k)) (e .args .f) (length (e .args .out .now)) (e .pre .1 .within)
@@ -124,7 +120,10 @@ returns-2 c =
     let read-stream2 = c .before .before in
     let asked = read-stream2 .before in
     let e = at-start (at-else1 asked .before) in
-    read-stream2 .read-stream2 .ensures
+    let long = at-else1 asked .before .bytes-a-block .result in
+    let from = e .args .r * long in
+    stream-read (midOf from (from + long - from) (e .args .room .now)) (e .args .out .now) (e .args .k + 4) 0 (e .args .f) (read-stream2 .read-stream2 .ensures)
+    (stretch-on (e .pre .1) (omega (arith, part-long (e .pre .0) (at-else1 asked .before .bytes-a-block .ensures), plain-long (at-else1 asked .if1 .left))))
     ∙ heard-alike (e .args .k) (e .pre .1 .sized) (plain-alike (e .args .r) (e .args .room .now) (at-else1 asked .before .bytes-a-block .ensures) (at-else1 asked .if1 .left))
     (reach-most 0 (e .pre .1 .sized .most)) (e .args .f) (length (e .args .out .now)) (e .pre .1 .within)
 
