@@ -1,7 +1,6 @@
 -- `circle::count_row` meets its contract: the columns passed are counted (`Lacking`).
 -- Assumes nothing.
-use mathlib.Core.Path.{_≡_, _∙_, ap}
-use Prim.Native.Nat.{ℕ, _+_, _-_, _≤_, _<_}
+use Prim.Native.Nat.{_+_, _-_, _≤_, _<_}
 use native.Mathlib.Omega.{arith}
 use lib.ListN.{length, getD}
 use Rattle.rate_matching.specs.Places.{circlePlace}

@@ -6,7 +6,6 @@ use Prim.Native.Nat.{_%_, _≤_, _<_}
 use native.Mathlib.Omega.{arith}
 use lib.Dec.{leb, ltb, eqb}
 use borrow.Author.Tests.{leb-true, ltb-true, eqb-false, not-true, not-false}
-use borrow.Author.Needs.{needs}
 use Rattle.rate_matching.specs.SubBlocks.{rows, dummies}
 use Rattle.rate_matching.specs.Matrix.{writtenAt, matrixWithin}
 use Rattle.rate_matching.proofs.mapping.matrix_place.Statement.{statement}
