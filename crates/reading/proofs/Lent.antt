@@ -27,7 +27,7 @@ use Rattle.slots.proofs.SameKept.{same-lacking, same-answer, same-block}
 use Rattle.slots.proofs.Sums.{sumFrom-ext}
 use Rattle.kept_bits.specs.Circle.{reachOf}
 use Rattle.kept_bits.specs.inner.Rows.{Streams}
-use Rattle.reading.specs.Room.{roomFits}
+use Rattle.reading.specs.inner.Room.{roomFits}
 use Rattle.kept_bits.proofs.Rows.{place-there}
 
 -- a part that came back, lent again

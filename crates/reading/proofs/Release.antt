@@ -15,7 +15,7 @@ use Rattle.slots.specs.declared.Answer.{Answer}
 use Rattle.slots.specs.declared.Answer.the-variants.{Done, Refused}
 use Rattle.slots.specs.Answers.{Lacking, WrongBlock, isDone}
 use Rattle.slots.specs.Reading.{lacking, firstWrong, someWrong, heardSequence, wrongCheck, heardAnswer, heardBlock}
-use Rattle.reading.specs.Room.{roomOutput}
+use Rattle.reading.specs.inner.Room.{roomOutput}
 
 module _ (A : ℕ) (room out : List ℕ) where
   -- an answer, and the output as it leaves it

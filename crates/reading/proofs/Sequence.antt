@@ -31,7 +31,7 @@ use Rattle.slots.specs.Reading.{lackingIn, lacking, heardCodeBlock, wrongBlock,
 use Rattle.slots.proofs.First.{firstFrom-more}
 use Rattle.kept_bits.specs.Circle.{missingAt}
 use Rattle.kept_bits.specs.inner.Rows.{Stretch}
-use Rattle.reading.specs.Room.{roomFits}
+use Rattle.reading.specs.inner.Room.{roomFits}
 use Rattle.reading.proofs.Blocks.{high, few, filler-below, stretch, block-few, blocks-told, Block, block-of}
 use Rattle.reading.proofs.Lent.{mid-put}
 use Rattle.kept_bits.proofs.Sums.{Summing, start, next, finish}

@@ -19,7 +19,7 @@ ghost use Rattle.slots.specs.Reading.{lacking, firstWrong, heardSequence, heard
 ghost use Rattle.packing.specs.Store.{placesIn};
 ghost use Rattle.kept_bits.specs.inner.Rows.{Stretch};
 ghost use Rattle.reading.specs.inner.Form.{streamMost, Unpacks, Circles};
-ghost use Rattle.reading.specs.Room.{roomFits, roomOutput};
+ghost use Rattle.reading.specs.inner.Room.{roomFits, roomOutput};
 
 // L: each of several code blocks ends in 24 check bits of its own.
 fn check_length(s: Segments) -> usize
