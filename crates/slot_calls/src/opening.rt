@@ -13,7 +13,7 @@ ghost use Rattle.codeword.specs.Downlink.{tooShort};
 ghost use Rattle.refusals.specs.Refusals.{rule, firstOf};
 ghost use Rattle.segmentation.specs.Segmentation.{blocks};
 ghost use Rattle.slots.specs.State.{roomLength, roomStart, newState};
-ghost use Rattle.slots.specs.Room.{unheard, cleared};
+ghost use Rattle.slots.specs.Room.{cleared};
 ghost use Rattle.slots.specs.Answers.{isDone, unlessRefused};
 ghost use Rattle.slots.specs.Calls.{newOutcome, openedFor, openRules, openNumber, openOutcome, openStore, openDownOutcome, openDownStore, closeNumber, closeOutcome};
 
@@ -193,7 +193,7 @@ fn clear_room(m: usize, slot: usize, store: &mut [u8])
 {
     let from = states::room_start(m, slot);
     let to = from + states::room_length(m);
-    fill(&mut store[from..to]);
+    fill(&mut store[from..to], 2);
 }
 
 // Open's refusals, for a store of `room` bytes.
@@ -207,13 +207,13 @@ fn open_number(state: State, room: usize, slot: usize, size: usize) -> u8
     or_else(sized, states::too_many(state.blocks, size), 10)
 }
 
-// Writes unheard over a room.
-fn fill(room: &mut [u8])
-    ensures { λ r. ⌜ now (room .exit) ≡ replicate {A = ℕ} (length (now (room .entry))) unheard ⌝ }
+// Writes one byte over a whole room: unheard, as a store's form has it.
+pub fn fill(room: &mut [u8], byte: u8)
+    ensures { λ r. ⌜ now (room .exit) ≡ replicate {A = ℕ} (length (now (room .entry))) byte ⌝ }
 {
     let mut i: usize = 0;
     while i < room.len() {
-        room[i] = 2;
+        room[i] = byte;
         i += 1;
     }
 }
