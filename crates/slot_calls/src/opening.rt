@@ -6,6 +6,7 @@ use slots::Head;
 use slots::Outcome;
 use slots::State;
 ghost use mathlib.Core.Path.{_≡_};
+ghost use mathlib.Core.Bool.{true, cond};
 ghost use mathlib.Core.List.{[], _∷_, _++_};
 ghost use Prim.Native.Nat.{ℕ, _+_, _≤_, _<_};
 ghost use lib.ListN.{length, replicate};
@@ -55,10 +56,7 @@ pub fn open(state: State, slot: usize, terminal: u16, size: usize, store: &mut [
 {
     let after = open_outcome(state, store.len(), slot, terminal, size);
     let answer = after.answer;
-    if !is_done(answer) {
-        return after;
-    }
-    clear_room(state.blocks, slot, store);
+    clear_room(answer, state.blocks, slot, store);
     after
 }
 
@@ -100,10 +98,7 @@ pub fn open_down(
         layers,
     );
     let answer = after.answer;
-    if !is_done(answer) {
-        return after;
-    }
-    clear_room(state.blocks, slot, store);
+    clear_room(answer, state.blocks, slot, store);
     after
 }
 
@@ -185,12 +180,14 @@ fn down_number(state: State, room: usize, slot: usize, size: usize, share: usize
     }
 }
 
-// Unheard over a slot's whole room.
-fn clear_room(m: usize, slot: usize, store: &mut [u8])
-    requires { ⌜ (m ≤ 5) × (slot ≤ 8) ⌝ }
-    requires { ⌜ roomStart m slot + roomLength m ≤ length (now store) ⌝ }
-    ensures { λ r. ⌜ now (store .exit) ≡ cleared m slot (now (store .entry)) ⌝ }
+// Unheard over a slot's whole room, where its opening is done.
+fn clear_room(answer: Answer, m: usize, slot: usize, store: &mut [u8])
+    requires { ⌜ (isDone answer ≡ true → (m ≤ 5) × (slot ≤ 8) × (roomStart m slot + roomLength m ≤ length (now store))) ⌝ }
+    ensures { λ r. ⌜ now (store .exit) ≡ cond (isDone answer) (cleared m slot (now (store .entry))) (now (store .entry)) ⌝ }
 {
+    if !is_done(answer) {
+        return;
+    }
     let from = states::room_start(m, slot);
     let to = from + states::room_length(m);
     fill(&mut store[from..to], 2);
