@@ -142,7 +142,14 @@ pub extern "C" fn zemrukste_streams(
     ensures output { λ r. ⌜ now (out .exit)
         ≡ streamsOutput (stateIn (now (bytes .entry))) (now (store .entry)) slot terminal block (now (out .entry)) ⌝ }
 {
-    let outcome = reading::streams(state_bytes::state_in(bytes), slot, terminal, block, store, out);
+    let outcome = reading::streams(
+        state_bytes::state_in(bytes),
+        slot,
+        terminal,
+        block,
+        store,
+        out,
+    );
     let answer = outcome.answer;
     state_bytes::number(answer)
 }
