@@ -20,7 +20,7 @@ use Rattle.history.specs.Calls.{Call, opening, receiving, reading, streaming, c
 use Rattle.history.specs.Run.{outcomeOf, storeAfterCall}
 use Rattle.forms.specs.Calls.{outcomeIn, storeAfterIn}
 use Rattle.forms.proofs.Calls.{left-alone}
-use Rattle.face.specs.StateBytes.{stateBytes, bytesAfter, newNumber, newBytes, valueOf}
+use Rattle.state_bytes.specs.StateBytes.{stateBytes, bytesAfter, newNumber, newBytes, valueOf}
 
 -- ---- the state's bytes and the count
 

@@ -9,7 +9,7 @@ use borrow.Author.Tests.{lt-ltb, le-ltb}
 use Rattle.refusals.specs.Refusals.{firstOf}
 use Rattle.segmentation.specs.declared.Segments.{Segments}
 use Rattle.segmentation.specs.Sizes.{badSize, segmentsOf, sizesOf, sizesAnswer, valuesOf}
-use Rattle.face.specs.Numbers.{inBytes}
+use Rattle.state_bytes.specs.Numbers.{inBytes}
 use Rattle.face.specs.Face.{sizesNumber, sizesBytes}
 
 -- the six numbers of a segmentation

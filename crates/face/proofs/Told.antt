@@ -5,7 +5,7 @@ use mathlib.Core.List.{List}
 use Prim.Native.Nat.{ℕ}
 use Rattle.slots.specs.declared.Outcome.{Outcome}
 use Rattle.slots.specs.Answers.{numberOf}
-use Rattle.face.specs.StateBytes.{bytesAfter, valueOf}
+use Rattle.state_bytes.specs.StateBytes.{bytesAfter, valueOf}
 
 module _ {o said : Outcome} (e : o ≡ said) where
   pub numbered : {n : ℕ} → n ≡ numberOf (o .answer) → n ≡ numberOf (said .answer)

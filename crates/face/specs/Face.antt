@@ -7,7 +7,7 @@ use lib.Dec.{eqb, ltb}
 use lib.ListN.{length, drop}
 use Rattle.refusals.specs.Refusals.{rule, firstOf}
 use Rattle.segmentation.specs.Sizes.{badSize, sizesAnswer, valuesOf}
-use Rattle.face.specs.Numbers.{inBytes}
+use Rattle.state_bytes.specs.Numbers.{inBytes}
 
 -- the number that zemrukste_sizes answers for A and an output of `size` bytes: 1, then 5 where the output is too short
 unfoldable pub sizesNumber : ℕ → ℕ → ℕ

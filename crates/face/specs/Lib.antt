@@ -1,3 +1,1 @@
 pub mod Face
-pub mod Numbers
-pub mod StateBytes

@@ -1,10 +1,9 @@
 // The face to C of the slots: New, Open, Receive, Read, Streams and Close, on a state that the caller keeps as bytes.
-use crate::state;
 ghost use mathlib.Core.Path.{_≡_};
 ghost use lib.ListN.{length};
 ghost use Rattle.slots.specs.Answers.{numberOf};
 ghost use Rattle.slots.specs.Calls.{openOutcome, openStore, openDownOutcome, openDownStore, receiveOutcome, receiveStore, readOutcome, readOutput, streamsOutcome, streamsOutput, closeOutcome};
-ghost use Rattle.face.specs.StateBytes.{stateIn, bytesAfter, newNumber, newBytes, valueOf};
+ghost use Rattle.state_bytes.specs.StateBytes.{stateIn, bytesAfter, newNumber, newBytes, valueOf};
 
 // New: 0, 13 with the state of S = 0, or 5, which writes nothing.
 #[no_mangle]
@@ -12,13 +11,7 @@ pub extern "C" fn zemrukste_new(bytes: &mut [u8], s: usize, m: usize) -> u32
     ensures number { λ r. ⌜ r ≡ newNumber s m (length (now (bytes .entry))) ⌝ }
     ensures state { λ r. ⌜ now (bytes .exit) ≡ newBytes s m (now (bytes .entry)) ⌝ }
 {
-    if bytes.len() < state::STATE_LEN {
-        return 5;
-    }
-    let outcome = slot_calls::new(s, m);
-    state::put_new(outcome, s, m, bytes);
-    let answer = outcome.answer;
-    state::number(answer)
+    state_bytes::new(s, m, bytes)
 }
 
 // Open: 0 with the room cleared and the head in the state, or the number of the refusal, which writes nothing.
@@ -35,9 +28,9 @@ pub extern "C" fn zemrukste_open(
         ≡ bytesAfter (openOutcome (stateIn (now (bytes .entry))) (length (now (store .entry))) slot terminal a) slot (now (bytes .entry)) ⌝ }
     ensures stored { λ r. ⌜ now (store .exit) ≡ openStore (stateIn (now (bytes .entry))) slot a (now (store .entry)) ⌝ }
 {
-    let state = state::state_in(bytes);
+    let state = state_bytes::state_in(bytes);
     let outcome = slot_calls::open(state, slot, terminal, a, store);
-    state::finish(outcome, slot, bytes)
+    state_bytes::finish(outcome, slot, bytes)
 }
 
 // Open for a downlink: the same, and each code block has its share of the receiver's soft buffer.
@@ -61,7 +54,7 @@ pub extern "C" fn zemrukste_open_down(
     ensures stored { λ r. ⌜ now (store .exit)
         ≡ openDownStore (stateIn (now (bytes .entry))) slot a release mimo processes soft layers (now (store .entry)) ⌝ }
 {
-    let state = state::state_in(bytes);
+    let state = state_bytes::state_in(bytes);
     let outcome = slot_calls::open_down(
         state,
         slot,
@@ -74,7 +67,7 @@ pub extern "C" fn zemrukste_open_down(
         layers,
         store,
     );
-    state::finish(outcome, slot, bytes)
+    state_bytes::finish(outcome, slot, bytes)
 }
 
 // Receive: 0 with the count of data places that lack a bit in `count`, or the number of the refusal, which writes nothing.
@@ -98,7 +91,7 @@ pub extern "C" fn zemrukste_receive(
         ≡ valueOf (receiveOutcome (stateIn (now (bytes .entry))) slot terminal q n version (now (bits .entry)) (now (store .entry)) .answer) (now (count .entry)) ⌝ }
 {
     let outcome = reception::receive(
-        state::state_in(bytes),
+        state_bytes::state_in(bytes),
         slot,
         terminal,
         q,
@@ -108,8 +101,8 @@ pub extern "C" fn zemrukste_receive(
         store,
     );
     let answer = outcome.answer;
-    *count = state::value(answer, *count);
-    state::number(answer)
+    *count = state_bytes::value(answer, *count);
+    state_bytes::number(answer)
 }
 
 // Read: 0 with the block in `out`, 11 with the count or 16 with the code block in `count`, or the number of another refusal.
@@ -128,10 +121,10 @@ pub extern "C" fn zemrukste_read(
     ensures count { λ r. ⌜ now (count .exit)
         ≡ valueOf (readOutcome (stateIn (now (bytes .entry))) (now (store .entry)) slot terminal (length (now (out .entry))) .answer) (now (count .entry)) ⌝ }
 {
-    let outcome = reading::read(state::state_in(bytes), slot, terminal, store, out);
+    let outcome = reading::read(state_bytes::state_in(bytes), slot, terminal, store, out);
     let answer = outcome.answer;
-    *count = state::value(answer, *count);
-    state::number(answer)
+    *count = state_bytes::value(answer, *count);
+    state_bytes::number(answer)
 }
 
 // Streams: 0 with the three streams of a code block in `out`, or the number of the refusal, which writes nothing.
@@ -149,9 +142,16 @@ pub extern "C" fn zemrukste_streams(
     ensures output { λ r. ⌜ now (out .exit)
         ≡ streamsOutput (stateIn (now (bytes .entry))) (now (store .entry)) slot terminal block (now (out .entry)) ⌝ }
 {
-    let outcome = reading::streams(state::state_in(bytes), slot, terminal, block, store, out);
+    let outcome = reading::streams(
+        state_bytes::state_in(bytes),
+        slot,
+        terminal,
+        block,
+        store,
+        out,
+    );
     let answer = outcome.answer;
-    state::number(answer)
+    state_bytes::number(answer)
 }
 
 // Close: 0 with the head closed in the state, or the number of the refusal, which writes nothing.
@@ -161,6 +161,6 @@ pub extern "C" fn zemrukste_close(bytes: &mut [u8], slot: usize, terminal: u16) 
     ensures state { λ r. ⌜ now (bytes .exit)
         ≡ bytesAfter (closeOutcome (stateIn (now (bytes .entry))) slot terminal) slot (now (bytes .entry)) ⌝ }
 {
-    let outcome = slot_calls::close(state::state_in(bytes), slot, terminal);
-    state::finish(outcome, slot, bytes)
+    let outcome = slot_calls::close(state_bytes::state_in(bytes), slot, terminal);
+    state_bytes::finish(outcome, slot, bytes)
 }

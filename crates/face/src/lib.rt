@@ -1,9 +1,7 @@
 // The face to C: what include/zemrukste.h declares, thin over the proved libraries.
 mod calls;
 mod control;
-mod numbers;
 mod packed;
-mod state;
 
 use codeword::Grant;
 ghost use mathlib.Core.List.{_++_};
@@ -102,7 +100,7 @@ pub extern "C" fn zemrukste_sizes(a: usize, out: &mut [u8]) -> u32
         return 5;
     }
     let six = [s.blocks, s.longs, s.long, s.shorts, s.short, s.filler];
-    numbers::put_numbers(&six, 4, &mut out[..24]);
+    state_bytes::put_numbers(&six, &mut out[..24]);
     0
 }
 

@@ -1,12 +1,11 @@
 // The face to C of the slots on stores with four places a byte: the same calls, on the places that the store keeps.
-use crate::state;
 ghost use mathlib.Core.Path.{_≡_};
 ghost use mathlib.Core.Bool.{true};
 ghost use lib.ListN.{length};
 ghost use Rattle.slots.specs.Answers.{numberOf};
 ghost use Rattle.slots.specs.Calls.{openOutcome, openStore, openDownOutcome, openDownStore, receiveOutcome, receiveStore, readOutcome, readOutput, streamsOutcome, streamsOutput};
 ghost use Rattle.packing.specs.Store.{placesIn, inForm};
-ghost use Rattle.face.specs.StateBytes.{stateIn, bytesAfter, valueOf};
+ghost use Rattle.state_bytes.specs.StateBytes.{stateIn, bytesAfter, valueOf};
 
 // Open.
 #[no_mangle]
@@ -22,9 +21,9 @@ pub extern "C" fn zemrukste_open_packed(
         ≡ bytesAfter (openOutcome (stateIn (now (bytes .entry))) (length (placesIn true (now (store .entry)))) slot terminal a) slot (now (bytes .entry)) ⌝ }
     ensures stored { λ r. ⌜ now (store .exit) ≡ inForm true (openStore (stateIn (now (bytes .entry))) slot a (placesIn true (now (store .entry)))) ⌝ }
 {
-    let state = state::state_in(bytes);
+    let state = state_bytes::state_in(bytes);
     let outcome = packing::open_packed(state, slot, terminal, a, store);
-    state::finish(outcome, slot, bytes)
+    state_bytes::finish(outcome, slot, bytes)
 }
 
 // Open for a downlink.
@@ -48,7 +47,7 @@ pub extern "C" fn zemrukste_open_down_packed(
     ensures stored { λ r. ⌜ now (store .exit)
         ≡ inForm true (openDownStore (stateIn (now (bytes .entry))) slot a release mimo processes soft layers (placesIn true (now (store .entry)))) ⌝ }
 {
-    let state = state::state_in(bytes);
+    let state = state_bytes::state_in(bytes);
     let outcome = packing::open_down_packed(
         state,
         slot,
@@ -61,7 +60,7 @@ pub extern "C" fn zemrukste_open_down_packed(
         layers,
         store,
     );
-    state::finish(outcome, slot, bytes)
+    state_bytes::finish(outcome, slot, bytes)
 }
 
 // Receive.
@@ -85,7 +84,7 @@ pub extern "C" fn zemrukste_receive_packed(
         ≡ valueOf (receiveOutcome (stateIn (now (bytes .entry))) slot terminal q n version (now (bits .entry)) (placesIn true (now (store .entry))) .answer) (now (count .entry)) ⌝ }
 {
     let outcome = reception::receive_packed(
-        state::state_in(bytes),
+        state_bytes::state_in(bytes),
         slot,
         terminal,
         q,
@@ -95,8 +94,8 @@ pub extern "C" fn zemrukste_receive_packed(
         store,
     );
     let answer = outcome.answer;
-    *count = state::value(answer, *count);
-    state::number(answer)
+    *count = state_bytes::value(answer, *count);
+    state_bytes::number(answer)
 }
 
 // Read.
@@ -115,10 +114,10 @@ pub extern "C" fn zemrukste_read_packed(
     ensures count { λ r. ⌜ now (count .exit)
         ≡ valueOf (readOutcome (stateIn (now (bytes .entry))) (placesIn true (now (store .entry))) slot terminal (length (now (out .entry))) .answer) (now (count .entry)) ⌝ }
 {
-    let outcome = reading::read_packed(state::state_in(bytes), slot, terminal, store, out);
+    let outcome = reading::read_packed(state_bytes::state_in(bytes), slot, terminal, store, out);
     let answer = outcome.answer;
-    *count = state::value(answer, *count);
-    state::number(answer)
+    *count = state_bytes::value(answer, *count);
+    state_bytes::number(answer)
 }
 
 // Streams.
@@ -137,7 +136,7 @@ pub extern "C" fn zemrukste_streams_packed(
         ≡ streamsOutput (stateIn (now (bytes .entry))) (placesIn true (now (store .entry))) slot terminal block (now (out .entry)) ⌝ }
 {
     let outcome = reading::streams_packed(
-        state::state_in(bytes),
+        state_bytes::state_in(bytes),
         slot,
         terminal,
         block,
@@ -145,5 +144,5 @@ pub extern "C" fn zemrukste_streams_packed(
         out,
     );
     let answer = outcome.answer;
-    state::number(answer)
+    state_bytes::number(answer)
 }

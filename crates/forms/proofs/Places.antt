@@ -72,8 +72,3 @@ form-places true n places e =
     ap (λ (m : ℕ). unpacked m (packed (length places / 4) places)) (length-packed (length places / 4) places)
     ∙ there-and-back (length places / 4) places (omega arith)
 form-places false n places e = refl
-
-pub form-long : (four : Bool) (n : ℕ) (places : List ℕ) → length places ≡ placesAByte four * n → length (inForm four places) ≡ n
-unfolding inForm placesAByte
-form-long true n places e = length-packed (length places / 4) places ∙ omega arith
-form-long false n places e = omega arith

@@ -19,16 +19,12 @@ use Rattle.slots.specs.Answers.{unlessRefused}
 use Rattle.slots.specs.Calls.{openedFor, storeRules, openRules, openNumber, openOutcome, openDownNumber, openDownOutcome}
 use Rattle.slots.specs.Room.{unheard, cleared}
 use Rattle.slots.proofs.Cleared.{room-cleared}
-use Rattle.packing.specs.Packing.{inTwoBits, fourIn, standingAt, placeIn, unpacked}
+use Rattle.packing.specs.Packing.{standingAt, placeIn, unpacked}
 use Rattle.packing.specs.Store.{unheardByte, placesAByte, placesIn, inForm, placesAsked}
 use Rattle.packing.proofs.Forms.{length-unpacked}
 use Rattle.packing.proofs.Stores.{getD-unpacked, places-are, places-put, form-back, asked-enough}
 
--- 170
-pub unheard-byte : unheardByte ≡ fourIn unheard unheard unheard unheard
-unfolding fourIn inTwoBits
-unheard-byte = refl
-
+-- 170 is unheard four times
 stands-unheard : (k : ℕ) → standingAt k unheardByte ≡ unheard
 unfolding standingAt
 stands-unheard zero = refl

@@ -21,7 +21,7 @@ use Rattle.slots.specs.State.{roomLength, storeLength, badState}
 use Rattle.slots.specs.Calls.{storeRules}
 use Rattle.slots.proofs.Accepted.{good}
 use Rattle.packing.specs.Packing.{standingAt, placeIn, packed, unpacked}
-use Rattle.packing.specs.Store.{placesAByte, bytesABlock, placesIn, inForm, placesAsked}
+use Rattle.packing.specs.Store.{placesAByte, placesIn, inForm, placesAsked}
 use Rattle.packing.proofs.Forms.{length-unpacked, back-and-there}
 
 -- place j of unpacked bytes
@@ -30,7 +30,7 @@ unfolding unpacked
 getD-unpacked n bytes j h = getD-tab (4 * n) (placeIn bytes) j 0 h
 
 -- a part of the bytes keeps a part of the places
-pub unpacked-mid : (a k : ℕ) (l : List ℕ) → a + k ≤ length l → midOf (4 * a) (4 * k) (unpacked (length l) l) ≡ unpacked k (midOf a k l)
+unpacked-mid : (a k : ℕ) (l : List ℕ) → a + k ≤ length l → midOf (4 * a) (4 * k) (unpacked (length l) l) ≡ unpacked k (midOf a k l)
 unfolding placeIn
 unpacked-mid a k l h =
     ext-getD 0 (midOf (4 * a) (4 * k) (unpacked (length l) l)) (unpacked k (midOf a k l))
@@ -65,7 +65,7 @@ places-are true l = length-unpacked (length l) l
 places-are false l = omega arith
 
 -- the bytes with a part that came back keep the places with that part's
-pub unpacked-put : (a k : ℕ) (l part : List ℕ) → a + k ≤ length l → length part ≡ k
+unpacked-put : (a k : ℕ) (l part : List ℕ) → a + k ≤ length l → length part ≡ k
     → unpacked (length (putMid a k l part)) (putMid a k l part) ≡ putMid (4 * a) (4 * k) (unpacked (length l) l) (unpacked k part)
 unfolding placeIn
 unpacked-put a k l part h e =
@@ -174,12 +174,6 @@ form-back true l below = ap (λ (n : ℕ). packed n (unpacked (length l) l)) qua
     quarter : length (unpacked (length l) l) / 4 ≡ length l
     quarter = rw (length-unpacked (length l) l) (omega arith)
 form-back false l below = refl
-
--- a code block's places
-pub block-places : (four : Bool) → placesAByte four * bytesABlock four ≡ 18528
-unfolding placesAByte bytesABlock
-block-places true = refl
-block-places false = refl
 
 -- ---- how long the store must be
 

@@ -25,6 +25,6 @@ inForm four places = cond four (packed (length places / 4) places) places
 unfoldable pub placesAsked : Bool → ℕ → ℕ
 placesAsked four bytes = cond four (4 * min bytes 185280) bytes
 
--- what Open writes: unheard four times (`unheard-byte`)
+-- what Open writes: unheard four times
 abbrev pub unheardByte : ℕ
 unheardByte = 170

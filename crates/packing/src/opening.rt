@@ -1,16 +1,18 @@
 // Open on a store with four places a byte.
 use crate::PACKED_PER_BLOCK;
 use crate::places_asked;
+use slots::Answer;
 use slots::Outcome;
 use slots::State;
 ghost use mathlib.Core.Path.{_≡_};
-ghost use mathlib.Core.Bool.{true};
-ghost use Prim.Native.Nat.{ℕ, _+_, _≤_};
-ghost use lib.ListN.{length, replicate};
+ghost use mathlib.Core.Bool.{true, cond};
+ghost use Prim.Native.Nat.{_+_, _≤_};
+ghost use lib.ListN.{length};
 ghost use Rattle.slots.specs.State.{roomLength, roomStart};
 ghost use Rattle.slots.specs.Room.{cleared};
+ghost use Rattle.slots.specs.Answers.{isDone};
 ghost use Rattle.slots.specs.Calls.{openOutcome, openStore, openDownOutcome, openDownStore};
-ghost use Rattle.packing.specs.Store.{unheardByte, placesIn, inForm};
+ghost use Rattle.packing.specs.Store.{placesIn, inForm};
 
 // Opens a slot for a terminal with a block of `size` bits: 2 for every place of the room, then the head.
 pub fn open_packed(
@@ -26,10 +28,7 @@ pub fn open_packed(
     let room = places_asked(true, store.len());
     let after = slot_calls::open_outcome(state, room, slot, terminal, size);
     let answer = after.answer;
-    if !slot_calls::is_done(answer) {
-        return after;
-    }
-    clear_room(state.blocks, slot, store);
+    clear_room(answer, state.blocks, slot, store);
     after
 }
 
@@ -63,32 +62,21 @@ pub fn open_down_packed(
         layers,
     );
     let answer = after.answer;
-    if !slot_calls::is_done(answer) {
-        return after;
-    }
-    clear_room(state.blocks, slot, store);
+    clear_room(answer, state.blocks, slot, store);
     after
 }
 
-// Unheard over a slot's whole room.
-fn clear_room(m: usize, slot: usize, store: &mut [u8])
-    requires { ⌜ (m ≤ 5) × (slot ≤ 8) ⌝ }
-    requires { ⌜ roomStart m slot + roomLength m ≤ length (placesIn true (now store)) ⌝ }
-    ensures { λ r. ⌜ now (store .exit) ≡ inForm true (cleared m slot (placesIn true (now (store .entry)))) ⌝ }
+// Unheard over a slot's whole room, four times in each byte, where its opening is done.
+fn clear_room(answer: Answer, m: usize, slot: usize, store: &mut [u8])
+    requires { ⌜ (isDone answer ≡ true → (m ≤ 5) × (slot ≤ 8) × (roomStart m slot + roomLength m ≤ length (placesIn true (now store)))) ⌝ }
+    ensures { λ r. ⌜ now (store .exit)
+        ≡ inForm true (cond (isDone answer) (cleared m slot (placesIn true (now (store .entry)))) (placesIn true (now (store .entry)))) ⌝ }
 {
+    if !slot_calls::is_done(answer) {
+        return;
+    }
     let long = m * PACKED_PER_BLOCK;
     let from = slot * long;
     let to = from + long;
-    fill(&mut store[from..to]);
-}
-
-// Writes four times unheard into each byte of a room.
-fn fill(room: &mut [u8])
-    ensures { λ r. ⌜ now (room .exit) ≡ replicate {A = ℕ} (length (now (room .entry))) unheardByte ⌝ }
-{
-    let mut i: usize = 0;
-    while i < room.len() {
-        room[i] = 170;
-        i += 1;
-    }
+    slot_calls::fill(&mut store[from..to], 170);
 }

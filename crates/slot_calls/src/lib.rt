@@ -3,6 +3,7 @@ mod opening;
 pub mod states;
 
 pub use opening::close;
+pub use opening::fill;
 pub use opening::is_done;
 pub use opening::new;
 pub use opening::open;

@@ -6,6 +6,7 @@ use slots::Head;
 use slots::Outcome;
 use slots::State;
 ghost use mathlib.Core.Path.{_≡_};
+ghost use mathlib.Core.Bool.{true, cond};
 ghost use mathlib.Core.List.{[], _∷_, _++_};
 ghost use Prim.Native.Nat.{ℕ, _+_, _≤_, _<_};
 ghost use lib.ListN.{length, replicate};
@@ -13,7 +14,7 @@ ghost use Rattle.codeword.specs.Downlink.{tooShort};
 ghost use Rattle.refusals.specs.Refusals.{rule, firstOf};
 ghost use Rattle.segmentation.specs.Segmentation.{blocks};
 ghost use Rattle.slots.specs.State.{roomLength, roomStart, newState};
-ghost use Rattle.slots.specs.Room.{unheard, cleared};
+ghost use Rattle.slots.specs.Room.{cleared};
 ghost use Rattle.slots.specs.Answers.{isDone, unlessRefused};
 ghost use Rattle.slots.specs.Calls.{newOutcome, openedFor, openRules, openNumber, openOutcome, openStore, openDownOutcome, openDownStore, closeNumber, closeOutcome};
 
@@ -55,10 +56,7 @@ pub fn open(state: State, slot: usize, terminal: u16, size: usize, store: &mut [
 {
     let after = open_outcome(state, store.len(), slot, terminal, size);
     let answer = after.answer;
-    if !is_done(answer) {
-        return after;
-    }
-    clear_room(state.blocks, slot, store);
+    clear_room(answer, state.blocks, slot, store);
     after
 }
 
@@ -100,10 +98,7 @@ pub fn open_down(
         layers,
     );
     let answer = after.answer;
-    if !is_done(answer) {
-        return after;
-    }
-    clear_room(state.blocks, slot, store);
+    clear_room(answer, state.blocks, slot, store);
     after
 }
 
@@ -185,15 +180,17 @@ fn down_number(state: State, room: usize, slot: usize, size: usize, share: usize
     }
 }
 
-// Unheard over a slot's whole room.
-fn clear_room(m: usize, slot: usize, store: &mut [u8])
-    requires { ⌜ (m ≤ 5) × (slot ≤ 8) ⌝ }
-    requires { ⌜ roomStart m slot + roomLength m ≤ length (now store) ⌝ }
-    ensures { λ r. ⌜ now (store .exit) ≡ cleared m slot (now (store .entry)) ⌝ }
+// Unheard over a slot's whole room, where its opening is done.
+fn clear_room(answer: Answer, m: usize, slot: usize, store: &mut [u8])
+    requires { ⌜ (isDone answer ≡ true → (m ≤ 5) × (slot ≤ 8) × (roomStart m slot + roomLength m ≤ length (now store))) ⌝ }
+    ensures { λ r. ⌜ now (store .exit) ≡ cond (isDone answer) (cleared m slot (now (store .entry))) (now (store .entry)) ⌝ }
 {
+    if !is_done(answer) {
+        return;
+    }
     let from = states::room_start(m, slot);
     let to = from + states::room_length(m);
-    fill(&mut store[from..to]);
+    fill(&mut store[from..to], 2);
 }
 
 // Open's refusals, for a store of `room` bytes.
@@ -207,13 +204,13 @@ fn open_number(state: State, room: usize, slot: usize, size: usize) -> u8
     or_else(sized, states::too_many(state.blocks, size), 10)
 }
 
-// Writes unheard over a room.
-fn fill(room: &mut [u8])
-    ensures { λ r. ⌜ now (room .exit) ≡ replicate {A = ℕ} (length (now (room .entry))) unheard ⌝ }
+// Writes one byte over a whole room: unheard, as a store's form has it.
+pub fn fill(room: &mut [u8], byte: u8)
+    ensures { λ r. ⌜ now (room .exit) ≡ replicate {A = ℕ} (length (now (room .entry))) byte ⌝ }
 {
     let mut i: usize = 0;
     while i < room.len() {
-        room[i] = 2;
+        room[i] = byte;
         i += 1;
     }
 }

@@ -7,7 +7,6 @@ ghost use mathlib.Core.Bool.{false, cond, _||_};
 ghost use mathlib.Core.List.{_++_};
 ghost use Prim.Native.Nat.{_+_, _≤_, _<_};
 ghost use lib.Dec.{eqb, ltb};
-ghost use lib.ListN.{getD};
 ghost use Rattle.refusals.specs.Refusals.{firstOf};
 ghost use Rattle.segmentation.specs.Segmentation.{blocks};
 ghost use Rattle.segmentation.specs.Sizes.{badSize};
@@ -53,14 +52,11 @@ pub(crate) fn closed_head() -> Head
 pub fn head_at(state: State, slot: usize) -> Head
     ensures { λ r. ⌜ r ≡ headAt state slot ⌝ }
 {
-    let heads = state.heads;
-    pick(heads, slot)
-}
-
-fn pick(heads: [Head; 8], slot: usize) -> Head
-    ensures { λ r. ⌜ r ≡ getD heads slot closedHead ⌝ }
-{
-    if slot < 8 { heads[slot] } else { closed_head() }
+    if slot < 8 {
+        state.heads[slot]
+    } else {
+        closed_head()
+    }
 }
 
 // The state with another head for a slot.

@@ -2,13 +2,14 @@
 -- Assumes nothing.
 use mathlib.Core.Path.{_≡_, refl, ap}
 use mathlib.Core.Bool.{Bool, true, false, cond}
-use Prim.Native.Nat.{ℕ, _<_}
+use Prim.Native.Nat.{ℕ, _+_, _≤_, _<_}
 use native.Mathlib.Omega.{arith}
 use lib.Dec.{eqb}
 use borrow.Author.Tests.{eqb-true}
 use Rattle.slots.specs.declared.Answer.the-variants.{Done, Refused}
 use Rattle.slots.specs.declared.Outcome.{Outcome}
 use Rattle.slots.specs.declared.State.{State}
+use Rattle.slots.specs.State.{roomLength, roomStart}
 use Rattle.slots.specs.Answers.{isDone, unlessRefused}
 use Rattle.slots.specs.Calls.{openedFor, openNumber, openOutcome, openDownNumber, openDownOutcome}
 use Rattle.slots.proofs.Accepted.{Stored, openable, down-open}
@@ -41,6 +42,11 @@ module _ (state : State) (room slot terminal A : ℕ) where
 -- there is such a slot
 pub eight : {state : State} {room slot : ℕ} → Stored state room slot → slot < 8
 eight s = omega (arith, s .present, s .state-good .shape .slots-most)
+
+-- and the store has its room
+pub room-there : {state : State} {room slot : ℕ} → Stored state room slot
+    → (state .blocks ≤ 5) × (slot ≤ 8) × (roomStart (state .blocks) slot + roomLength (state .blocks) ≤ room)
+room-there s = (s .state-good .shape .blocks-most, omega (arith, eight s), s .within)
 
 -- the same number, and where it is 0 the same share
 pub same-opened : (n n′ : ℕ) (state : State) (slot terminal A soft soft′ : ℕ) → n ≡ n′ → (n ≡ 0 → soft ≡ soft′)

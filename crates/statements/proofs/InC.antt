@@ -15,8 +15,8 @@ use Rattle.slots.specs.Calls.{receiveOutcome, readOutcome, streamsOutcome}
 use Rattle.history.specs.Links.{uplink, downlink, openingOutcome}
 use Rattle.history.specs.Calls.{Call, opening, receiving, reading, streaming, closing, Made, History}
 use Rattle.history.specs.Run.{World, lent, outcomeOf, storeAfterCall, step, begin, run}
-use Rattle.face.specs.StateBytes.{stateLength, stateIn}
-use Rattle.face.proofs.Handed.{new-handed, open-handed, down-handed, close-handed}
+use Rattle.state_bytes.specs.StateBytes.{stateLength, stateIn}
+use Rattle.state_bytes.proofs.Handed.{new-handed, open-handed, down-handed, close-handed}
 use Rattle.statements.specs.HistoryInC.{Kept, worldOf, bytesAfterCall, stepInC, runInC, TypedLink, Typed, AllTyped}
 
 -- a call that returns the state as it came

@@ -9,7 +9,7 @@ use Rattle.slots.specs.Calls.{newOutcome, closeOutcome}
 use Rattle.history.specs.Links.{Link, uplink, downlink, openingOutcome}
 use Rattle.history.specs.Calls.{Call, opening, receiving, reading, streaming, closing, Made, History}
 use Rattle.history.specs.Run.{World, lent, storeAfterCall}
-use Rattle.face.specs.StateBytes.{stateIn, bytesAfter, newBytes}
+use Rattle.state_bytes.specs.StateBytes.{stateIn, bytesAfter, newBytes}
 
 -- what the caller keeps: the state's bytes, and the rooms, as much of the store as they take
 pub record Kept : Type 0 where

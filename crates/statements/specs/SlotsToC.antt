@@ -8,7 +8,7 @@ use lib.ListN.{length}
 use Rattle.slots.specs.Answers.{numberOf}
 use Rattle.slots.specs.Calls.{openOutcome, openStore, openDownOutcome, openDownStore, receiveOutcome, receiveStore, readOutcome, readOutput, streamsOutcome, streamsOutput, closeOutcome}
 use Rattle.packing.specs.Store.{placesIn, inForm}
-use Rattle.face.specs.StateBytes.{stateIn, bytesAfter, newNumber, newBytes, valueOf}
+use Rattle.state_bytes.specs.StateBytes.{stateIn, bytesAfter, newNumber, newBytes, valueOf}
 use Rattle.statements.specs.Outcome.{Given, Gives}
 
 abbrev pub NewToCStatement : ℕ → ℕ → List ℕ → Given ℕ (List ℕ) → Type 0

@@ -2,9 +2,10 @@
 -- Assumes nothing.
 use native.Mathlib.Omega.{arith}
 use borrow.Author.Needs.{needs}
-use mathlib.Core.Path.{sym}
+use mathlib.Core.Path.{_∙_}
 use lib.Seq.{length-take-le}
 use Rattle.laws.proofs.Parts.{front-count}
+use Rattle.state_bytes.proofs.Bytes.{whole-over}
 use Rattle.codeword.proofs.Segmented.{Sized, sized, unsized}
 use Rattle.face.proofs.Six.{refused-1, refused-5, accepted}
 use Rattle.face.proofs.zemrukste_sizes.Statement.{statement}
@@ -46,8 +47,7 @@ slice-aggregate-put-numbers-2 : tie.Need-slice-aggregate-put-numbers-2
 slice-aggregate-put-numbers-2 c = front-count 24 (at-start (at-segments-for (at-else2 c .before)) .args .out .now) (at-else2 c .if2 .left)
 
 put-numbers-requires : tie.Need-put-numbers-requires
-put-numbers-requires c κs =
-    (omega arith, sym (length-take-le 24 (at-start (at-segments-for (at-else2 c .before)) .args .out .now) (at-else2 c .if2 .left)))
+put-numbers-requires c κs = search needs
 
 same-length : tie.Need-same-length
 same-length c = search needs
@@ -56,7 +56,9 @@ returns-3 : tie.Need-returns-3
 returns-3 c =
     let put = c .before .before in
     let enough = at-else2 (put .before) in
-    accepted _ _ (in-range (enough .before) .size) (enough .if2 .left) (in-range (enough .before) .told) (put .put-numbers .ensures)
+    let out = at-start (at-segments-for (enough .before)) .args .out .now in
+    accepted _ _ (in-range (enough .before) .size) (enough .if2 .left) (in-range (enough .before) .told)
+    (put .put-numbers .ensures ∙ whole-over 4 _ _ (omega arith) (length-take-le 24 out (enough .if2 .left)))
 
 pub zemrukste-sizes-spec : {M : Type 1} → statement M
 zemrukste-sizes-spec =

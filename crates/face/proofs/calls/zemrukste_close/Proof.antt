@@ -1,7 +1,6 @@
 -- `calls::zemrukste_close` meets its contract: Close on the state that the bytes stand for, and the head that it leaves.
 -- Assumes nothing.
 use Rattle.face.proofs.Told.{numbered, handed}
-use Rattle.face.proofs.Finished.{close-room}
 use borrow.Author.Needs.{needs}
 use Rattle.face.proofs.calls.zemrukste_close.Statement.{statement}
 use Rattle.face.proofs.calls.zemrukste_close.Tie as tie
@@ -13,9 +12,7 @@ close-requires : tie.Need-close-requires
 close-requires c κs = search needs
 
 finish-requires : tie.Need-finish-requires
-finish-requires c κs =
-    let called = c .before in
-    close-room _ _ _ (rw (called .before .state-in .ensures) at (called .close .ensures))
+finish-requires c κs = search needs
 
 same-length : tie.Need-same-length
 same-length c = search needs

@@ -1,7 +1,6 @@
 -- `calls::zemrukste_open` meets its contract: Open on the state that the bytes stand for, and the head that it leaves.
 -- Assumes nothing.
 use Rattle.face.proofs.Told.{numbered, handed}
-use Rattle.face.proofs.Finished.{open-room}
 use borrow.Author.Needs.{needs}
 use Rattle.face.proofs.calls.zemrukste_open.Statement.{statement}
 use Rattle.face.proofs.calls.zemrukste_open.Tie as tie
@@ -13,9 +12,7 @@ open-requires : tie.Need-open-requires
 open-requires c κs = search needs
 
 finish-requires : tie.Need-finish-requires
-finish-requires c κs =
-    let called = c .before .before .before in
-    open-room _ _ _ _ _ (rw (called .before .before .state-in .ensures) at (called .«open» .ensures .0))
+finish-requires c κs = search needs
 
 same-length : tie.Need-same-length
 same-length c = search needs

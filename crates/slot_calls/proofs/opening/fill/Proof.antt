@@ -1,18 +1,17 @@
--- `opening::fill` meets its contract: after i turns the first i bytes are unheard.
+-- `opening::fill` meets its contract: after i turns the first i bytes are the byte given.
 -- Assumes nothing.
 use Prim.Native.Nat.{_-_}
 use native.Mathlib.Omega.{arith}
 use lib.ListN.{length}
 use Rattle.laws.proofs.Filling.{Filling, start, fill, filled}
-use Rattle.slots.specs.Room.{unheard}
 use Rattle.slot_calls.proofs.opening.fill.Statement.{statement}
 use Rattle.slot_calls.proofs.opening.fill.Tie as tie
 
 abbrev Inv-loop : tie.InvT-loop
-Inv-loop room₀ i₀ room i = Filling unheard room₀ room i
+Inv-loop room₀ byte i₀ room i = Filling byte room₀ room i
 
 abbrev μ-loop : tie.MeasureT-loop
-μ-loop room₀ i₀ room i = length room₀ - i
+μ-loop room₀ byte i₀ room i = length room₀ - i
 
 loop-holds : tie.Need-loop-holds Inv-loop μ-loop
 loop-holds c = start

@@ -4,8 +4,6 @@ use Rattle.slots.specs.Answers.{isDone}
 use borrow.Author.Needs.{needs}
 use Rattle.slot_calls.proofs.opening.is_done.Statement.{statement}
 use Rattle.slot_calls.proofs.opening.is_done.Tie as tie
-use Rattle.slot_calls.proofs.opening.is_done.Reads as reads
-use Rattle.slot_calls.proofs.opening.is_done.Lts as lts
 
 -- src/opening.rt:172:25
 enum-told : tie.Need-enum-told

@@ -1,17 +1,15 @@
 -- `opening::open` meets its contract: the answer tells whether the number is 0, and number 0 says that the room lies within the store.
 -- Assumes nothing.
 use mathlib.Core.Path.{_≡_, sym, _∙_, ap}
-use native.Mathlib.Omega.{arith}
 use denote.Ref.{now}
 use borrow.Author.Needs.{needs}
-use borrow.Author.Tests.{eqb-true, not-true, not-false}
+use borrow.Author.Tests.{eqb-true}
 use lib.Dec.{eqb}
 use lib.ListN.{length}
 use Rattle.slots.specs.declared.Outcome.{Outcome}
 use Rattle.slots.specs.Answers.{isDone}
 use Rattle.slots.specs.Calls.{openNumber, openStore}
-use Rattle.slots.proofs.Accepted.{Stored}
-use Rattle.slots.proofs.Done.{open-told, open-stored, eight}
+use Rattle.slots.proofs.Done.{open-told, open-stored, room-there}
 use Rattle.slot_calls.proofs.opening.open.Statement.{statement}
 use Rattle.slot_calls.proofs.opening.open.Tie as tie
 
@@ -19,56 +17,29 @@ use Rattle.slot_calls.proofs.opening.open.Tie as tie
 abbrev at-start : tie.After-open-outcome → tie.Start
 at-start c = c .before .before
 
-abbrev at-open-outcome : tie.After-is-done → tie.After-open-outcome
+abbrev at-open-outcome : tie.After-clear-room-arg → tie.After-open-outcome
 at-open-outcome c = c .before
 
-abbrev at-else1 : tie.After-clear-room-arg → tie.Else1
-at-else1 c = c .before
-
 -- the answer is done where the number is 0
-told : (c : tie.After-is-done) → let entry = at-start (at-open-outcome c) .args in
-    c .is-done .result ≡ eqb (openNumber (entry .state) (length (now (entry .store))) (entry .slot) (entry .size)) 0
-told c = c .is-done .ensures ∙ ap (λ (o : Outcome). isDone (o .answer)) (at-open-outcome c .open-outcome .ensures) ∙ open-told _ _ _ _ _
-
--- what number 0 says
-accepted : (c : tie.Else1) → let entry = at-start (at-open-outcome (c .before)) .args in Stored (entry .state) (length (now (entry .store))) (entry .slot)
-accepted c =
-    let entry = at-start (at-open-outcome (c .before)) .args in
-    open-stored _ _ _ (entry .terminal) (entry .size) (eqb-true _ 0 (sym (told (c .before)) ∙ not-false (c .before .is-done .result) (c .if1 .left)))
+told : (c : tie.After-open-outcome) → let entry = at-start c .args in
+    isDone (c .open-outcome .result .answer) ≡ eqb (openNumber (entry .state) (length (now (entry .store))) (entry .slot) (entry .size)) 0
+told c = ap (λ (o : Outcome). isDone (o .answer)) (c .open-outcome .ensures) ∙ open-told _ _ _ _ _
 
 open-outcome-requires : tie.Need-open-outcome-requires
 open-outcome-requires c κs = search needs
 
-is-done-requires : tie.Need-is-done-requires
-is-done-requires c κs = search needs
-
-returns : tie.Need-returns
-unfolding openStore
-returns c = (at-open-outcome (c .before) .open-outcome .ensures, rw (← told (c .before), not-true (c .before .is-done .result) (c .if1 .taken)))
-
 clear-room-requires : tie.Need-clear-room-requires
-clear-room-requires c κs =
-    let there = accepted (at-else1 c) in ((there .state-good .shape .blocks-most, omega (arith, eight there)), there .within)
+clear-room-requires c κs = λ done. room-there (open-stored _ _ _ 0 _ (eqb-true _ 0 (sym (told (at-open-outcome c)) ∙ done)))
 
 same-length : tie.Need-same-length
 same-length c = search needs
 
-returns-2 : tie.Need-returns-2
+returns : tie.Need-returns
 unfolding openStore
-returns-2 c =
-    let clear-room = c .before .before in
-    let chosen = at-else1 (clear-room .before) in (
-      at-open-outcome (chosen .before) .open-outcome .ensures,
-      rw (← told (chosen .before), not-false (chosen .before .is-done .result) (chosen .if1 .left)) (clear-room .clear-room .ensures),
-    )
+returns c =
+    let cleared = c .before .before in
+    let opened = at-open-outcome (cleared .before) in
+    (opened .open-outcome .ensures, rw (told opened) at (cleared .clear-room .ensures))
 
 pub open-spec : {M : Type 1} → statement M
-open-spec =
-    tie.close
-    (tie.spec
-    open-outcome-requires
-    is-done-requires
-    returns
-    clear-room-requires
-    same-length
-    returns-2)
+open-spec = tie.close (tie.spec open-outcome-requires clear-room-requires same-length returns)

@@ -4,6 +4,7 @@ use mathlib.Core.Path.{_≡_, refl, sym, _∙_}
 use Prim.Native.Nat.{_+_}
 use borrow.Author.Needs.{needs}
 use Rattle.segmentation.specs.Segmentation.{blocks}
+use Rattle.codeword.specs.Downlink.{shareFor}
 use Rattle.rate_matching.specs.SoftBuffer.{softShare}
 use Rattle.slots.specs.Calls.{openDownNumber, openDownOutcome}
 use Rattle.slots.proofs.Accepted.{open-admitted, down-found, down-open, down-buffer}
@@ -12,21 +13,34 @@ use Rattle.slots.proofs.Done.{down-stored, eight, same-opened}
 use Rattle.slot_calls.proofs.opening.open_down_outcome.Statement.{statement}
 use Rattle.slot_calls.proofs.opening.open_down_outcome.Tie as tie
 
+-- the ways back
+abbrev at-start : tie.After-block-count → tie.Start
+at-start c = c .before
+
+abbrev at-block-count : tie.After-share-for → tie.After-block-count
+at-block-count c = c .before
+
+abbrev at-share-for : tie.After-down-number → tie.After-share-for
+at-share-for c = c .before
+
+-- the share is found for the block's code blocks
+found : (c : tie.After-share-for) → let entry = at-start (at-block-count c) .args in
+    c .share-for .result ≡ shareFor (blocks (entry .size + 24)) (entry .release) (entry .mimo) (entry .processes) (entry .soft) (entry .layers)
+found c = rw (at-block-count c .block-count .ensures) at (c .share-for .ensures)
+
 -- the number is the definition's
-told : (c : tie.After-down-number) → let entry = c .before .before .before .args in
+told : (c : tie.After-down-number) → let entry = at-start (at-block-count (at-share-for c)) .args in
     c .down-number .result
     ≡ openDownNumber (entry .state) (entry .room) (entry .slot) (entry .size) (entry .release) (entry .mimo) (entry .processes) (entry .soft) (entry .layers)
-told c = c .down-number .ensures ∙ rw (c .before .share-for .ensures, c .before .before .block-count .ensures) (down-found _ _ _ _ _ _ _ _ _)
+told c = rw (found (at-share-for c)) at (c .down-number .ensures) ∙ down-found _ _ _ _ _ _ _ _ _
 
 -- where it is 0 the share is the standard's
-share-is : (c : tie.After-down-number) → c .down-number .result ≡ 0 → let entry = c .before .before .before .args in
-    c .before .share-for .result ≡ softShare (blocks (entry .size + 24)) (entry .release) (entry .mimo) (entry .processes) (entry .soft) (entry .layers)
+share-is : (c : tie.After-down-number) → c .down-number .result ≡ 0 → let entry = at-start (at-block-count (at-share-for c)) .args in
+    at-share-for c .share-for .result ≡ softShare (blocks (entry .size + 24)) (entry .release) (entry .mimo) (entry .processes) (entry .soft) (entry .layers)
 share-is c z =
-    let share-for = c .before in
     let number = sym (told c) ∙ z in
-    share-for .share-for .ensures
-    ∙ rw (share-for .before .block-count .ensures)
-    (share-found _ (open-admitted _ _ _ _ refl (down-open _ _ _ _ _ _ _ _ _ number)) _ _ _ _ _ (down-buffer _ _ _ _ _ _ _ _ _ number))
+    found (at-share-for c)
+    ∙ share-found _ (open-admitted _ _ _ _ refl (down-open _ _ _ _ _ _ _ _ _ number)) _ _ _ _ _ (down-buffer _ _ _ _ _ _ _ _ _ number)
 
 block-count-requires : tie.Need-block-count-requires
 block-count-requires c κs = search needs

@@ -1,0 +1,5 @@
+pub mod Bytes
+pub mod Finished
+pub mod Back
+pub mod Heads
+pub mod Handed

@@ -1,0 +1,48 @@
+-- `value` meets its contract: each arm is a case of the definition.
+-- Assumes nothing.
+use Rattle.slots.specs.Answers.{valuesOf}
+use Rattle.state_bytes.specs.StateBytes.{valueOf}
+use borrow.Author.Needs.{needs}
+use Rattle.state_bytes.proofs.value.Statement.{statement}
+use Rattle.state_bytes.proofs.value.Tie as tie
+
+enum-told : tie.Need-enum-told
+enum-told c = search needs
+
+enum-known-answer : tie.Need-enum-known-answer
+enum-known-answer c = search needs
+
+enum-told-2 : tie.Need-enum-told-2
+enum-told-2 c = search needs
+
+enum-known-answer-2 : tie.Need-enum-known-answer-2
+enum-known-answer-2 c = search needs
+
+returns : tie.Need-returns
+unfolding valueOf valuesOf
+returns c = rw (c .enum-told .given .1)
+
+returns-2 : tie.Need-returns-2
+unfolding valueOf valuesOf
+returns-2 c = rw (c .before .answer .given .1)
+
+returns-3 : tie.Need-returns-3
+unfolding valueOf valuesOf
+returns-3 c = rw (c .enum-told2 .given .1)
+
+returns-4 : tie.Need-returns-4
+unfolding valueOf valuesOf
+returns-4 c = rw (c .before .answer2 .given .1)
+
+pub value-spec : {M : Type 1} → statement M
+value-spec =
+    tie.close
+    (tie.spec
+    enum-told
+    enum-known-answer
+    enum-told-2
+    enum-known-answer-2
+    returns
+    returns-2
+    returns-3
+    returns-4)
