@@ -7,5 +7,4 @@ pub mod Walk
 pub mod Places
 pub mod Shape
 pub mod Units
-pub mod Matcher
 pub mod Turns

@@ -1,6 +1,5 @@
 -- `mapping::column_unit_at` meets its contract: the test is that of the definition.
 -- Assumes nothing.
-use mathlib.Core.Path.{_≡_, sym, _∙_}
 use mathlib.Core.Bool.{_&&_, and-eq-true-iff}
 use Prim.Native.Nat.{_≤_, _<_}
 use lib.Dec.{leb, ltb}
