@@ -27,10 +27,11 @@ use Rattle.turbo.proofs.Encodable.{true-encodable, block-put}
 use Rattle.laws.proofs.AreBits.{append-bits}
 use Rattle.rate_matching.specs.SubBlocks.{rows}
 use Rattle.rate_matching.specs.Circle.{circleLength, cutAt, Cut}
-use Rattle.rate_matching.specs.Matcher.{matchedInto}
 use Rattle.rate_matching.proofs.Alike.{Filled}
 use Rattle.rate_matching.proofs.Units.{rows-some}
-use Rattle.rate_matching.proofs.MatcherBlock.{Matchable, matched-selected}
+use Rattle.rate_matching.proofs.MatchableBlocks.{Matchable}
+use Rattle.bit_selection.specs.Matcher.{matchedInto}
+use Rattle.bit_selection.proofs.Block.{matched-selected}
 use Rattle.codeword.specs.Codeword.{blockCircle, blockRows, blockCut, sentBits}
 use Rattle.codeword.specs.inner.Sending.{Sending}
 use Rattle.codeword.proofs.Accepted.{given-bits}

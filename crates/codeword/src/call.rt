@@ -308,5 +308,5 @@ fn send_in(
     let row = segmentation::block::row_of(s, r);
     let filler = segmentation::block::filler_of(s, r);
     turbo::encode(row, filler, d0, d1, d2);
-    rate_matching::rate_match(d0, d1, d2, filler, ncb, version, stretch);
+    bit_selection::rate_match(d0, d1, d2, filler, ncb, version, stretch);
 }

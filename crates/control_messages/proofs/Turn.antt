@@ -11,7 +11,7 @@ use borrow.Rule.Slice.PartMut.{putMid}
 use Rattle.laws.specs.Lists.{tab}
 use Rattle.laws.proofs.Tab.{length-tab, take-tab, tab-ext}
 use Rattle.rate_matching.specs.Walk.{turnAfterTurn}
-use Rattle.rate_matching.specs.Matcher.{repeatedInto}
+use Rattle.bit_selection.specs.Matcher.{repeatedInto}
 use Rattle.control_messages.specs.Working.{Sized, bitAt, oneTurn}
 
 -- the front of a list into which a part was put, up to m entries of the part

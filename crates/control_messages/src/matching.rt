@@ -18,7 +18,7 @@ pub(crate) fn rate_matching(coded: &[u8; 80], d: usize, out: &mut [u8])
     let mut ring = [0u8; 240];
     put_streams(&taken, d, &mut ring);
     let n = d + d + d;
-    rate_matching::turn_after_turn(&ring[..n], out);
+    bit_selection::turn_after_turn(&ring[..n], out);
 }
 
 // The first `d` bytes of `coded` in the order of the sub-block interleaver, dummies left out.

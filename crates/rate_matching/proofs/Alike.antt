@@ -107,15 +107,7 @@ module _ {D F : ℕ} {d0 d1 d2 e0 e1 e2 : List ℕ} (w : Filled D F d0 d1 d2) (u
         ∙ sym (List·getD-eq-default (circle e0 e1 e2) 0 {n = j} (rw (length-circle D e0 e1 e2 (u .long0) (u .long1) (u .long2)) (omega arith))))
   ]
 
-  -- both circles send the same places
-  pub same-sent : (k0 E : ℕ) → sentPlaces (circle d0 d1 d2) k0 E ≡ sentPlaces (circle e0 e1 e2) k0 E
-  unfolding sentPlaces turn
-  same-sent k0 E =
-      ap (λ (places : List ℕ). tab E (turnAfterTurn places))
-      (ap (λ (n : ℕ). keep (holdsBit (circle d0 d1 d2)) (round n k0)) same-length
-      ∙ keep-ext (holdsBit (circle d0 d1 d2)) (holdsBit (circle e0 e1 e2)) (round (length (circle e0 e1 e2)) k0) (λ i l. same-holds _))
-
-  -- and so they do when both are cut at one place
+  -- both circles send the same places when they are cut at one place
   cut-holds : (n j : ℕ) → holdsBit (take n (circle d0 d1 d2)) j ≡ holdsBit (take n (circle e0 e1 e2)) j
   unfolding holdsBit onCircle
   cut-holds n j = elim (decLt j n) [

@@ -8,7 +8,7 @@ use native.Mathlib.Omega.{arith}
 use lib.Dec.{ltb, eqb}
 use lib.ListN.{length, getD, List·getD-eq-default}
 use borrow.Author.Tests.{ltb-true, ltb-false, eqb-true, lt-ltb, le-ltb}
-use Rattle.laws.specs.Lists.{tab, tabFrom}
+use Rattle.laws.specs.Lists.{tab}
 use Rattle.laws.specs.Bits.{bitsOf}
 use Rattle.laws.specs.inner.Computed.{all-below}
 use Rattle.laws.proofs.Computed.{all-below-at, T-true}

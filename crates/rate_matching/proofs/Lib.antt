@@ -5,8 +5,7 @@ pub mod Circle
 pub mod SoftBuffer
 pub mod Kept
 pub mod Walk
-pub mod MatcherRooms
-pub mod MatcherTurns
+pub mod WholeTurns
 pub mod ShapeTurn
 pub mod ShapeColumns
 pub mod Coverage
@@ -15,7 +14,5 @@ pub mod ShapeCount
 pub mod Units
 pub mod UnitPlaces
 pub mod Cut
-pub mod MatcherBlock
-pub mod MatcherRing
-pub mod MatcherRest
+pub mod MatchableBlocks
 pub mod Turns

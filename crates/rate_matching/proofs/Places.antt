@@ -2,12 +2,12 @@
 -- Of the column table only its rule is used. Assumes nothing.
 use mathlib.Core.Path.{_≡_, refl, sym, _∙_, ap, subst}
 use mathlib.Core.Logic.{_↔_}
-use mathlib.Core.Bool.{Bool, true, false, cond, _&&_}
+use mathlib.Core.Bool.{Bool, true, false, cond}
 use Prim.Native.Nat.{ℕ, zero, suc, _+_, _-_, _*_, _/_, _%_, _≤_, _<_}
 use native.Mathlib.Nat.{add-assoc, add-sub-cancel-left, mod-lt, mod-eq-of-lt, mod-add-mod, add-mod-right, div-lt-iff-lt-mul, div-add-mod'}
 use native.Mathlib.Omega.{arith}
 use lib.Arith.{digits-lt, digits-div, digits-mod}
-use lib.Dec.{ltb, leb, eqb}
+use lib.Dec.{ltb, eqb}
 use borrow.Author.Tests.{lt-ltb, le-ltb, eq-eqb, ne-eqb, ltb-true, ltb-false, eqb-true, eqb-false}
 use Rattle.rate_matching.specs.declared.StreamPlace.{StreamPlace}
 use Rattle.rate_matching.specs.declared.CirclePlace.{CirclePlace}
@@ -18,10 +18,6 @@ use Rattle.rate_matching.specs.Places.{Bit, Dummy, heldY, heldByTurns, h
 use Rattle.rate_matching.proofs.Columns.{column-rule}
 
 -- ---- the rows and the dummies
-
-pub dummies-lt : (D : ℕ) → dummies D < 32
-unfolding rows dummies
-dummies-lt D = omega arith
 
 -- the dummies and the stream fill the rows
 pub dummies-add : (D : ℕ) → dummies D + D ≡ 32 * rows D
@@ -251,11 +247,6 @@ place-held D j p h = by-stream (rows D) Back back (j .0) h
               ∙ ap (λ (n : ℕ). at (rows D) s (lieBy (eqb s 2) (rows D) n)) (i .1)
               ∙ ap (at (rows D) s) (lieBy-readBy (rows D) (eqb s 2) x l)),
         )
-
-pub places-distinct : (D : ℕ) (p q : StreamPlace) → InStreams D p → InStreams D q → placeOf D p ≡ placeOf D q → p ≡ q
-places-distinct D p q u w e =
-    let b : Bit p ≡ Bit q = sym (held-place D p u) ∙ ap (heldAt D) e ∙ held-place D q w in
-    cc
 
 -- a circle place holds a stream place exactly where that stream place lies
 pub both-ways : (D : ℕ) (j : CirclePlace) (p : StreamPlace) → OnCircle D j → InStreams D p → (heldAt D j ≡ Bit p) ↔ (placeOf D p ≡ j)

@@ -1,7 +1,6 @@
 -- The soft buffer of clause 5.1.4.1.2 sentence by sentence: what K_C is, that Release 8 does not divide by it, and where the circle is cut.
 -- Assumes nothing.
 use mathlib.Core.Path.{_≡_, refl, ap}
-use mathlib.Core.Bool.{false}
 use Prim.Native.Nat.{ℕ, _*_, _/_, _≤_, _<_, min}
 use native.Mathlib.Omega.{arith}
 use borrow.Author.Tests.{le-leb, lt-leb, ne-eqb}

@@ -12,8 +12,7 @@ use Rattle.rate_matching.specs.Circle.{Cut, cutAt}
 use Rattle.rate_matching.specs.Places.{longest}
 use Rattle.rate_matching.specs.Shape.{shape, bitPlaces}
 use Rattle.rate_matching.specs.Units.{unitStart, wholeUnits}
-use Rattle.rate_matching.specs.Matcher.{matchable}
-use Rattle.rate_matching.specs.Turns.{unitsOf, turnOf}
+use Rattle.rate_matching.specs.Turns.{matchable, unitsOf, turnOf}
 use Rattle.rate_matching.proofs.ShapeColumns.{bitPlaces-split}
 use Rattle.rate_matching.proofs.Units.{high-next}
 use Rattle.rate_matching.proofs.Cut.{cut-place, rest-few, whole-least, restBits, shortened-count}

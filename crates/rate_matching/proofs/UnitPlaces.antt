@@ -2,13 +2,11 @@
 -- Assumes nothing.
 use mathlib.Core.Path.{_≡_, refl, sym, _∙_, ap, ap₂, subst}
 use mathlib.Core.Bool.{Bool, true, false, cond, _&&_}
-use mathlib.Core.List.{List, _++_, map, map-append}
-use Prim.Native.Nat.{ℕ, zero, suc, _+_, _-_, _*_, _/_, _%_, _≤_, _<_, min}
+use mathlib.Core.List.{_++_, map, map-append}
+use Prim.Native.Nat.{ℕ, _+_, _-_, _*_, _/_, _%_, _≤_, _<_, min}
 use native.Mathlib.Nat.{add-zero, mul-le-mul-right}
-use native.Mathlib.Numerals.{add-one}
 use native.Mathlib.Omega.{arith}
 use lib.Dec.{leb, ltb}
-use lib.ListN.{length}
 use borrow.Author.Tests.{ltb-true, ltb-false, le-leb, lt-ltb, le-ltb}
 use Rattle.laws.specs.Lists.{tab, tabFrom}
 use Rattle.laws.proofs.Tab.{tabFrom-shift, map-tabFrom, tab-ext}
@@ -16,16 +14,14 @@ use Rattle.rate_matching.specs.declared.CirclePlace.{CirclePlace}
 use Rattle.rate_matching.specs.declared.Unit.{Unit}
 use Rattle.rate_matching.specs.Columns.{column}
 use Rattle.rate_matching.specs.SubBlocks.{rows, dummies, rowsBefore}
-use Rattle.rate_matching.specs.Circle.{circle, circleLength}
+use Rattle.rate_matching.specs.Circle.{circleLength}
 use Rattle.rate_matching.specs.Places.{longest}
-use Rattle.rate_matching.specs.Walk.{onCircle, itself}
+use Rattle.rate_matching.specs.Walk.{itself}
 use Rattle.rate_matching.specs.Shape.{shape, bitPlaces, second, pairPlaces, lastPlace}
-use Rattle.rate_matching.specs.Units.{columnUnit, pairUnit, unitAt, noUnit, unitWithin, columnWithin, pairWithin, alonePlace, aloneCount, bothCount, unitPlaces, everyRow, pairRow, bitsBefore, bitsOf, unitBits, unitsFrom, unitStart, Lies, Reads}
+use Rattle.rate_matching.specs.Units.{columnUnit, pairUnit, unitAt, noUnit, unitWithin, columnWithin, pairWithin, alonePlace, aloneCount, bothCount, unitPlaces, bitsBefore, unitStart, Lies}
 use Rattle.rate_matching.proofs.Columns.{column-rule}
-use Rattle.rate_matching.proofs.Places.{dummies-add}
-use Rattle.rate_matching.proofs.ShapeColumns.{bitPlaces-split, column-places, pair-places}
-use Rattle.rate_matching.proofs.ShapeTurn.{bitPlaces-none}
-use Rattle.rate_matching.proofs.Units.{some-dummies, column-bits, pair-bits, low-start, low-next, high-start, high-next, starts-rise}
+use Rattle.rate_matching.proofs.ShapeColumns.{column-places, pair-places}
+use Rattle.rate_matching.proofs.Units.{some-dummies, low-start, low-next, high-start, high-next}
 
 -- ---- which unit it is
 
@@ -72,22 +68,6 @@ pair-is D F {u} high = go (ltb u 64) refl
         let low = ltb-false u 64 t in
         let many : 32 ≤ u - 32 = omega arith in
         rw (le-ltb (u - 32) 32 many, le-ltb u 64 low) (past (leb D longest && ltb F D))
-
--- as it is found
-pub column-within : {D F u : ℕ} {U : Unit} → D ≤ longest → F < D → u < 32 → U ≡ columnUnit D F u → U ≡ unitWithin D F u
-column-within {D} {F} {u} most few low e = e ∙ sym (unit-there most few (omega arith) ∙ unit-low D F low)
-
-pub pair-within : {D F u : ℕ} {U : Unit} → D ≤ longest → F < D → 32 ≤ u → u < 64 → U ≡ pairUnit D F (u - 32) → U ≡ unitWithin D F u
-pair-within {D} {F} {u} most few high low e = e ∙ sym (unit-there most few low ∙ unit-high D F high)
-
--- which stream its first place is of
-pub column-stream : (D F c : ℕ) {U : Unit} → U ≡ columnUnit D F c → U .first .0 ≡ 0
-unfolding columnUnit
-column-stream D F c e = ap (λ (x : Unit). x .first .0) e
-
-pub pair-stream : (D F c : ℕ) {U : Unit} → U ≡ pairUnit D F c → U .first .0 ≡ 0 → ⊥
-unfolding pairUnit
-pair-stream D F c {U} e z = let one : U .first .0 ≡ 1 = ap (λ (x : Unit). x .first .0) e in omega arith
 
 -- ---- the rows of a column
 
@@ -168,49 +148,9 @@ module _ {D F c : ℕ} (most : D ≤ longest) (few : F < D) (h : c < 32) where
 
   -- ---- there are so many
 
-  pub alone-none : aloneCount (columnUnit D F c) ≡ 0
-  unfolding aloneCount columnUnit
-  alone-none = omega arith
-
   pub alone-count : aloneCount (pairUnit D F c) ≡ f - e
   unfolding aloneCount pairUnit second
   alone-count = omega (arith, column-rowed .alone)
-
-  pub column-count : bothCount (columnUnit D F c) ≡ R - f
-  unfolding bothCount columnUnit
-  column-count = omega (arith, column-rowed .high)
-
-  pub pair-count : bothCount (pairUnit D F c) ≡ 2 * R - p / 31 - 2 * f
-  unfolding bothCount pairUnit lastPlace
-  pair-count = omega arith
-
-  -- ---- what it reads
-
-  column-size : aloneCount (columnUnit D F c) + bothCount (columnUnit D F c) ≤ R
-  column-size = omega (arith, alone-none, column-count)
-
-  pair-size : aloneCount (pairUnit D F c) + bothCount (pairUnit D F c) ≤ 2 * R
-  pair-size = omega (arith, alone-count, pair-count, column-rowed .high)
-
-  column-reads : Reads D (columnUnit D F c)
-  unfolding columnUnit
-  column-reads = record {
-    lies = column-lies;
-    column = λ z. rw column-count (omega (arith, column-rowed));
-    alone = λ z. absurd (z refl);
-    first = λ z. absurd (z refl);
-    second = λ z. absurd (z refl);
-  }
-
-  pair-reads : Reads D (pairUnit D F c)
-  unfolding pairUnit
-  pair-reads = record {
-    lies = pair-lies;
-    column = λ z. absurd (omega (arith, z));
-    alone = λ z. rw alone-count (omega (arith, column-rowed));
-    first = λ z. rw pair-count (omega (arith, column-rowed));
-    second = λ z. rw pair-count (omega (arith, column-rowed));
-  }
 
   -- ---- its places that hold a bit
 
@@ -268,15 +208,9 @@ module _ (U : Unit) (cut : CirclePlace) where
   pub before-none : cut .0 ≤ U .both .0 → cut .0 ≤ U .alone .0 → 0 ≡ bitsBefore U cut
   before-none h l = let none : 0 ≡ (cut .0 + 1 - U .alone .0) / 2 = omega arith in none ∙ before-alone h
 
-none-reads : (D : ℕ) → Reads D noUnit
-unfolding noUnit aloneCount bothCount
-none-reads D = record {
-  lies = record { alone = omega arith; both = omega arith; end = omega arith };
-  column = λ z. omega arith;
-  alone = λ z. absurd (z refl);
-  first = λ z. absurd (z refl);
-  second = λ z. absurd (z refl);
-}
+pub none-lies : Lies noUnit
+unfolding noUnit
+none-lies = record { alone = omega arith; both = omega arith; end = omega arith }
 
 -- ---- of unit u
 
@@ -292,32 +226,22 @@ module _ {D F : ℕ} (u : ℕ) (most : D ≤ longest) (few : F < D) {U : Unit} (
   pub told-high : 32 ≤ u → u < 64 → U ≡ pairUnit D F (u - 32)
   told-high h l = is ∙ unit-there most few l ∙ unit-high D F h
 
-  -- what it reads lies in the streams
-  pub unit-reads : Reads D U
-  unit-reads = go (ltb u 32) refl (ltb u 64) refl
+  -- what holds of the columns, of the pairs and of a unit that has no place holds of it
+  pub by-kind : (P : Unit → Type 0) → (u < 32 → P (columnUnit D F u)) → (u - 32 < 32 → P (pairUnit D F (u - 32))) → P noUnit → P U
+  by-kind P low high none = go (ltb u 32) refl (ltb u 64) refl
     where
-      go : (a : Bool) → ltb u 32 ≡ a → (b : Bool) → ltb u 64 ≡ b → Reads D U
-      go true s b t = let h : u < 32 = ltb-true u 32 s in rw (told-low h) (column-reads most few h)
-      go false s true t = let h : 32 ≤ u = ltb-false u 32 s in let l : u < 64 = ltb-true u 64 t in rw (told-high h l) (pair-reads most few (omega arith))
-      go false s false t = rw (is ∙ unit-none D F (ltb-false u 64 t)) (none-reads D)
+      go : (a : Bool) → ltb u 32 ≡ a → (b : Bool) → ltb u 64 ≡ b → P U
+      go true s b t = let h : u < 32 = ltb-true u 32 s in subst P (sym (told-low h)) (low h)
+      go false s true t = let h : 32 ≤ u = ltb-false u 32 s in let l : u < 64 = ltb-true u 64 t in subst P (sym (told-high h l)) (high (omega arith))
+      go false s false t = subst P (sym (is ∙ unit-none D F (ltb-false u 64 t))) none
 
-  -- and it ends on the circle
+  -- its places lie in order, and it ends on the circle
+  pub unit-lies : Lies U
+  unit-lies = by-kind Lies (column-lies most few) (pair-lies most few) none-lies
+
   pub unit-ends : U .end .0 ≤ circleLength (rows D)
   unfolding noUnit
-  unit-ends = go (ltb u 32) refl (ltb u 64) refl
-    where
-      go : (a : Bool) → ltb u 32 ≡ a → (b : Bool) → ltb u 64 ≡ b → U .end .0 ≤ circleLength (rows D)
-      go true s b t = let h : u < 32 = ltb-true u 32 s in rw (told-low h) (column-ends most few h)
-      go false s true t = let h : 32 ≤ u = ltb-false u 32 s in let l : u < 64 = ltb-true u 64 t in let c : u - 32 < 32 = omega arith in rw (told-high h l) (pair-ends most few c)
-      go false s false t = rw (is ∙ unit-none D F (ltb-false u 64 t)) (omega arith)
-
-  -- it has no more bits than places
-  pub unit-few : u < 64 → aloneCount U + bothCount U ≤ unitStart (rows D) (u + 1) - unitStart (rows D) u
-  unit-few l = go (ltb u 32) refl
-    where
-      go : (a : Bool) → ltb u 32 ≡ a → aloneCount U + bothCount U ≤ unitStart (rows D) (u + 1) - unitStart (rows D) u
-      go true s = let h : u < 32 = ltb-true u 32 s in rw (told-low h) (omega (arith, low-next (rows D) u h, column-size most few h))
-      go false s = let h : 32 ≤ u = ltb-false u 32 s in rw (told-high h l) (let c : u - 32 < 32 = omega arith in omega (arith, high-next (rows D) u h, pair-size most few c))
+  unit-ends = by-kind (λ (x : Unit). x .end .0 ≤ circleLength (rows D)) (column-ends most few) (pair-ends most few) (omega arith)
 
   -- the places that it names are those of the unit that hold a bit
   pub unit-named : D % 8 ≡ 4 → u < 64 → unitPlaces U ≡ bitPlaces (shape D F) (unitStart (rows D) u) (unitStart (rows D) (u + 1))
@@ -330,50 +254,3 @@ module _ {D F : ℕ} (u : ℕ) (most : D ≤ longest) (few : F < D) {U : Unit} (
       go false s =
           let h : 32 ≤ u = ltb-false u 32 s in
           ap unitPlaces (told-high h l) ∙ rw (high-next (rows D) u h, high-start (rows D) u h) (pair-named most few (omega arith) some)
-
--- ---- the bits
-
-module _ (D F : ℕ) (d0 d1 d2 : List ℕ) (l0 : length d0 ≡ D) (l1 : length d1 ≡ D) (l2 : length d2 ≡ D) (some : D % 8 ≡ 4) (few : F < D) (most : D ≤ longest) where
-  pub unit-bits : (u : ℕ) → u < 64
-      → map (onCircle (circle d0 d1 d2)) (bitPlaces (shape D F) (unitStart (rows D) u) (unitStart (rows D) (u + 1))) ≡ unitBits D d0 d1 d2 F u
-  unfolding unitBits bitsOf columnUnit pairUnit
-  unit-bits u l = go (ltb u 32) refl
-    where
-      low : (h : u < 32) → bitsOf d0 d1 d2 (columnUnit D F u) ≡ tab (rows D - f most few h) (everyRow d0 (p most few h + 32 * f most few h - dummies D))
-      low h = ap (λ (n : ℕ). tab n (everyRow d0 (p most few h + 32 * f most few h - dummies D))) (column-count most few h)
-
-      high : (h : u - 32 < 32) → bitsOf d0 d1 d2 (pairUnit D F (u - 32))
-          ≡ tab (f most few h - e most few h) (everyRow d2 (p most few h + 1 + 32 * e most few h - dummies D))
-          ++ tab (2 * rows D - p most few h / 31 - 2 * f most few h) (pairRow d1 d2 (p most few h + 32 * f most few h - dummies D))
-      high h =
-          ap₂ (λ (a b : ℕ). tab a (everyRow d2 (p most few h + 1 + 32 * e most few h - dummies D)) ++ tab b (pairRow d1 d2 (p most few h + 32 * f most few h - dummies D)))
-          (alone-count most few h) (pair-count most few h)
-
-      go : (t : Bool) → ltb u 32 ≡ t
-          → map (onCircle (circle d0 d1 d2)) (bitPlaces (shape D F) (unitStart (rows D) u) (unitStart (rows D) (u + 1))) ≡ bitsOf d0 d1 d2 (unitWithin D F u)
-      go true t =
-          let h : u < 32 = ltb-true u 32 t in
-          rw (low-next (rows D) u h, low-start (rows D) u h) (column-bits D F d0 d1 d2 l0 l1 l2 some few u h)
-          ∙ sym (ap (bitsOf d0 d1 d2) (told-low u most few refl h) ∙ low h)
-      go false t =
-          let h : 32 ≤ u = ltb-false u 32 t in
-          let c : u - 32 < 32 = omega arith in
-          rw (high-next (rows D) u h, high-start (rows D) u h) (pair-bits D F d0 d1 d2 l0 l1 l2 some few (u - 32) c)
-          ∙ sym (ap (bitsOf d0 d1 d2) (told-high u most few refl h l) ∙ high c)
-
-  pub units-are : (n u : ℕ) → u + n ≤ 64
-      → unitsFrom D d0 d1 d2 F u n ≡ map (onCircle (circle d0 d1 d2)) (bitPlaces (shape D F) (unitStart (rows D) u) (unitStart (rows D) (u + n)))
-  unfolding unitsFrom
-  units-are zero u h = rw (add-zero u, bitPlaces-none (shape D F) (unitStart (rows D) u) (unitStart (rows D) u) (omega arith))
-  units-are (suc n) u h =
-      ap₂ _++_ (sym (unit-bits u (omega arith))) (units-are n (suc u) (omega arith))
-      ∙ sym (map-append (onCircle (circle d0 d1 d2)) (bitPlaces (shape D F) (unitStart R u) (unitStart R (u + 1))) (bitPlaces (shape D F) (unitStart R (suc u)) (unitStart R (suc u + n))))
-      ∙ ap (map (onCircle (circle d0 d1 d2)))
-      (ap₂ (λ (a b : ℕ). bitPlaces (shape D F) (unitStart R u) (unitStart R (u + 1)) ++ bitPlaces (shape D F) (unitStart R a) (unitStart R b)) (sym (add-one u)) ends
-      ∙ sym (bitPlaces-split (shape D F) (unitStart R u) (unitStart R (u + suc n)) (unitStart R (u + 1)) (starts-rise R u (u + 1) (omega arith)) (starts-rise R (u + 1) (u + suc n) (omega arith))))
-    where
-      R : ℕ
-      R = rows D
-
-      ends : suc u + n ≡ u + suc n
-      ends = omega arith

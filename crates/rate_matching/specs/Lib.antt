@@ -5,8 +5,7 @@ pub mod Circle
 pub mod SoftBuffer
 pub mod Walk
 pub mod Places
+pub mod Matrix
 pub mod Shape
 pub mod Units
-pub mod Matcher
-pub mod Matrix
 pub mod Turns

@@ -1,6 +1,5 @@
-// Rate matching of clause 5.1.4.1: a place in a stream and a place on the circle are two types, crossed only by the mapping functions.
+// The places of rate matching, clause 5.1.4.1: a place in a stream and a place on the circle are two types, crossed only by the mapping functions.
 mod mapping;
-mod matcher;
 mod shortened;
 pub mod table;
 
@@ -9,9 +8,10 @@ pub use mapping::column_heads;
 pub use mapping::column_unit_at;
 pub use mapping::matrix_place;
 pub use mapping::pair_unit_at;
+pub use mapping::rows_of;
 pub use mapping::unit_at;
-pub use matcher::rate_match;
-pub use matcher::turn_after_turn;
+pub use shortened::cut_at;
+pub use shortened::matchable;
 pub use shortened::turn_of;
 
 // Which stream, 0 to 2, and the place in it, which runs to D.

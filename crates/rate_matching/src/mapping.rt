@@ -15,11 +15,10 @@ ghost use Rattle.rate_matching.specs.Units.{columnUnit, pairUnit, noUnit
 pub(crate) const LONGEST: usize = 6148;
 
 // The rows of the matrix, R.
-pub(crate) fn rows_of(d: usize) -> usize
-    requires { ⌜ d ≤ 6148 ⌝ }
+pub fn rows_of(d: usize) -> usize
     ensures { λ r. ⌜ r ≡ rows d ⌝ }
 {
-    (d + 31) / 32
+    d / 32 + (d % 32 + 31) / 32
 }
 
 // The places of the circle of streams of d places, 96·R; 0 where no code block has such streams.
@@ -40,7 +39,7 @@ fn rows_before(i: usize, p: usize) -> usize
 }
 
 // Column c of stream 0: its bits begin behind the dummies and the filler.
-pub(crate) fn column_unit(d: usize, filler: usize, c: usize) -> Unit
+fn column_unit(d: usize, filler: usize, c: usize) -> Unit
     requires { ⌜ (d ≤ 6148) × (filler < d) × (c < 32) ⌝ }
     ensures { λ r. ⌜ r ≡ columnUnit d filler c ⌝ }
 {
@@ -62,7 +61,7 @@ pub(crate) fn column_unit(d: usize, filler: usize, c: usize) -> Unit
 }
 
 // Column c of streams 1 and 2. Stream 2 has no filler and is read one further, so that its bits begin earlier; the last place of column 31 wraps to a dummy.
-pub(crate) fn pair_unit(d: usize, filler: usize, c: usize) -> Unit
+fn pair_unit(d: usize, filler: usize, c: usize) -> Unit
     requires { ⌜ (d ≤ 6148) × (filler < d) × (c < 32) ⌝ }
     ensures { λ r. ⌜ r ≡ pairUnit d filler c ⌝ }
 {

@@ -6,14 +6,13 @@ use crate::Unit;
 use crate::mapping::LONGEST;
 use crate::mapping::rows_of;
 use crate::mapping::unit_at;
-use crate::matcher::matchable;
 ghost use mathlib.Core.Path.{_≡_};
 ghost use mathlib.Core.Bool.{true};
-ghost use Prim.Native.Nat.{_+_, _≤_, _<_};
-ghost use Rattle.rate_matching.specs.Circle.{Cut};
+ghost use Prim.Native.Nat.{_≤_};
+ghost use Rattle.rate_matching.specs.SubBlocks.{rows};
+ghost use Rattle.rate_matching.specs.Circle.{Cut, cutAt};
 ghost use Rattle.rate_matching.specs.Units.{startUnit, bitsBefore, Lies};
-ghost use Rattle.rate_matching.specs.Matcher.{matchable};
-ghost use Rattle.rate_matching.specs.Turns.{unitsOf, turnOf};
+ghost use Rattle.rate_matching.specs.Turns.{matchable, unitsOf, turnOf};
 
 // The unit that begins at the start of a version, on a circle of `rows` rows that is cut at `ncb`.
 fn start_unit(ncb: usize, rows: usize, version: usize) -> usize
@@ -45,8 +44,34 @@ fn bits_before(unit: Unit, cut: CirclePlace) -> usize
     0
 }
 
+// Whether these are the lengths and the filler of a code block's streams, a length of its circle that is accepted, and one of the four versions.
+pub fn matchable(d: usize, d1: usize, d2: usize, filler: usize, ncb: usize, version: usize) -> bool
+    ensures { λ r. ⌜ r ≡ matchable d d1 d2 filler ncb version ⌝ }
+{
+    if d > LONGEST {
+        return false;
+    }
+    let rows = rows_of(d);
+    (d1 == d)
+        & (d2 == d)
+        & (44 <= d)
+        & (d % 8 == 4)
+        & (filler < d)
+        & (32 * rows <= ncb)
+        & (ncb <= 96 * rows)
+        & (version <= 3)
+}
+
+// N_cb of a code block whose streams have d places, with a share `soft` of the soft buffer. The circle's length is asked for only where the share is no shorter.
+pub fn cut_at(soft: usize, d: usize) -> usize
+    ensures { λ r. ⌜ r ≡ cutAt soft (rows d) ⌝ }
+{
+    let rows = rows_of(d);
+    if soft / 96 < rows { soft } else { 96 * rows }
+}
+
 // The turn of redundancy version `version` on a circle that is cut at `ncb`, of a code block with streams of d places, `filler` of them filler.
-pub(crate) fn turn_in(d: usize, filler: usize, ncb: usize, version: usize) -> Turn
+fn turn_in(d: usize, filler: usize, ncb: usize, version: usize) -> Turn
     requires { ⌜ matchable d d d filler ncb version ≡ true ⌝ }
     ensures { λ r. ⌜ r ≡ unitsOf d filler ncb version ⌝ }
 {
@@ -61,18 +86,13 @@ pub(crate) fn turn_in(d: usize, filler: usize, ncb: usize, version: usize) -> Tu
 pub fn turn_of(d: usize, filler: usize, soft: usize, version: usize) -> Turn
     ensures { λ r. ⌜ r ≡ turnOf d filler soft version ⌝ }
 {
-    let none = Turn {
-        start: 0,
-        whole: 0,
-        rest: 0,
-    };
-    if d > LONGEST {
-        return none;
-    }
-    let all = 96 * rows_of(d);
-    let ncb = if soft < all { soft } else { all };
+    let ncb = cut_at(soft, d);
     if !matchable(d, d, d, filler, ncb, version) {
-        return none;
+        return Turn {
+            start: 0,
+            whole: 0,
+            rest: 0,
+        };
     }
     turn_in(d, filler, ncb, version)
 }

@@ -16,7 +16,7 @@ use Rattle.laws.proofs.AreBits.{take-below, drop-below}
 use Rattle.laws.proofs.Parts.{length-mid}
 use Rattle.laws.proofs.Tab.{length-tab, length-tabFrom, getD-tab, getD-tabFrom, tabFrom-ext, map-tabFrom, tab-rest, rest-none}
 use Rattle.rate_matching.specs.Walk.{itself, turnAfterTurn}
-use Rattle.rate_matching.proofs.MatcherTurns.{turn-front, turn-next}
+use Rattle.rate_matching.proofs.WholeTurns.{turn-front, turn-next}
 use Rattle.slots.specs.Putting.{putAlong}
 use Rattle.slots.specs.Room.{agreeing}
 use Rattle.slots.proofs.Putting.{length-put}

@@ -22,9 +22,9 @@ use Rattle.rate_matching.proofs.Circle.{start-below}
 use Rattle.rate_matching.proofs.ShapeTurn.{bitPlaces-none, length-shape}
 use Rattle.rate_matching.proofs.ShapeColumns.{bitPlaces-split}
 use Rattle.rate_matching.proofs.Units.{low-start, starts-rise}
-use Rattle.rate_matching.proofs.UnitPlaces.{unit-there, unit-low, column-is, unit-reads, unit-ends, unit-named}
+use Rattle.rate_matching.proofs.UnitPlaces.{unit-there, unit-low, column-is, unit-lies, unit-ends, unit-named}
 use Rattle.rate_matching.proofs.Cut.{cut-place, whole-most, start-head, start-whole, restBits, no-rest, none-cut, turn-cut, length-cut, turn-some}
-use Rattle.rate_matching.proofs.MatcherBlock.{Matchable, matchable-is}
+use Rattle.rate_matching.proofs.MatchableBlocks.{Matchable, matchable-is}
 use Rattle.rate_matching.proofs.Turns.{turn-told, rest-taken}
 use Rattle.slots.specs.State.{perBlock}
 use Rattle.reception.specs.inner.Along.{Put, turnIn, everySecond, Walked, Sends}
@@ -102,7 +102,7 @@ pub record Units (D F from to : ℕ) (bits : List ℕ) (at : ℕ) (part₀ part 
 
 -- a unit lies in a list that has the circle's places
 pub unit-within : {D F long : ℕ} → Walked D F long → (u : ℕ) {U : Unit} → U ≡ unitWithin D F u → Lies U × (U .end .0 ≤ long)
-unit-within w u is = (unit-reads u (w .most) (w .filler) is .lies, omega (arith, unit-ends u (w .most) (w .filler) is, w .fits))
+unit-within w u is = (unit-lies u (w .most) (w .filler) is, omega (arith, unit-ends u (w .most) (w .filler) is, w .fits))
 
 module _ {D F from to : ℕ} {bits : List ℕ} {at : ℕ} {part₀ : List ℕ} (ok : Walked D F (length part₀) × (from ≤ to) × (to ≤ 64) × (at ≤ length bits)) where
   pub units-start : Units D F from to bits at part₀ part₀ at from

@@ -2,7 +2,6 @@
 -- Assumes nothing.
 use native.Mathlib.Omega.{arith}
 use borrow.Author.Tests.{le-leb, lt-leb}
-use borrow.Author.Needs.{needs}
 use Rattle.rate_matching.specs.SubBlocks.{rows}
 use Rattle.rate_matching.specs.Circle.{circleLength}
 use Rattle.rate_matching.specs.Matrix.{lengthWithin}
@@ -14,7 +13,7 @@ unfolding lengthWithin
 returns c = simp (lt-leb _ _ (c .if1 .taken))
 
 rows-of-requires : tie.Need-rows-of-requires
-rows-of-requires c κs = search needs
+rows-of-requires c κs = tt
 
 mul-result : tie.Need-mul-result
 unfolding rows

@@ -34,7 +34,7 @@ unfolding headsWithin
 returns c = let e = c .before .args in rw (not-true (leb (e .d) 6148 && leb (e .stream) 2) (c .if1 .taken))
 
 rows-of-requires : tie.Need-rows-of-requires
-rows-of-requires c κs = told c .0
+rows-of-requires c κs = tt
 
 heads-from-requires : tie.Need-heads-from-requires
 unfolding rows

@@ -37,7 +37,7 @@ returns c =
     rw (not-true (leb (e .d) 6148 && not (eqb (e .d % 32) 0) && leb (e .place .0) 2 && ltb (e .place .1) (e .d)) (c .if1 .taken))
 
 rows-of-requires : tie.Need-rows-of-requires
-rows-of-requires c κs = told c .0
+rows-of-requires c κs = tt
 
 mul-y : tie.Need-mul-y
 unfolding rows
