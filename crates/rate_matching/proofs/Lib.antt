@@ -19,3 +19,4 @@ pub mod MatcherBlock
 pub mod MatcherRing
 pub mod MatcherRest
 pub mod Turns
+pub mod TurnLength

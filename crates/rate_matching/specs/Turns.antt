@@ -2,10 +2,12 @@
 -- Assumes nothing.
 use mathlib.Core.Bool.{cond}
 use Prim.Native.Nat.{ℕ}
+use lib.ListN.{length}
 use Rattle.rate_matching.specs.declared.Turn.{Turn}
 use Rattle.rate_matching.specs.SubBlocks.{rows}
 use Rattle.rate_matching.specs.Circle.{cutAt}
 use Rattle.rate_matching.specs.Places.{circlePlace}
+use Rattle.rate_matching.specs.Shape.{shape, bitPlaces}
 use Rattle.rate_matching.specs.Units.{unitWithin, startUnit, wholeUnits, bitsBefore}
 use Rattle.rate_matching.specs.Matcher.{matchable}
 
@@ -21,3 +23,8 @@ unitsOf D F Ncb v = record {
 unfoldable pub turnOf : ℕ → ℕ → ℕ → ℕ → Turn
 turnOf D F soft v =
     cond (matchable D D D F (cutAt soft (rows D)) v) (unitsOf D F (cutAt soft (rows D)) v) (record { start = 0; whole = 0; rest = 0 })
+
+-- how many bits its turn has, of whichever version: the places before N_cb that hold one; 0 where nothing can be sent
+unfoldable pub turnLength : ℕ → ℕ → ℕ → ℕ
+turnLength D F soft =
+    cond (matchable D D D F (cutAt soft (rows D)) 0) (length (bitPlaces (shape D F) 0 (cutAt soft (rows D)))) 0

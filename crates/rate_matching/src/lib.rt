@@ -10,6 +10,7 @@ pub use mapping::pair_unit_at;
 pub use mapping::unit_at;
 pub use matcher::rate_match;
 pub use matcher::turn_after_turn;
+pub use shortened::turn_length;
 pub use shortened::turn_of;
 
 // Which stream, 0 to 2, and the place in it, which runs to D.

@@ -1,12 +1,11 @@
--- `shortened::turn_of` meets its contract: the share and 96·R give N_cb, and the test decides.
+-- `shortened::turn_of` meets its contract: the share gives N_cb, and the test decides.
 -- Assumes nothing.
-use mathlib.Core.Path.{_≡_, sym, _∙_}
+use mathlib.Core.Path.{_≡_, sym, _∙_, ap}
 use mathlib.Core.Bool.{true}
-use mathlib.Core.Logic.{⊎-elim}
 use native.Mathlib.Omega.{arith}
 use borrow.Author.Tests.{lt-leb, not-true, not-false}
 use Rattle.rate_matching.specs.SubBlocks.{rows}
-use Rattle.rate_matching.specs.Circle.{circleLength, cutAt}
+use Rattle.rate_matching.specs.Circle.{cutAt}
 use Rattle.rate_matching.specs.Matcher.{matchable}
 use Rattle.rate_matching.specs.Turns.{turnOf}
 use Rattle.rate_matching.proofs.Turns.{turn-none, turn-told}
@@ -18,17 +17,19 @@ use Rattle.rate_matching.proofs.shortened.turn_of.Tie as tie
 abbrev at-start : tie.After-rows-of → tie.Start
 at-start c = c .before .before
 
-abbrev at-joined2 : tie.After-matchable → tie.Joined2
-at-joined2 c = c .before
+abbrev at-rows-of : tie.After-cut-at → tie.After-rows-of
+at-rows-of c = c .before
+
+abbrev at-cut-at : tie.After-matchable → tie.After-cut-at
+at-cut-at c = c .before
 
 -- N_cb
-ncb-is : (c : tie.Joined2) → let e = at-start (c .before) .args in c .if2 .ncb ≡ cutAt (e .soft) (rows (e .d))
-unfolding cutAt circleLength
-ncb-is c = let r = c .before .rows-of .ensures in ⊎-elim (λ w. omega (arith, r, w .0 .taken, w .1)) (λ w. omega (arith, r, w .0 .left, w .1)) (c .if2 .came)
+ncb-is : (c : tie.After-cut-at) → let e = at-start (at-rows-of c) .args in c .cut-at .result ≡ cutAt (e .soft) (rows (e .d))
+ncb-is c = c .cut-at .ensures ∙ ap (cutAt (at-start (at-rows-of c) .args .soft)) (at-rows-of c .rows-of .ensures)
 
 -- past the test: what it tells
-told : (c : tie.Else3) → let e = at-start (at-joined2 (c .before) .before) .args in matchable (e .d) (e .d) (e .d) (e .filler) (at-joined2 (c .before) .if2 .ncb) (e .version) ≡ true
-told c = sym (c .before .matchable .ensures) ∙ not-false _ (c .if3 .left)
+told : (c : tie.Else2) → let m = at-cut-at (c .before) in let e = at-start (at-rows-of m) .args in matchable (e .d) (e .d) (e .d) (e .filler) (m .cut-at .result) (e .version) ≡ true
+told c = sym (c .before .matchable .ensures) ∙ not-false _ (c .if2 .left)
 
 returns : tie.Need-returns
 unfolding turnOf matchable
@@ -37,21 +38,21 @@ returns c = rw (lt-leb _ _ (c .if1 .taken))
 rows-of-requires : tie.Need-rows-of-requires
 rows-of-requires c κs = search needs
 
-mul-all : tie.Need-mul-all
+cut-at-requires : tie.Need-cut-at-requires
 unfolding rows
-mul-all c = omega arith
+cut-at-requires c κs = omega (arith, c .rows-of .ensures)
 
 matchable-requires : tie.Need-matchable-requires
 matchable-requires c κs = search needs
 
 returns-2 : tie.Need-returns-2
-returns-2 c = turn-none _ _ _ _ (ncb-is (at-joined2 (c .before))) (sym (c .before .matchable .ensures) ∙ not-true _ (c .if3 .taken))
+returns-2 c = turn-none _ _ _ _ (ncb-is (at-cut-at (c .before))) (sym (c .before .matchable .ensures) ∙ not-true _ (c .if2 .taken))
 
 turn-in-requires : tie.Need-turn-in-requires
 turn-in-requires c κs = told c
 
 returns-3 : tie.Need-returns-3
-returns-3 c = c .turn-in .ensures ∙ turn-told _ _ _ _ (ncb-is (at-joined2 (c .before .before))) (told (c .before))
+returns-3 c = c .turn-in .ensures ∙ turn-told _ _ _ _ (ncb-is (at-cut-at (c .before .before))) (told (c .before))
 
 pub turn-of-spec : {M : Type 1} → statement M
 turn-of-spec =
@@ -59,7 +60,7 @@ turn-of-spec =
     (tie.spec
     returns
     rows-of-requires
-    mul-all
+    cut-at-requires
     matchable-requires
     returns-2
     turn-in-requires
