@@ -222,9 +222,13 @@ module _ (D F soft : ℕ) {Ncb : ℕ} (cut : Ncb ≡ cutAt soft (rows D)) where
   unfolding turnLength
   length-told t e = rw (rw cut at t) (e ∙ ap (λ (m : ℕ). length (bitPlaces (shape D F) 0 m)) cut)
 
--- the turn of a version that can be sent
-pub turn-long : (soft : ℕ) {D F v : ℕ} → Matchable D D D F (cutAt soft (rows D)) v
-    → length (turn (take (cutAt soft (rows D)) (shape D F)) (startIn (cutAt soft (rows D)) (rows D) v)) ≡ turnLength D F soft
-turn-long soft {D} {F} {v} m =
-    length-told D F soft refl (matchable-is (record { fits = m .fits; least = m .least; cut = m .cut; version = omega arith }))
-    (turn-bits (m .fits .most) (m .fits .filler) (m .fits .some) (m .cut) (startIn (cutAt soft (rows D)) (rows D) v) (omega (arith, start-below (m .cut) v (m .version))))
+-- the turn of a version that can be sent: it has no more bits than there are places before the cut
+module _ (soft : ℕ) {D F v : ℕ} (m : Matchable D D D F (cutAt soft (rows D)) v) where
+  of-turn : length (turn (take (cutAt soft (rows D)) (shape D F)) (startIn (cutAt soft (rows D)) (rows D) v)) ≡ length (bitPlaces (shape D F) 0 (cutAt soft (rows D)))
+  of-turn = turn-bits (m .fits .most) (m .fits .filler) (m .fits .some) (m .cut) (startIn (cutAt soft (rows D)) (rows D) v) (omega (arith, start-below (m .cut) v (m .version)))
+
+  pub turn-long : length (turn (take (cutAt soft (rows D)) (shape D F)) (startIn (cutAt soft (rows D)) (rows D) v)) ≡ turnLength D F soft
+  turn-long = length-told D F soft refl (matchable-is (record { fits = m .fits; least = m .least; cut = m .cut; version = omega arith })) of-turn
+
+  pub turn-most : length (turn (take (cutAt soft (rows D)) (shape D F)) (startIn (cutAt soft (rows D)) (rows D) v)) ≤ cutAt soft (rows D)
+  turn-most = omega (arith, of-turn, bits-few (m .fits .most) (m .fits .filler) (m .fits .some) (cutAt soft (rows D)))
