@@ -17,12 +17,12 @@ use Rattle.rate_matching.specs.SubBlocks.{rows, dummies, rowsBefore}
 use Rattle.rate_matching.specs.Circle.{circle}
 use Rattle.rate_matching.specs.Places.{longest}
 use Rattle.rate_matching.specs.Walk.{onCircle}
-use Rattle.rate_matching.specs.Shape.{shape, bitPlaces, lastPlace}
+use Rattle.rate_matching.specs.Shape.{shape, bitPlaces}
 use Rattle.rate_matching.specs.Units.{columnUnit, pairUnit, noUnit, unitWithin, aloneCount, bothCount, unitStart}
 use Rattle.rate_matching.proofs.ShapeColumns.{bitPlaces-split}
 use Rattle.rate_matching.proofs.ShapeTurn.{bitPlaces-none}
 use Rattle.rate_matching.proofs.Units.{low-start, low-next, high-start, high-next, starts-rise}
-use Rattle.rate_matching.proofs.UnitPlaces.{column-rowed, column-lies, pair-lies, alone-count, none-lies, told-low, told-high, by-kind}
+use Rattle.rate_matching.proofs.UnitPlaces.{column-rowed, column-lies, pair-lies, alone-none, alone-count, column-count, pair-count, none-lies, told-low, told-high, by-kind}
 use Rattle.bit_selection.specs.inner.Bits.{everyRow, pairRow, bitsOf, unitBits, unitsFrom, Reads}
 use Rattle.bit_selection.proofs.ColumnBits.{column-bits, pair-bits}
 
@@ -43,23 +43,11 @@ module _ {D F c : ℕ} (most : D ≤ longest) (few : F < D) (h : c < 32) where
 
   -- there are so many
 
-  alone-none : aloneCount (columnUnit D F c) ≡ 0
-  unfolding aloneCount columnUnit
-  alone-none = omega arith
-
-  column-count : bothCount (columnUnit D F c) ≡ R - f
-  unfolding bothCount columnUnit
-  column-count = omega (arith, column-rowed most few h .high)
-
-  pair-count : bothCount (pairUnit D F c) ≡ 2 * R - p / 31 - 2 * f
-  unfolding bothCount pairUnit lastPlace
-  pair-count = omega arith
-
   column-size : aloneCount (columnUnit D F c) + bothCount (columnUnit D F c) ≤ R
-  column-size = omega (arith, alone-none, column-count)
+  column-size = omega (arith, alone-none most few h, column-count most few h)
 
   pair-size : aloneCount (pairUnit D F c) + bothCount (pairUnit D F c) ≤ 2 * R
-  pair-size = omega (arith, alone-count most few h, pair-count, column-rowed most few h .high)
+  pair-size = omega (arith, alone-count most few h, pair-count most few h, column-rowed most few h .high)
 
   -- what it reads
 
@@ -67,7 +55,7 @@ module _ {D F c : ℕ} (most : D ≤ longest) (few : F < D) (h : c < 32) where
   unfolding columnUnit
   column-reads = record {
     lies = column-lies most few h;
-    column = λ z. rw column-count (omega (arith, column-rowed most few h));
+    column = λ z. rw (column-count most few h) (omega (arith, column-rowed most few h));
     alone = λ z. absurd (z refl);
     first = λ z. absurd (z refl);
     second = λ z. absurd (z refl);
@@ -79,8 +67,8 @@ module _ {D F c : ℕ} (most : D ≤ longest) (few : F < D) (h : c < 32) where
     lies = pair-lies most few h;
     column = λ z. absurd (omega (arith, z));
     alone = λ z. rw (alone-count most few h) (omega (arith, column-rowed most few h));
-    first = λ z. rw pair-count (omega (arith, column-rowed most few h));
-    second = λ z. rw pair-count (omega (arith, column-rowed most few h));
+    first = λ z. rw (pair-count most few h) (omega (arith, column-rowed most few h));
+    second = λ z. rw (pair-count most few h) (omega (arith, column-rowed most few h));
   }
 
 none-reads : (D : ℕ) → Reads D noUnit

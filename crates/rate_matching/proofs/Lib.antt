@@ -16,3 +16,4 @@ pub mod UnitPlaces
 pub mod Cut
 pub mod MatchableBlocks
 pub mod Turns
+pub mod TurnLength

@@ -152,6 +152,18 @@ module _ {D F c : ℕ} (most : D ≤ longest) (few : F < D) (h : c < 32) where
   unfolding aloneCount pairUnit second
   alone-count = omega (arith, column-rowed .alone)
 
+  pub alone-none : aloneCount (columnUnit D F c) ≡ 0
+  unfolding aloneCount columnUnit
+  alone-none = omega arith
+
+  pub column-count : bothCount (columnUnit D F c) ≡ R - f
+  unfolding bothCount columnUnit
+  column-count = omega (arith, column-rowed .high)
+
+  pub pair-count : bothCount (pairUnit D F c) ≡ 2 * R - p / 31 - 2 * f
+  unfolding bothCount pairUnit lastPlace
+  pair-count = omega arith
+
   -- ---- its places that hold a bit
 
   pub column-named : unitPlaces (columnUnit D F c) ≡ bitPlaces (shape D F) (c * R) (c * R + R)

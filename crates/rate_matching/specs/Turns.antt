@@ -3,10 +3,12 @@
 use mathlib.Core.Bool.{Bool, cond, _&&_}
 use Prim.Native.Nat.{ℕ, _*_, _%_}
 use lib.Dec.{leb, ltb, eqb}
+use lib.ListN.{length}
 use Rattle.rate_matching.specs.declared.Turn.{Turn}
 use Rattle.rate_matching.specs.SubBlocks.{rows}
 use Rattle.rate_matching.specs.Circle.{circleLength, cutAt}
 use Rattle.rate_matching.specs.Places.{circlePlace, longest}
+use Rattle.rate_matching.specs.Shape.{shape, bitPlaces}
 use Rattle.rate_matching.specs.Units.{unitWithin, startUnit, wholeUnits, bitsBefore}
 
 -- three streams of one length D = K + 4 for some K of 40 to 6144, a multiple of 8, fewer filler bits, an N_cb from 32·R to 96·R, and one of the four
@@ -27,3 +29,8 @@ unitsOf D F Ncb v = record {
 unfoldable pub turnOf : ℕ → ℕ → ℕ → ℕ → Turn
 turnOf D F soft v =
     cond (matchable D D D F (cutAt soft (rows D)) v) (unitsOf D F (cutAt soft (rows D)) v) (record { start = 0; whole = 0; rest = 0 })
+
+-- how many bits its turn has, of whichever version: the places before N_cb that hold one; 0 where nothing can be sent
+unfoldable pub turnLength : ℕ → ℕ → ℕ → ℕ
+turnLength D F soft =
+    cond (matchable D D D F (cutAt soft (rows D)) 0) (length (bitPlaces (shape D F) 0 (cutAt soft (rows D)))) 0

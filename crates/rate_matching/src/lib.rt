@@ -12,6 +12,7 @@ pub use mapping::rows_of;
 pub use mapping::unit_at;
 pub use shortened::cut_at;
 pub use shortened::matchable;
+pub use shortened::turn_length;
 pub use shortened::turn_of;
 
 // Which stream, 0 to 2, and the place in it, which runs to D.

@@ -4,15 +4,18 @@ use crate::CirclePlace;
 use crate::Turn;
 use crate::Unit;
 use crate::mapping::LONGEST;
+use crate::mapping::pair_unit_at;
 use crate::mapping::rows_of;
 use crate::mapping::unit_at;
 ghost use mathlib.Core.Path.{_≡_};
 ghost use mathlib.Core.Bool.{true};
 ghost use Prim.Native.Nat.{_≤_};
+ghost use lib.ListN.{length};
 ghost use Rattle.rate_matching.specs.SubBlocks.{rows};
 ghost use Rattle.rate_matching.specs.Circle.{Cut, cutAt};
-ghost use Rattle.rate_matching.specs.Units.{startUnit, bitsBefore, Lies};
-ghost use Rattle.rate_matching.specs.Turns.{matchable, unitsOf, turnOf};
+ghost use Rattle.rate_matching.specs.Shape.{shape, bitPlaces};
+ghost use Rattle.rate_matching.specs.Units.{unitStart, startUnit, bitsBefore, Lies, Fitting};
+ghost use Rattle.rate_matching.specs.Turns.{matchable, unitsOf, turnOf, turnLength};
 
 // The unit that begins at the start of a version, on a circle of `rows` rows that is cut at `ncb`.
 fn start_unit(ncb: usize, rows: usize, version: usize) -> usize
@@ -82,7 +85,7 @@ fn turn_in(d: usize, filler: usize, ncb: usize, version: usize) -> Turn
     Turn { start, whole, rest }
 }
 
-// The same for a code block that has a share `soft` of the soft buffer; all 0 where there is no such code block or version, or its N_cb is below 32·R.
+// The turn of a code block that has such a share; all 0 where there is no such code block or version, or its N_cb is below 32·R.
 pub fn turn_of(d: usize, filler: usize, soft: usize, version: usize) -> Turn
     ensures { λ r. ⌜ r ≡ turnOf d filler soft version ⌝ }
 {
@@ -95,4 +98,35 @@ pub fn turn_of(d: usize, filler: usize, soft: usize, version: usize) -> Turn
         };
     }
     turn_in(d, filler, ncb, version)
+}
+
+// How many bits the units before unit `to` have, which is one of streams 1 and 2: stream 0 has a bit for each of its places past the filler.
+fn bits_to(d: usize, filler: usize, to: usize) -> usize
+    requires { ⌜ Fitting d d d filler × (32 ≤ to) × (to ≤ 64) ⌝ }
+    ensures { λ r. ⌜ r ≡ length (bitPlaces (shape d filler) 0 (unitStart (rows d) to)) ⌝ }
+{
+    let mut n = d - filler;
+    let mut u = 32;
+    while u < to {
+        let unit = pair_unit_at(d, filler, u - 32);
+        n += bits_before(unit, unit.end);
+        u += 1;
+    }
+    n
+}
+
+// How many bits one turn has, of whichever version; 0 where nothing can be sent. A circle that is not cut has all of the three streams, but for the filler
+// of two.
+pub fn turn_length(d: usize, filler: usize, soft: usize) -> usize
+    ensures { λ r. ⌜ r ≡ turnLength d filler soft ⌝ }
+{
+    let ncb = cut_at(soft, d);
+    if !matchable(d, d, d, filler, ncb, 0) {
+        return 0;
+    }
+    if ncb == 96 * rows_of(d) {
+        return 3 * d - 2 * filler;
+    }
+    let turn = turn_in(d, filler, ncb, 0);
+    bits_to(d, filler, turn.whole) + turn.rest
 }

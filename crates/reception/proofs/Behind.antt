@@ -14,7 +14,7 @@ use Rattle.slots.specs.Putting.{Keeping, putAlong}
 use Rattle.slots.specs.Room.{circleAt, withCircle}
 use Rattle.slots.specs.Reception.{blockPlaces, blockValues, putOn, putBlocks, received}
 use Rattle.slots.proofs.RoomLaws.{AllPlaces, length-with, length-putOn}
-use Rattle.reception.proofs.Putting.{along-front}
+use Rattle.bit_placement.proofs.Putting.{along-front}
 
 module _ {X Y : Type 0} (how : Keeping X Y) (soft B : ℕ) (g : Grant) (values : List Y) (places : AllPlaces soft B g) where
   -- the room after the values of code block r

@@ -34,9 +34,9 @@ use Rattle.slots.proofs.Putting.{length-put}
 use Rattle.slots.proofs.Buffers.{Wide}
 use Rattle.slots.proofs.PlaceBounds.{block-cut}
 use Rattle.reading.proofs.Blocks.{streams, filler-below}
+use Rattle.bit_placement.specs.inner.Along.{Sends}
+use Rattle.bit_placement.proofs.Putting.{along-few, along-part}
 use Rattle.reception.specs.inner.Parts.{partAfter, Accepted}
-use Rattle.reception.specs.inner.Along.{Sends}
-use Rattle.reception.proofs.Putting.{along-few, along-part}
 
 -- ---- the code blocks of a block of A bits, A in range
 

@@ -1,10 +1,8 @@
-pub mod Putting
 pub mod Ring
-pub mod Along
-pub mod Walking
 pub mod Rounds
+pub mod Circles
 pub mod Blocks
+pub mod Filling
 pub mod Behind
+pub mod SlotRoom
 pub mod Accepts
-pub mod Fours
-pub mod FourStore

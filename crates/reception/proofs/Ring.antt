@@ -12,16 +12,13 @@ use lib.Seq.{set-set, set-comm, set-out, getD-set-same, getD-set-other, getD-dro
 use Rattle.slots.specs.Putting.{putAlong}
 use Rattle.slots.specs.Room.{disputed, meet, agreeing}
 use Rattle.slots.proofs.Meeting.{Known, meet-known, meet-together, meet-order}
-use Rattle.reception.specs.inner.Along.{AllKnown}
+use Rattle.bit_placement.proofs.Along.{putBit}
+use Rattle.reception.specs.inner.Ring.{AllKnown}
 
 known-rest : (l : List ℕ) → AllKnown l → AllKnown (drop 1 l)
 known-rest l h i = rw (getD-drop 1 l i 0) (h (1 + i))
 
 -- ---- two bits
-
--- a place after a bit
-abbrev pub putBit : List ℕ → ℕ → ℕ → List ℕ
-putBit list at bit = set list at (meet (getD list at 0) bit)
 
 -- at one place
 twice : (l : List ℕ) (p a b : ℕ) → putBit (putBit l p a) p b ≡ set l p (meet (meet (getD l p 0) a) b)

@@ -1,30 +1,55 @@
--- Turn after turn of a code block's bits, 01 'Receive' and 02 E2: one round, and turns that meet in a ring.
+-- Turn after turn of a code block's bits, 01 'Receive' and 02 E2: one turn or less, and turns that meet in a ring.
 -- Assumes nothing.
-use mathlib.Core.Path.{_≡_, sym, _∙_, ap, ap₂, subst}
-use mathlib.Core.List.{List, _++_, append-nil, map}
-use Prim.Native.Nat.{ℕ, _+_, _-_, _%_, _≤_, _<_, min}
-use native.Mathlib.Nat.{zero-mod, mod-self, mod-lt, add-mod-right, add-sub-cancel-left}
-use native.Mathlib.Decide.{decLe, ℕ-discrete}
+use mathlib.Core.Path.{_≡_, sym, _∙_, ap, ap₂}
+use mathlib.Core.List.{List, map}
+use Prim.Native.Nat.{ℕ, _+_, _-_, _%_, _≤_, _<_}
+use native.Mathlib.Nat.{zero-add, zero-mod, mod-self, mod-lt, add-mod-right, add-sub-cancel-left}
 use native.Mathlib.Omega.{arith}
 use lib.Dec.{lit<}
-use lib.ListN.{length, getD, take, drop, length-drop, drop-of-length-le}
-use lib.Seq.{take-all, take-length, length-take-le, drop-drop}
+use lib.ListN.{length, getD, take, drop, length-drop}
+use lib.Seq.{take-all, length-take-le, drop-drop}
 use borrow.Rule.Slice.PartMut.{midOf}
 use Rattle.laws.specs.Bits.{AreBits}
 use Rattle.laws.specs.Lists.{tab, tabFrom}
 use Rattle.laws.proofs.AreBits.{take-below, drop-below}
 use Rattle.laws.proofs.Parts.{length-mid}
-use Rattle.laws.proofs.Tab.{length-tab, length-tabFrom, getD-tab, getD-tabFrom, tabFrom-ext, map-tabFrom, tab-rest, rest-none}
+use Rattle.laws.proofs.Tab.{length-tab, length-tabFrom, take-tab, getD-tab, getD-tabFrom, tabFrom-ext, map-tabFrom, tab-rest}
+use Rattle.rate_matching.specs.SubBlocks.{rows}
+use Rattle.rate_matching.specs.Circle.{circleLength}
 use Rattle.rate_matching.specs.Walk.{itself, turnAfterTurn}
+use Rattle.rate_matching.specs.Turns.{turnLength}
+use Rattle.rate_matching.proofs.Cut.{turn-some}
 use Rattle.rate_matching.proofs.WholeTurns.{turn-front, turn-next}
+use Rattle.rate_matching.proofs.TurnLength.{turn-long, turn-most}
+use Rattle.slots.specs.State.{perBlock}
 use Rattle.slots.specs.Putting.{putAlong}
 use Rattle.slots.specs.Room.{agreeing}
 use Rattle.slots.proofs.Putting.{length-put}
 use Rattle.slots.proofs.Meeting.{known-bit}
-use Rattle.reception.specs.inner.Along.{putFirst, Put, ringAfter}
-use Rattle.reception.proofs.Putting.{along-append, along-few}
+use Rattle.bit_placement.specs.Placement.{putFirst, turnIn}
+use Rattle.bit_placement.specs.inner.Along.{Sends}
+use Rattle.bit_placement.proofs.Putting.{along-append, along-few}
+use Rattle.bit_placement.proofs.Walking.{sends-matchable}
+use Rattle.reception.specs.inner.Ring.{ringOf}
 use Rattle.reception.proofs.Ring.{through}
-use Rattle.reception.proofs.Along.{first-none, run-met, put-as, put-long}
+
+-- ---- how long a turn is
+
+module _ {D F soft v long : ℕ} (w : Sends D F soft v long) where
+  turn-is : length (turnIn D F soft v) ≡ turnLength D F soft
+  unfolding turnIn
+  turn-is = turn-long soft (sends-matchable w)
+
+  pub turn-told : {n : ℕ} → n ≡ turnLength D F soft → n ≡ length (turnIn D F soft v)
+  turn-told e = e ∙ sym turn-is
+
+  pub turn-least : 0 < length (turnIn D F soft v)
+  unfolding turnIn
+  turn-least = turn-some (w .walked .least) (w .walked .filler) (w .cut) (w .version)
+
+  pub turn-few : length (turnIn D F soft v) ≤ perBlock
+  unfolding turnIn circleLength rows
+  turn-few = omega (arith, turn-most soft (sends-matchable w), w .cut .most, w .walked .most)
 
 -- ---- turn after turn
 
@@ -32,13 +57,6 @@ module _ (ps bits : List ℕ) where
   -- what is still to come from bit i on
   abbrev Rest : ℕ → List ℕ → List ℕ
   Rest i list = putAlong agreeing (tabFrom i (length bits - i) (turnAfterTurn ps)) (drop i bits) list
-
-  pub rest-all : (list : List ℕ) → Rest 0 list ≡ putAlong agreeing (tab (length bits) (turnAfterTurn ps)) bits list
-  rest-all list = ap (λ (js : List ℕ). putAlong agreeing js bits list) (tab-rest (length bits) (turnAfterTurn ps))
-
-  pub rest-end : (i : ℕ) (list : List ℕ) → length bits ≤ i → Rest i list ≡ list
-  unfolding putAlong
-  rest-end i list h = ap (λ (js : List ℕ). putAlong agreeing js (drop i bits) list) (rest-none i (length bits) (turnAfterTurn ps) h)
 
   module _ (some : 0 < length ps) where
     -- a whole turn
@@ -48,189 +66,122 @@ module _ (ps bits : List ℕ) where
         ∙ along-append agreeing ps (tabFrom (i + length ps) (length bits - (i + length ps)) (turnAfterTurn ps)) (drop i bits) list
         ∙ ap (λ (bs : List ℕ). putAlong agreeing (tabFrom (i + length ps) (length bits - (i + length ps)) (turnAfterTurn ps)) bs (putAlong agreeing ps (drop i bits) list)) (drop-drop (length ps) i bits)
 
-    -- ---- one round, as far as there are bits
-
-    pub rest-round : (i : ℕ) {list list′ : List ℕ} {e : ℕ} → i ≤ length bits → ((i ≡ length bits → ⊥) → i % length ps ≡ 0) → Put ps bits i list list′ e → Rest i list ≡ Rest e list′
+    -- the last, or less
+    rest-last : (i : ℕ) (list : List ℕ) → i % length ps ≡ 0 → length bits - i ≤ length ps → Rest i list ≡ putFirst ps (drop i bits) list
     unfolding putFirst
-    rest-round i {list} {list′} {e} h w p = elim (ℕ-discrete i (length bits)) [
-      | yes l ↦ rest-end i list (omega arith) ∙ sym (rest-end e list′ (omega (arith, p .ends)) ∙ p .told ∙ none (omega arith))
-      | no l ↦ elim (decLe (i + length ps) (length bits)) [
-        | yes m ↦ let is : e ≡ i + length ps = omega (arith, p .ends) in rest-turn i list (w l) m ∙ ap₂ Rest (sym is) (sym (p .told ∙ whole m))
-        | no m ↦ cut (omega arith) (w l) ∙ sym (rest-end e list′ (omega (arith, p .ends)) ∙ p .told)
-      ]
-    ]
-      where
-        none : length bits ≤ i → putFirst ps (drop i bits) list ≡ list
-        none m = ap (λ (bs : List ℕ). putFirst ps bs list) (drop-of-length-le bits m) ∙ first-none ps list
+    rest-last i list w h =
+        ap (λ (js : List ℕ). putAlong agreeing js (drop i bits) list)
+        (turn-front ps i some w (length bits - i) h ∙ ap (λ (n : ℕ). take n ps) (sym (length-drop i bits)))
 
-        whole : i + length ps ≤ length bits → putFirst ps (drop i bits) list ≡ putAlong agreeing ps (drop i bits) list
-        whole m = ap (λ (js : List ℕ). putAlong agreeing js (drop i bits) list) (take-all (length (drop i bits)) ps (rw (length-drop i bits) (omega arith)))
-
-        cut : length bits < i + length ps → i % length ps ≡ 0 → Rest i list ≡ putFirst ps (drop i bits) list
-        cut m v =
-            ap (λ (js : List ℕ). putAlong agreeing js (drop i bits) list)
-            (turn-front ps i some v (length bits - i) (omega arith) ∙ ap (λ (n : ℕ). take n ps) (sym (length-drop i bits)))
-
--- the bits from i on are lent
-lent-rest : (ps bits : List ℕ) (i : ℕ) {list list′ : List ℕ} {m : ℕ} → i ≤ length bits → Put ps (midOf i (length bits - i) bits) 0 list list′ m → Put ps bits i list list′ (i + m)
-lent-rest ps bits i {list} {list′} {m} h p = record {
-  told = p .told ∙ ap (λ (bs : List ℕ). putFirst ps bs list) (take-all (length bits - i) (drop i bits) (rw (length-drop i bits) (omega arith)));
-  ends = omega (arith, p .ends, length-mid i (length bits) bits (omega arith));
-}
+    -- bits for no more than one turn
+    pub one-round : length bits ≤ length ps → (part : List ℕ) {part′ : List ℕ} → part′ ≡ putFirst ps bits part → part′ ≡ putAlong agreeing (tab (length bits) (turnAfterTurn ps)) bits part
+    one-round few part put =
+        put
+        ∙ sym (rest-last 0 part (zero-mod (length ps)) (omega arith))
+        ∙ ap (λ (js : List ℕ). putAlong agreeing js bits part) (tab-rest (length bits) (turnAfterTurn ps))
 
 -- ---- turns that meet in a ring
 
 -- the turns up to bit i have met in the ring
 pub record Turning (n : ℕ) (bits ring : List ℕ) (i : ℕ) : Type 0 where
-  pub passed : (n + n ≤ i) × (i ≤ length bits)
-  pub whole : (i ≡ length bits → ⊥) → i % n ≡ 0
+  pub passed : (n ≤ i) × (i ≤ length bits)
+  pub whole : i % n ≡ 0
   pub long : length ring ≡ n
-  pub told : Rest (tab n itself) bits i ring ≡ ringAfter n bits
+  pub told : Rest (tab n itself) bits i ring ≡ ringOf n bits
 
-pub ring-second : (n : ℕ) (bits ring₀ : List ℕ) {ring : List ℕ} → n + n ≤ length bits → length ring₀ ≡ n
-    → (let src = midOf n (n + n - n) bits in ring ≡ take (length src) src ++ drop (length src) ring₀) → ring ≡ take n (drop n bits)
-ring-second n bits ring₀ few l e =
-    e
-    ∙ ap₂ _++_ (take-length (midOf n (n + n - n) bits) ∙ ap (λ (m : ℕ). take m (drop n bits)) (add-sub-cancel-left n n))
-    (drop-of-length-le ring₀ {i = length (midOf n (n + n - n) bits)} (omega (arith, length-mid n (n + n) bits few)))
-    ∙ append-nil (take n (drop n bits))
-
-module _ {n : ℕ} {bits : List ℕ} (few : n + n ≤ length bits) where
-  -- the second turn is copied
-  pub turning-start : (ring₀ : List ℕ) {ring : List ℕ} → length ring₀ ≡ n → (let src = midOf n (n + n - n) bits in ring ≡ take (length src) src ++ drop (length src) ring₀)
-      → Turning n bits ring (n + n)
-  unfolding ringAfter
-  turning-start ring₀ {ring} l e = record {
+module _ {n : ℕ} {bits : List ℕ} (few : n ≤ length bits) where
+  -- the first turn is copied
+  pub turning-start : {ring : List ℕ} → ring ≡ take n bits → Turning n bits ring n
+  unfolding ringOf
+  turning-start e = record {
     passed = (omega arith, few);
-    whole = λ q. add-mod-right n n ∙ mod-self n;
-    long = ap length is ∙ second-long;
-    told = ap (Rest (tab n itself) bits (n + n)) is;
+    whole = mod-self n;
+    long = ap length e ∙ length-take-le n bits few;
+    told = ap (Rest (tab n itself) bits n) e;
   }
-    where
-      n-long : length (midOf n (n + n - n) bits) ≡ n
-      n-long = length-mid n (n + n) bits few ∙ add-sub-cancel-left n n
 
-      second : midOf n (n + n - n) bits ≡ take n (drop n bits)
-      second = ap (λ (m : ℕ). take m (drop n bits)) (add-sub-cancel-left n n)
+  module _ (some : 0 < n) {ring : List ℕ} {i : ℕ} (t : Turning n bits ring i) where
+    places : 0 < length (tab n itself)
+    places = rw (length-tab n itself) some
 
-      second-long : length (take n (drop n bits)) ≡ n
-      second-long = ap length (sym second) ∙ n-long
+    starts : i % length (tab n itself) ≡ 0
+    starts = rw (length-tab n itself) (t .whole)
 
-      is : ring ≡ take n (drop n bits)
-      is = ring-second n bits ring₀ few l e
+    -- a whole turn more
+    pub turning-whole : {ring′ : List ℕ} → n ≤ length bits - i → (let src = midOf i (i + n - i) bits in ring′ ≡ putFirst (tab (length src) itself) src ring) → Turning n bits ring′ (i + n)
+    unfolding putFirst
+    turning-whole {ring′} h e = record {
+      passed = (omega (arith, t .passed), omega (arith, t .passed));
+      whole = add-mod-right i n ∙ t .whole;
+      long = ap length is ∙ length-put agreeing (tab n itself) (drop i bits) ring ∙ t .long;
+      told =
+          ap (Rest (tab n itself) bits (i + n)) is
+          ∙ ap (λ (m : ℕ). Rest (tab n itself) bits (i + m) (putAlong agreeing (tab n itself) (drop i bits) ring)) (sym (length-tab n itself))
+          ∙ sym (rest-turn (tab n itself) bits places i ring starts (rw (length-tab n itself) (omega (arith, t .passed))))
+          ∙ t .told;
+    }
+      where
+        src : List ℕ
+        src = midOf i (i + n - i) bits
 
-  pub turning-next : {ring ring′ : List ℕ} {i e : ℕ} → 0 < n → Turning n bits ring i
-      → Put (tab (length ring) itself) bits i ring ring′ e → Turning n bits ring′ e
-  turning-next {ring} {ring′} {i} {e} some t p = record {
-    passed = (omega (arith, ends, t .passed), omega (arith, ends));
-    whole = λ q. let is : e ≡ i + n = omega (arith, ends) in ap (λ (k : ℕ). k % n) is ∙ add-mod-right i n ∙ t .whole (λ l. omega (arith, t .passed));
-    long = put-long p ∙ t .long;
-    told =
-        sym (rest-round (tab n itself) bits (rw (length-tab n itself) some) i (t .passed .1) (λ l. rw (length-tab n itself) (t .whole l)) round)
-        ∙ t .told;
-  }
-    where
-      round : Put (tab n itself) bits i ring ring′ e
-      round = put-as (ap (λ (m : ℕ). tab m itself) (t .long)) p
+        src-long : length src ≡ n
+        src-long = length-mid i (i + n) bits (omega (arith, t .passed)) ∙ add-sub-cancel-left i n
 
-      ends : e ≡ min (i + n) (length bits)
-      ends = round .ends ∙ ap (λ (m : ℕ). min (i + m) (length bits)) (length-tab n itself)
+        is : ring′ ≡ putAlong agreeing (tab n itself) (drop i bits) ring
+        is =
+            e
+            ∙ ap (λ (m : ℕ). putAlong agreeing (take m (tab m itself)) src ring) src-long
+            ∙ ap₂ (λ (js : List ℕ) (m : ℕ). putAlong agreeing js (take m (drop i bits)) ring) (take-tab n n itself (omega arith)) (add-sub-cancel-left i n)
+            ∙ along-few agreeing (tab n itself) n (drop i bits) ring (omega (arith, length-tab n itself))
 
-  pub turning-finish : {ring : List ℕ} {i : ℕ} → length bits ≤ i → Turning n bits ring i → ring ≡ ringAfter n bits
-  turning-finish {ring} {i} h t = sym (rest-end (tab n itself) bits i ring h) ∙ t .told
+    -- what is left is less than one
+    pub turning-last : {ring′ : List ℕ} → length bits - i < n → (let src = midOf i (length bits - i) bits in ring′ ≡ putFirst (tab (length src) itself) src ring) → ring′ ≡ ringOf n bits
+    unfolding putFirst
+    turning-last h e =
+        e
+        ∙ ap (λ (l : List ℕ). putAlong agreeing (take (length l) (tab (length l) itself)) l ring) (take-all (length bits - i) (drop i bits) (omega (arith, length-drop i bits)))
+        ∙ ap (λ (js : List ℕ). putAlong agreeing js (drop i bits) ring) (take-tab m m itself (omega arith) ∙ sym (take-tab m n itself (omega (arith, length-drop i bits))))
+        ∙ sym (rest-last (tab n itself) bits places i ring starts (rw (length-tab n itself) (omega arith)))
+        ∙ t .told
+      where
+        m : ℕ
+        m = length (drop i bits)
 
-  -- a whole turn more
-  pub turning-whole : {ring ring′ : List ℕ} {i : ℕ} → 0 < n → n ≤ length bits - i → Turning n bits ring i
-      → (let src = midOf i (i + n - i) bits in ring′ ≡ putFirst (tab (length src) itself) src ring) → Turning n bits ring′ (i + n)
-  turning-whole {ring} {ring′} {i} some h t e =
-      turning-next some t (run-met bits ring (t .passed .1) (omega (arith, t .long)) e)
+length-ring : (n : ℕ) (bits : List ℕ) → n ≤ length bits → length (ringOf n bits) ≡ n
+unfolding ringOf
+length-ring n bits few = length-put agreeing _ (drop n bits) (take n bits) ∙ length-take-le n bits few
 
-  -- what is left is less than one
-  pub turning-last : {ring ring′ : List ℕ} {i : ℕ} → 0 < n → length bits - i < n → Turning n bits ring i
-      → (let src = midOf i (length bits - i) bits in ring′ ≡ putFirst (tab (length src) itself) src ring) → ring′ ≡ ringAfter n bits
-  turning-last {ring} {ring′} {i} some h t e =
-      let m : ℕ = length bits - i in
-      let same : m ≡ i + m - i = sym (add-sub-cancel-left i m) in
-      let put = run-met bits ring {n = m} (t .passed .1) (omega (arith, t .long)) (subst (λ (k : ℕ). ring′ ≡ putFirst (tab (length (midOf i k bits)) itself) (midOf i k bits) ring) same e) in
-      turning-finish (omega (arith, t .passed)) (turning-next some t put)
+-- the ring put as one turn is turn after turn
+pub ring-round : (ps bits : List ℕ) {n : ℕ} → n ≡ length ps → 0 < length ps → n ≤ length bits → AreBits bits → (part : List ℕ) {part′ : List ℕ} → part′ ≡ putFirst ps (ringOf n bits) part
+    → part′ ≡ putAlong agreeing (tab (length bits) (turnAfterTurn ps)) bits part
+unfolding putFirst ringOf turnAfterTurn itself
+ring-round ps bits {n} is some few are part put =
+    put
+    ∙ ap (λ (js : List ℕ). putAlong agreeing js (ringOf n bits) part) (take-all (length (ringOf n bits)) ps (omega (arith, length-ring n bits few)))
+    ∙ through ps js (drop n bits) (take n bits) part (length-take-le n bits few ∙ is) inside
+    (λ i. known-bit _ (take-below 2 (lit< tt) n bits are i))
+    (λ i. known-bit _ (drop-below 2 n bits are i))
+    ∙ ap₂ (λ (ks : List ℕ) (l : List ℕ). putAlong agreeing ks (drop n bits) l) places (along-few agreeing ps n bits part (omega arith))
+    ∙ ap (λ (m : ℕ). Rest ps bits m (putAlong agreeing ps bits part)) (is ∙ sym (zero-add (length ps)))
+    ∙ sym (rest-turn ps bits some 0 part (zero-mod (length ps)) (omega arith))
+    ∙ ap (λ (ks : List ℕ). putAlong agreeing ks bits part) (tab-rest (length bits) (turnAfterTurn ps))
+  where
+    js : List ℕ
+    js = tabFrom n (length bits - n) (turnAfterTurn (tab n itself))
 
-length-ring : (n : ℕ) (bits : List ℕ) → n + n ≤ length bits → length (ringAfter n bits) ≡ n
-unfolding ringAfter
-length-ring n bits few = length-put agreeing _ (drop (n + n) bits) (take n (drop n bits)) ∙ length-take-le n (drop n bits) (rw (length-drop n bits) (omega arith))
+    -- bit k comes to entry k % n of the ring
+    entry : (k : ℕ) → getD (tab n itself) (k % length (tab n itself)) 0 ≡ k % length ps
+    entry k =
+        ap (λ (m : ℕ). getD (tab n itself) (k % m) 0) (length-tab n itself)
+        ∙ getD-tab n itself (k % n) 0 (mod-lt k (omega (arith, some)))
+        ∙ ap (λ (m : ℕ). k % m) is
 
--- ---- the first turn, and what comes after it
+    inside : (i : ℕ) → i < length js → getD js i 0 < length ps
+    inside i h =
+        rw (getD-tabFrom n (length bits - n) (turnAfterTurn (tab n itself)) i 0 (omega (arith, length-tabFrom n (length bits - n) (turnAfterTurn (tab n itself)))), entry (n + i))
+        (mod-lt (n + i) some)
 
-module _ (ps bits : List ℕ) (some : 0 < length ps) {part₀ part₁ : List ℕ} {n : ℕ} (first : Put ps bits 0 part₀ part₁ n) where
-  -- the first turn has been put
-  begun : putAlong agreeing (tab (length bits) (turnAfterTurn ps)) bits part₀ ≡ Rest ps bits n part₁
-  begun = sym (rest-all ps bits part₀) ∙ rest-round ps bits some 0 (omega arith) (λ e. zero-mod (length ps)) first
-
-  -- where more than a turn is put, a turn is known
-  known : n < length bits → n ≡ length ps
-  known h = omega (arith, first .ends)
-
-  pub first-some : n < length bits → 0 < n
-  first-some h = omega (arith, known h)
-
-  -- not more than one turn is left
-  pub two-rounds : length bits - n ≤ n → {part₂ : List ℕ} {m : ℕ} → Put ps (midOf n (length bits - n) bits) 0 part₁ part₂ m
-      → part₂ ≡ putAlong agreeing (tab (length bits) (turnAfterTurn ps)) bits part₀
-  two-rounds few {part₂} {m} second =
-      sym
-      (begun
-      ∙ rest-round ps bits some n within (λ e. ap (λ (k : ℕ). k % length ps) (known (omega (arith, within))) ∙ mod-self (length ps)) left
-      ∙ rest-end ps bits (n + m) part₂ (omega (arith, left .ends, first .ends)))
-    where
-      within : n ≤ length bits
-      within = omega (arith, first .ends)
-
-      left : Put ps bits n part₁ part₂ (n + m)
-      left = lent-rest ps bits n within second
-
-  -- more than one: they have met in a ring, which is put as one turn
-  pub ring-round : n < length bits - n → AreBits bits → {part₂ : List ℕ} → part₂ ≡ putFirst ps (ringAfter n bits) part₁
-      → part₂ ≡ putAlong agreeing (tab (length bits) (turnAfterTurn ps)) bits part₀
-  unfolding putFirst ringAfter turnAfterTurn itself
-  ring-round more are {part₂} put =
-      put
-      ∙ ap (λ (js : List ℕ). putAlong agreeing js (ringAfter n bits) part₁) (take-all (length (ringAfter n bits)) ps (omega (arith, length-ring n bits few, turn-is)))
-      ∙ through ps js (drop (n + n) bits) (take n (drop n bits)) part₁ (omega (arith, second-long, turn-is)) inside
-      (λ i. known-bit _ (take-below 2 (lit< tt) n (drop n bits) (drop-below 2 n bits are) i))
-      (λ i. known-bit _ (drop-below 2 (n + n) bits are i))
-      ∙ ap₂ (λ (ks : List ℕ) (l : List ℕ). putAlong agreeing ks (drop (n + n) bits) l) places (along-few agreeing ps n (drop n bits) part₁ (omega (arith, turn-is)))
-      ∙ sym (begun ∙ second)
-    where
-      few : n + n ≤ length bits
-      few = omega arith
-
-      turn-is : n ≡ length ps
-      turn-is = known (omega arith)
-
-      js : List ℕ
-      js = tabFrom (n + n) (length bits - (n + n)) (turnAfterTurn (tab n itself))
-
-      second-long : length (take n (drop n bits)) ≡ n
-      second-long = length-take-le n (drop n bits) (rw (length-drop n bits) (omega arith))
-
-      -- bit k comes to entry k % n of the ring
-      entry : (k : ℕ) → getD (tab n itself) (k % length (tab n itself)) 0 ≡ k % length ps
-      entry k =
-          ap (λ (m : ℕ). getD (tab n itself) (k % m) 0) (length-tab n itself)
-          ∙ getD-tab n itself (k % n) 0 (mod-lt k (omega (arith, some, turn-is)))
-          ∙ ap (λ (m : ℕ). k % m) turn-is
-
-      inside : (i : ℕ) → i < length js → getD js i 0 < length ps
-      inside i h =
-          rw (getD-tabFrom (n + n) (length bits - (n + n)) (turnAfterTurn (tab n itself)) i 0 (omega (arith, length-tabFrom (n + n) (length bits - (n + n)) (turnAfterTurn (tab n itself)))), entry (n + n + i))
-          (mod-lt (n + n + i) some)
-
-      places : map (λ (k : ℕ). getD ps k 0) js ≡ tabFrom (n + n) (length bits - (n + n)) (turnAfterTurn ps)
-      places =
-          map-tabFrom (n + n) (length bits - (n + n)) (turnAfterTurn (tab n itself)) (λ (k : ℕ). getD ps k 0)
-          ∙ tabFrom-ext (n + n) (length bits - (n + n)) _ (turnAfterTurn ps) (λ k l m. ap (λ (i : ℕ). getD ps i 0) (entry k))
-
-      second : Rest ps bits n part₁ ≡ Rest ps bits (n + n) (putAlong agreeing ps (drop n bits) part₁)
-      second =
-          ap (λ (m : ℕ). Rest ps bits m part₁) turn-is
-          ∙ rest-turn ps bits some (length ps) part₁ (mod-self (length ps)) (omega (arith, turn-is))
-          ∙ ap₂ (λ (m : ℕ) (l : ℕ). Rest ps bits m (putAlong agreeing ps (drop l bits) part₁)) (omega (arith, turn-is)) (sym turn-is)
+    places : map (λ (k : ℕ). getD ps k 0) js ≡ tabFrom n (length bits - n) (turnAfterTurn ps)
+    places =
+        map-tabFrom n (length bits - n) (turnAfterTurn (tab n itself)) (λ (k : ℕ). getD ps k 0)
+        ∙ tabFrom-ext n (length bits - n) _ (turnAfterTurn ps) (λ k l m. ap (λ (i : ℕ). getD ps i 0) (entry k))

@@ -1,2 +1,2 @@
-pub mod Along
+pub mod Ring
 pub mod Parts

@@ -1,18 +1,11 @@
--- `receive_number` meets its contract: the chain over `storeRules` and `ownerRules` goes on over 3, 4 and 2.
+-- `receive_number` meets its contract: the chain goes on over 3, 4 and 2.
 -- Assumes nothing.
 use borrow.Author.Needs.{needs}
-use mathlib.Core.List.{_++_}
-use Rattle.refusals.proofs.Refusals.{chained-on, next, done}
+use Rattle.refusals.proofs.Refusals.{next, done}
 use Rattle.codeword.specs.Build.{badVersion}
-use Rattle.slots.specs.Calls.{storeRules, ownerRules, sizeAtHead, receiveNumber}
+use Rattle.reception.specs.inner.Parts.{bitsRules, numberAfter}
 use Rattle.reception.proofs.receive_number.Statement.{statement}
 use Rattle.reception.proofs.receive_number.Tie as tie
-
-head-at-requires : tie.Need-head-at-requires
-head-at-requires c κs = search needs
-
-owner-number-requires : tie.Need-owner-number-requires
-owner-number-requires c κs = search needs
 
 block-count-requires : tie.Need-block-count-requires
 block-count-requires c κs = search needs
@@ -33,27 +26,21 @@ or-else-requires-3 : tie.Need-or-else-requires-3
 or-else-requires-3 c κs = search needs
 
 returns : tie.Need-returns
-unfolding receiveNumber storeRules ownerRules sizeAtHead badVersion
+unfolding numberAfter bitsRules badVersion
 returns c =
-    let entry = c .before .before .before .before .before .before .before .before .before .args in
-    let three = c .before .before .before in
-    let owner = three .before .before .before in
-    let bad = three .before .bad-allocation .ensures in
-    let count = three .before .before .block-count .ensures in
-    let allocated = rw (bad, count, owner .before .head-at .ensures) at (three .or-else .ensures) in
-    let bits = rw (c .before .bad-bits .ensures) at (c .or-else3 .ensures) in
-    chained-on (storeRules (entry .state) (entry .room) (entry .slot) ++ ownerRules (entry .state) (entry .slot) (entry .terminal))
-    (owner .owner-number .ensures)
-    (next allocated (next (c .before .before .or-else2 .ensures) (next bits done)))
-    tt
-    tt
+    let two = c .before in
+    let four = two .before in
+    let three = four .before in
+    let allocation = three .before in
+    let count = allocation .before in
+    let allocated = rw (allocation .bad-allocation .ensures, count .block-count .ensures) at (three .or-else .ensures) in
+    let bits = rw (two .bad-bits .ensures) at (c .or-else3 .ensures) in
+    next allocated (next (four .or-else2 .ensures) (next bits done)) .is tt
 
 pub receive-number-spec : {M : Type 1} → statement M
 receive-number-spec =
     tie.close
     (tie.spec
-    head-at-requires
-    owner-number-requires
     block-count-requires
     bad-allocation-requires
     or-else-requires

@@ -1,11 +1,13 @@
--- The parts of 01's Receive: a code block's part of a room, which has its circle, and what each part may take for granted.
+-- The parts of 01's Receive: its last refusals, a code block's part of a room, which has its circle, and what each part may take for granted.
 -- Assumes nothing.
 use mathlib.Core.Path.{_≡_}
-use mathlib.Core.Bool.{false}
-use mathlib.Core.List.{List}
+use mathlib.Core.Bool.{Bool, false, cond}
+use mathlib.Core.List.{List, [], _∷_}
 use Prim.Native.Nat.{ℕ, _+_, _*_, _≤_}
+use lib.Dec.{eqb}
 use lib.ListN.{length, take}
 use Rattle.laws.specs.Bits.{AreBits}
+use Rattle.refusals.specs.Refusals.{Rule, firstOf}
 use Rattle.segmentation.specs.Segmentation.{blocks}
 use Rattle.segmentation.specs.Sizes.{badSize}
 use Rattle.rate_matching.specs.SubBlocks.{rows}
@@ -13,11 +15,24 @@ use Rattle.rate_matching.specs.Circle.{startIn}
 use Rattle.rate_matching.specs.Walk.{sentPlaces}
 use Rattle.rate_matching.specs.Shape.{shape}
 use Rattle.codeword.specs.declared.Grant.{Grant}
-use Rattle.codeword.specs.Build.{badAllocation}
+use Rattle.codeword.specs.Build.{badAllocation, versionRule, bitsRule}
 use Rattle.codeword.specs.Codeword.{blockRows}
-use Rattle.slots.specs.State.{perBlock}
+use Rattle.slots.specs.State.{perBlock, roomLength, roomStart}
 use Rattle.slots.specs.Putting.{putAlong}
 use Rattle.slots.specs.Room.{agreeing}
+use Rattle.slots.specs.Calls.{allocationRule}
+
+-- 3, 4, 2: what is asked of the bits for a block of A bits
+unfoldable pub bitsRules : ℕ → ℕ → ℕ → ℕ → List ℕ → List Rule
+bitsRules A Q N v bits = allocationRule (blocks (A + 24)) Q N (length bits) ∷ versionRule v ∷ bitsRule bits ∷ []
+
+-- their number, where no rule applied before
+unfoldable pub numberAfter : ℕ → ℕ → ℕ → ℕ → ℕ → List ℕ → ℕ
+numberAfter found A Q N v bits = cond (eqb found 0) (firstOf (bitsRules A Q N v bits)) found
+
+-- how many bytes a row of a circle has, one place a byte or four
+unfoldable pub bytesARow : Bool → ℕ
+bytesARow four = cond four 24 96
 
 -- the part of a room for a code block with D places a stream and F filler bits, its circle cut at N_cb, after bits of version v
 unfoldable pub partAfter : ℕ → ℕ → ℕ → ℕ → List ℕ → List ℕ → List ℕ
@@ -32,3 +47,10 @@ pub record Accepted (A soft : ℕ) (g : Grant) (bits : List ℕ) (n : ℕ) : Typ
   pub whole : length bits ≡ g .bits
   pub given : AreBits bits
   pub fits : blocks (A + 24) * perBlock ≤ n
+
+-- one for a slot with room for M code blocks, which lies in a store that keeps `long` places
+pub record InSlot (M slot A soft : ℕ) (g : Grant) (bits : List ℕ) (long : ℕ) : Type 0 where
+  pub slots-few : slot ≤ 8
+  pub blocks-few : M ≤ 5
+  pub accepted : Accepted A soft g bits (roomLength M)
+  pub within : roomStart M slot + roomLength M ≤ long

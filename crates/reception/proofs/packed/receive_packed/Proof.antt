@@ -1,4 +1,4 @@
--- `packed::receive_packed` meets its contract: the number decides, and number 0 says that the slot's bytes lie within the store and have the block's code blocks.
+-- `packed::receive_packed` meets its contract: the number decides, and number 0 says that the slot's room lies within the store and has the block's code blocks.
 -- Assumes nothing.
 use mathlib.Core.Path.{_≡_, ap}
 use mathlib.Core.Bool.{true}
@@ -10,115 +10,101 @@ use borrow.Author.Tests.{ne-eqb}
 use Rattle.slots.specs.declared.Head.{Head}
 use Rattle.slots.specs.Calls.{sizeAtHead, shareAtHead, receiveNumber}
 use Rattle.packing.specs.Store.{placesIn}
-use Rattle.reception.proofs.Accepts.{Ready, ready}
-use Rattle.reception.proofs.FourStore.{receive-asked, bytes-small, bytes-near, bytes-in, bytes-ready, bytes-stored, bytes-answered, refused-stored, refused-answered}
+use Rattle.reception.proofs.Accepts.{number-told, in-slot, refused-answered, refused-stored, stored, answered}
 use Rattle.reception.proofs.packed.receive_packed.Statement.{statement}
 use Rattle.reception.proofs.packed.receive_packed.Tie as tie
 
 -- the ways back
-abbrev at-slice-known : tie.After-places-asked → tie.After-slice-known
+abbrev at-slice-known : tie.After-head-at → tie.After-slice-known
 at-slice-known c = c .before
 
-abbrev at-places-asked : tie.After-receive-number → tie.After-places-asked
-at-places-asked c = c .before
-
-abbrev at-else1 : tie.After-head-at → tie.Else1
-at-else1 c = c .before
-
-abbrev at-head-at : tie.After-struct-known → tie.After-head-at
+abbrev at-head-at : tie.After-places-asked → tie.After-head-at
 at-head-at c = c .before
 
-abbrev at-head-at-from-put-rooms-arg : tie.After-put-rooms-arg → tie.After-head-at
-at-head-at-from-put-rooms-arg c = at-head-at (c .before)
+abbrev at-places-asked : tie.After-owner-number → tie.After-places-asked
+at-places-asked c = c .before
 
--- the number is that of the store's places
+abbrev at-owner-number : tie.After-receive-number → tie.After-owner-number
+at-owner-number c = c .before
+
+abbrev at-else1 : tie.After-put-in-slot-arg → tie.Else1
+at-else1 c = c .before
+
+-- from the number: the head, and the function's entry
+abbrev head : tie.After-receive-number → tie.After-head-at
+head c = at-head-at (at-places-asked (at-owner-number c))
+
 abbrev entry : tie.After-receive-number → tie.Start
-entry c = at-slice-known (at-places-asked c) .before .before
-
-told : (c : tie.After-receive-number) → let e = entry c .args in
-    c .receive-number .result ≡ receiveNumber (e .state) (length (placesIn true (now (e .store)))) (e .slot) (e .terminal) (e .q) (e .n) (e .version) (now (e .bits))
-told c = let e = entry c .args in receive-asked (e .state) (now (e .store)) (e .slot) (e .terminal) (e .q) (e .n) (e .version) (now (e .bits)) (at-places-asked c .places-asked .ensures) (c .receive-number .ensures)
-
--- past the test: what number 0 says
-is-ready : (c : tie.Else1) → let e = entry (c .before) .args in Ready (e .state) (length (placesIn true (now (e .store)))) (e .slot) (e .q) (e .n) (e .version) (now (e .bits))
-is-ready c = ready _ (told (c .before)) (c .if1 .left)
+entry c = at-slice-known (head c) .before .before
 
 -- the A of the slot's head, and its share
-sized : (c : tie.After-head-at) → let e = entry (at-else1 c .before) .args in c .head-at .result .size ≡ sizeAtHead (e .state) (e .slot)
+sized : (c : tie.After-receive-number) → let e = entry c .args in head c .head-at .result .size ≡ sizeAtHead (e .state) (e .slot)
 unfolding sizeAtHead
-sized c = ap (λ (h : Head). h .size) (c .head-at .ensures)
+sized c = ap (λ (h : Head). h .size) (head c .head-at .ensures)
 
-shared : (c : tie.After-head-at) → let e = entry (at-else1 c .before) .args in c .head-at .result .share ≡ shareAtHead (e .state) (e .slot)
+shared : (c : tie.After-receive-number) → let e = entry c .args in head c .head-at .result .share ≡ shareAtHead (e .state) (e .slot)
 unfolding shareAtHead
-shared c = ap (λ (h : Head). h .share) (c .head-at .ensures)
+shared c = ap (λ (h : Head). h .share) (head c .head-at .ensures)
+
+-- the number is that of the store's places
+told : (c : tie.After-receive-number) → let e = entry c .args in
+    c .receive-number .result ≡ receiveNumber (e .state) (length (placesIn true (now (e .store)))) (e .slot) (e .terminal) (e .q) (e .n) (e .version) (now (e .bits))
+told c =
+    let e = entry c .args in
+    number-told true (e .state) (now (e .store)) (e .slot) (e .terminal) (e .q) (e .n) (e .version) (now (e .bits)) (at-places-asked (at-owner-number c) .places-asked .ensures) (at-owner-number c .owner-number .ensures) (sized c) (c .receive-number .ensures)
+
+head-at-requires : tie.Need-head-at-requires
+head-at-requires c κs = search needs
 
 places-asked-requires : tie.Need-places-asked-requires
 places-asked-requires c κs = search needs
+
+owner-number-requires : tie.Need-owner-number-requires
+owner-number-requires c κs = search needs
 
 receive-number-requires : tie.Need-receive-number-requires
 receive-number-requires c κs = search needs
 
 returns : tie.Need-returns
 returns c =
-    let e = entry (c .before) .args in
+    let n = c .before in
+    let e = entry n .args in
     let refused = ne-eqb _ 0 (c .if1 .taken) in (
-      refused-answered (e .state) (e .slot) (e .terminal) (e .q) (e .n) (e .version) (now (e .bits)) (now (e .store)) (told (c .before)) refused,
-      refused-stored (e .state) (e .slot) (e .terminal) (e .q) (e .n) (e .version) (now (e .bits)) (now (e .store)) (told (c .before)) refused
-          (λ i. omega (arith, at-slice-known (at-places-asked (c .before)) .slice-known .given i)),
+      refused-answered true (e .state) (e .slot) (e .terminal) (e .q) (e .n) (e .version) (now (e .bits)) (now (e .store)) (told n) refused,
+      refused-stored true (e .state) (e .slot) (e .terminal) (e .q) (e .n) (e .version) (now (e .bits)) (now (e .store)) (told n) refused
+          (λ i. omega (arith, at-slice-known (head n) .slice-known .given i)),
     )
 
-head-at-requires : tie.Need-head-at-requires
-head-at-requires c κs = search needs
-
-mul-room : tie.Need-mul-room
-mul-room c = omega (arith, bytes-small _ (is-ready (at-else1 (at-head-at c))))
-
-mul-from : tie.Need-mul-from
-mul-from c = omega (arith, bytes-near _ (is-ready (at-else1 (at-head-at c))))
-
-add-to : tie.Need-add-to
-add-to c = omega (arith, bytes-small _ (is-ready (at-else1 (at-head-at c))), bytes-near _ (is-ready (at-else1 (at-head-at c))))
-
-sub-put-rooms : tie.Need-sub-put-rooms
-sub-put-rooms c = search needs
-
-part-put-rooms-start : tie.Need-part-put-rooms-start
-part-put-rooms-start c = search needs
-
-part-put-rooms-end : tie.Need-part-put-rooms-end
-part-put-rooms-end c = bytes-in _ (is-ready (at-else1 (at-head-at c)))
-
-put-rooms-requires : tie.Need-put-rooms-requires
-put-rooms-requires c κs = bytes-ready _ (is-ready (at-else1 (at-head-at-from-put-rooms-arg c))) (sized (at-head-at-from-put-rooms-arg c)) (shared (at-head-at-from-put-rooms-arg c))
+put-in-slot-requires : tie.Need-put-in-slot-requires
+put-in-slot-requires c κs =
+    let arm = at-else1 c in
+    let n = arm .before in
+    in-slot (entry n .args .state) (entry n .args .terminal) (told n) (arm .if1 .left) (sized n) (shared n)
 
 same-length : tie.Need-same-length
 same-length c = search needs
 
 returns-2 : tie.Need-returns-2
 returns-2 c =
-    let put-rooms = c .before .before in
-    let p = put-rooms .put-rooms in
-    let head = at-head-at-from-put-rooms-arg (put-rooms .before) in
-    let found = at-else1 head in
-    let kept = p .kept .1 .1 .1 .1 .0 in (
-      bytes-answered _ (is-ready found) (sized head) (shared head) _ _ (told (found .before)) (found .if1 .left) kept (p .ensures),
-      bytes-stored _ (is-ready found) (sized head) (shared head) _ _ (told (found .before)) (found .if1 .left) kept (p .ensures) (λ i. omega (arith, c .slice-known2 .given i)),
+    let p = c .before .before in
+    let put = p .put-in-slot .ensures in
+    let arm = at-else1 (p .before) in
+    let n = arm .before in
+    let e = entry n .args in (
+      answered true (e .state) (e .slot) (e .terminal) (e .q) (e .n) (e .version) (now (e .bits)) (now (e .store)) (told n) (arm .if1 .left) _ (sized n) (shared n) (put .0) (put .1),
+      stored true (e .state) (e .slot) (e .terminal) (e .q) (e .n) (e .version) (now (e .bits)) (now (e .store)) (told n) (arm .if1 .left) _ (sized n) (shared n) (put .0) (put .1)
+          (λ i. omega (arith, c .slice-known2 .given i)),
     )
 
 pub receive-packed-spec : {M : Type 1} → statement M
 receive-packed-spec =
     tie.close
     (tie.spec
+    head-at-requires
     places-asked-requires
+    owner-number-requires
     receive-number-requires
     returns
-    head-at-requires
-    mul-room
-    mul-from
-    add-to
-    sub-put-rooms
-    part-put-rooms-start
-    part-put-rooms-end
-    put-rooms-requires
+    put-in-slot-requires
     same-length
     returns-2)

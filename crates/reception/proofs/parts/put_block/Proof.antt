@@ -1,47 +1,41 @@
--- `parts::put_block` meets its contract: the first turn, and what comes after it in one round or by a ring (`Rounds`).
+-- `parts::put_block` meets its contract: bits for one turn or less are put, and more turns by a ring (`Rounds`).
 -- Assumes nothing.
+use mathlib.Core.Path.{_≡_}
+use Prim.Native.Nat.{_≤_}
 use native.Mathlib.Omega.{arith}
+use lib.ListN.{length}
 use borrow.Author.Needs.{needs}
 use Rattle.rate_matching.specs.Walk.{sentPlaces}
+use Rattle.bit_placement.specs.Placement.{turnIn}
+use Rattle.bit_placement.proofs.Placed.{placed}
 use Rattle.reception.specs.inner.Parts.{partAfter}
-use Rattle.reception.specs.inner.Along.{turnIn}
-use Rattle.reception.proofs.Along.{put-long}
-use Rattle.reception.proofs.Rounds.{first-some, two-rounds, ring-round}
-use Rattle.reception.proofs.Walking.{sends-still, round-some, round-few}
+use Rattle.reception.proofs.Rounds.{turn-told, turn-least, turn-few, one-round, ring-round}
 use Rattle.reception.proofs.parts.put_block.Statement.{statement}
 use Rattle.reception.proofs.parts.put_block.Tie as tie
 
 -- the ways back
-abbrev at-put-round-from-sub-if1 : tie.After-slice-known2 → tie.After-put-round
-at-put-round-from-sub-if1 c = c .before .before
+abbrev at-start : tie.After-turn-length → tie.Start
+at-start c = c .before .before .before
 
-abbrev at-put-round : tie.After-put-long-arg → tie.After-put-round
-at-put-round c = at-put-round-from-sub-if1 (c .before .before .before)
+abbrev at-then2 : tie.After-put-short-arg → tie.Then2
+at-then2 c = c .before
 
-abbrev at-put-round-from-put-short-arg : tie.After-put-short-arg → tie.After-put-round
-at-put-round-from-put-short-arg c = at-put-round-from-sub-if1 (c .before .before .before)
+abbrev at-else2 : tie.After-put-long-arg → tie.Else2
+at-else2 c = c .before
 
--- the first turn is put: the function's entry
-abbrev entry : tie.After-put-round → tie.Start
-entry c = c .before .before .before .before
+-- how long a turn is
+turn : (c : tie.After-turn-length) → let a = at-start c .args in c .turn-length .result ≡ length (turnIn (a .d) (a .filler) (a .soft) (a .version))
+turn c = turn-told (at-start c .pre .0) (c .turn-length .ensures)
 
-put-round-requires : tie.Need-put-round-requires
-put-round-requires c κs = search needs
+-- where there are more: it has one bit at least, and there is a whole one
+more : (c : tie.Else1) → c .before .turn-length .result ≤ length (at-start (c .before) .args .bits .now)
+more c = omega (arith, c .if1 .left)
 
-sub-if1 : tie.Need-sub-if1
-sub-if1 c = search needs
+turn-length-requires : tie.Need-turn-length-requires
+turn-length-requires c κs = search needs
 
-sub-put-round : tie.Need-sub-put-round
-sub-put-round c = search needs
-
-part-put-round-start : tie.Need-part-put-round-start
-part-put-round-start c = search needs
-
-part-put-round-end : tie.Need-part-put-round-end
-part-put-round-end c = search needs
-
-put-round-requires-2 : tie.Need-put-round-requires-2
-put-round-requires-2 c κs = search needs
+put-turn-requires : tie.Need-put-turn-requires
+put-turn-requires c κs = search needs
 
 same-length : tie.Need-same-length
 same-length c = search needs
@@ -49,17 +43,18 @@ same-length c = search needs
 returns : tie.Need-returns
 unfolding partAfter sentPlaces turnIn
 returns c =
-    let put-round2 = c .before .before in
-    let first = at-put-round-from-sub-if1 (put-round2 .before .before .before .before) in
-    let e = entry first in
-    two-rounds _ _ (round-some (e .pre .0)) (first .put-round .ensures) (omega arith) (put-round2 .put-round2 .ensures)
+    let put = c .before .before in
+    let arm = put .before .before in
+    let found = arm .before in
+    let e = at-start found in
+    one-round _ _ (turn-least (e .pre .0)) (omega (arith, arm .if1 .taken, turn found)) _ (placed (e .args .part .now) (e .pre .0) _ (put .put-turn .ensures .0))
 
 put-short-requires : tie.Need-put-short-requires
 put-short-requires c κs =
-    let first = at-put-round-from-put-short-arg c in
-    let e = entry first in
-    let told = first .put-round .ensures in
-    (sends-still (e .pre .0) (put-long told), first-some _ _ (round-some (e .pre .0)) told (omega arith), omega arith, omega arith, e .pre .1)
+    let arm = at-then2 c in
+    let found = arm .before .before in
+    let e = at-start found in
+    (e .pre .0, omega (arith, turn found, turn-least (e .pre .0)), arm .if2 .taken, more (arm .before), e .pre .1)
 
 same-length-2 : tie.Need-same-length-2
 same-length-2 c = search needs
@@ -67,17 +62,17 @@ same-length-2 c = search needs
 returns-2 : tie.Need-returns-2
 unfolding partAfter sentPlaces turnIn
 returns-2 c =
-    let put-short = c .before .before in
-    let first = at-put-round-from-put-short-arg (put-short .before) in
-    let e = entry first in
-    ring-round _ _ (round-some (e .pre .0)) (first .put-round .ensures) (omega arith) (e .pre .1) (put-short .put-short .ensures)
+    let put = c .before .before in
+    let many = at-then2 (put .before) .before in
+    let e = at-start (many .before) in
+    ring-round _ _ (turn (many .before)) (turn-least (e .pre .0)) (more many) (e .pre .1) _ (put .put-short .ensures)
 
 put-long-requires : tie.Need-put-long-requires
 put-long-requires c κs =
-    let first = at-put-round c in
-    let e = entry first in
-    let told = first .put-round .ensures in
-    (sends-still (e .pre .0) (put-long told), first-some _ _ (round-some (e .pre .0)) told (omega arith), omega (arith, told .ends, round-few (e .pre .0)), omega arith, e .pre .1)
+    let many = at-else2 c .before in
+    let found = many .before in
+    let e = at-start found in
+    (e .pre .0, omega (arith, turn found, turn-least (e .pre .0)), omega (arith, turn found, turn-few (e .pre .0)), more many, e .pre .1)
 
 same-length-3 : tie.Need-same-length-3
 same-length-3 c = search needs
@@ -85,21 +80,17 @@ same-length-3 c = search needs
 returns-3 : tie.Need-returns-3
 unfolding partAfter sentPlaces turnIn
 returns-3 c =
-    let at-put-long = c .before .before in
-    let first = at-put-round (at-put-long .before) in
-    let e = entry first in
-    ring-round _ _ (round-some (e .pre .0)) (first .put-round .ensures) (omega arith) (e .pre .1) (at-put-long .put-long .ensures)
+    let put = c .before .before in
+    let many = at-else2 (put .before) .before in
+    let e = at-start (many .before) in
+    ring-round _ _ (turn (many .before)) (turn-least (e .pre .0)) (more many) (e .pre .1) _ (put .put-long .ensures)
 
 pub put-block-spec : {M : Type 1} → statement M
 put-block-spec =
     tie.close
     (tie.spec
-    put-round-requires
-    sub-if1
-    sub-put-round
-    part-put-round-start
-    part-put-round-end
-    put-round-requires-2
+    turn-length-requires
+    put-turn-requires
     same-length
     returns
     put-short-requires

@@ -4,7 +4,8 @@ use mathlib.Core.Path.{sym, _∙_, ap}
 use Prim.Native.Nat.{ℕ}
 use borrow.Author.Needs.{needs}
 use Rattle.laws.proofs.Parts.{fresh-count}
-use Rattle.reception.specs.inner.Along.{putFirst, ringAfter, turnIn}
+use Rattle.bit_placement.specs.Placement.{putFirst, turnIn}
+use Rattle.reception.specs.inner.Ring.{ringOf}
 use Rattle.reception.proofs.parts.put_short.Statement.{statement}
 use Rattle.reception.proofs.parts.put_short.Tie as tie
 
@@ -35,7 +36,7 @@ returns c =
     let e = at-start (put-turns .before) in
     let a = e .args in
     put-turns .put-turns .ensures
-    ∙ ap (λ (k : ℕ). putFirst (turnIn (a .d) (a .filler) (a .soft) (a .version)) (ringAfter k (a .bits .now)) (a .part .now)) (sym (fresh-count {A = ℕ} 0 3168 _ (e .pre .2)))
+    ∙ ap (λ (k : ℕ). putFirst (turnIn (a .d) (a .filler) (a .soft) (a .version)) (ringOf k (a .bits .now)) (a .part .now)) (sym (fresh-count {A = ℕ} 0 3168 _ (e .pre .2)))
 
 pub put-short-spec : {M : Type 1} → statement M
 put-short-spec =

@@ -1,0 +1,4 @@
+pub mod Putting
+pub mod Along
+pub mod Walking
+pub mod Placed
