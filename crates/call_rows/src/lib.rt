@@ -100,7 +100,7 @@ pub fn put_codeword(block: &[u8], grant: Grant, out: &mut [u8]) -> usize
     ensures { λ r. ⌜ now (out .exit) ≡ putAt 0 (buildRow (now (block .entry)) grant) (now (out .entry)) ⌝ }
 {
     let mut code = code_room();
-    let number = codeword::build(block, grant, &mut code);
+    let number = build_calls::build(block, grant, &mut code);
     if number != 0 {
         return answers::put_refusal(number as usize, out);
     }
@@ -120,7 +120,7 @@ pub fn put_codeword_down(block: &[u8], n: [usize; 9], out: &mut [u8]) -> usize
         version: n[7],
         bits: n[8],
     };
-    let number = codeword::build_down(block, n[0], n[1], n[2], n[3], n[4], grant, &mut code);
+    let number = build_calls::build_down(block, n[0], n[1], n[2], n[3], n[4], grant, &mut code);
     if number != 0 {
         return answers::put_refusal(number as usize, out);
     }

@@ -2,12 +2,8 @@ pub mod Accepted
 pub mod Seen
 pub mod Shares
 pub mod Segmented
-pub mod Joined
 pub mod Numbers
 pub mod SoftShares
-pub mod Sent
-pub mod Rooms
 pub mod Taken
 pub mod Data
 pub mod Uplink
-pub mod Stretches

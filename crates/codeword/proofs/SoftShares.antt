@@ -2,29 +2,28 @@
 -- Assumes nothing.
 use mathlib.Core.Path.{_≡_, refl, sym, _∙_, ap}
 use mathlib.Core.Bool.{Bool, true, false, cond, not, _||_, _&&_}
-use mathlib.Core.List.{List, _++_}
+use mathlib.Core.List.{List}
 use Prim.Native.Nat.{ℕ, zero, suc, _+_, _-_, _*_, _/_, _≤_, _<_, min}
 use native.Mathlib.Decide.{decLt}
 use native.Mathlib.Omega.{arith}
 use lib.Dec.{eqb, leb, ltb}
-use lib.ListN.{length, drop}
-use borrow.Author.Tests.{lt-ltb, le-ltb, ltb-false, eqb-true, eqb-false, ne-eqb, eq-eqb, not-false}
-use Rattle.refusals.specs.Refusals.{Rule, firstOf}
+use lib.ListN.{length}
+use borrow.Author.Tests.{lt-ltb, le-ltb, ltb-false, eqb-true, eqb-false, ne-eqb, not-false}
+use Rattle.refusals.specs.Refusals.{Rule}
 use Rattle.refusals.proofs.Refusals.{Listed, passed, listed}
 use Rattle.segmentation.specs.Segmentation.{blocks, long, shorts, sizeOf}
 use Rattle.segmentation.specs.declared.Segments.{Segments}
-use Rattle.segmentation.specs.Sizes.{badSize, segmentsOf, segmentsFor}
+use Rattle.segmentation.specs.Sizes.{badSize, segmentsOf}
 use Rattle.segmentation.proofs.Segmentation.{in-range, blocks-least, large-of, short-is, shorts-fewer, size-short, size-long}
 use Rattle.rate_matching.specs.SubBlocks.{rows}
-use Rattle.rate_matching.specs.Circle.{circleLength, cutAt}
+use Rattle.rate_matching.specs.Circle.{circleLength, cutAt, Cut}
 use Rattle.rate_matching.specs.SoftBuffer.{kC, divisorIn, softShare}
 use Rattle.codeword.specs.declared.Grant.{Grant}
-use Rattle.codeword.specs.Codeword.{blockRows, blockCut, codewordIn}
-use Rattle.codeword.specs.Build.{badVersion, sizeRule, symbolRule, lengthRule, versionRule, outputRule, bitsRule, buildRules, buildNumber}
-use Rattle.codeword.specs.Downlink.{badReceiver, tooShort, badBuffer, shareFor, bufferRule, buildDownRules, buildDownNumber, buildDownOutput}
-use Rattle.codeword.specs.inner.Sending.{Accepted, numberWith}
+use Rattle.codeword.specs.Codeword.{blockRows, blockCut}
+use Rattle.codeword.specs.Build.{badVersion, sizeRule, symbolRule, lengthRule, versionRule, outputRule, bitsRule}
+use Rattle.codeword.specs.Downlink.{badReceiver, tooShort, badBuffer, shareFor, bufferRule, buildDownRules, buildDownNumber}
+use Rattle.codeword.specs.inner.Accepted.{Accepted}
 use Rattle.codeword.proofs.Accepted.{or-false, allocation-of}
-use Rattle.codeword.proofs.Segmented.{sized-in}
 
 or-last : (a : Bool) {b : Bool} → b ≡ true → (a || b) ≡ true
 or-last true e = refl
@@ -81,6 +80,11 @@ module _ (B : ℕ) (high : B ≤ 30600) where
       | yes h ↦ last-short h ∙ sym (lt-ltb soft (32 * rows (long B + 4)) h)
       | no h ↦ none-short (omega arith) (blocks B) ∙ sym (le-ltb soft (32 * rows (long B + 4)) (omega arith))
     ]
+
+-- the circle of R rows is cut where it may be
+pub cut-told : {soft : ℕ} (R : ℕ) → 0 < R → 32 * R ≤ soft → Cut (cutAt soft R) R
+unfolding cutAt circleLength
+cut-told R some h = record { some = some; least = omega arith; most = omega arith }
 
 -- ---- the receiver
 
@@ -145,7 +149,7 @@ module _ (a : List ℕ) (release kMIMO processes Nsoft layers : ℕ) where
     unfolding shareFor
     unused e = ap (λ (b : Bool). cond b 0 (softShare (blocks B) release kMIMO processes Nsoft layers)) (or-last (eqb (blocks B) 0) e)
 
-    buffer-told : badBuffer B release kMIMO processes Nsoft layers ≡ ltb given (32 * rows (long B + 4))
+    pub buffer-told : badBuffer B release kMIMO processes Nsoft layers ≡ ltb given (32 * rows (long B + 4))
     unfolding badBuffer
     buffer-told = go (badReceiver release kMIMO processes) refl
       where
@@ -155,19 +159,6 @@ module _ (a : List ℕ) (release kMIMO processes Nsoft layers : ℕ) where
         go false e = rw (e, used e) (short-told B high (softShare (blocks B) release kMIMO processes Nsoft layers))
 
   module _ (g : Grant) where
-    -- the number as it is found
-    pub number-told : (room : ℕ) → numberWith a given g room ≡ buildDownNumber a release kMIMO processes Nsoft layers g room
-    unfolding numberWith buildDownNumber buildDownRules buildNumber buildRules firstOf
-    number-told room = by-size (badSize (length a)) refl
-      where
-        by-size : (t : Bool) → badSize (length a) ≡ t → numberWith a given g room ≡ buildDownNumber a release kMIMO processes Nsoft layers g room
-        by-size true e = simp e
-        by-size false e = by-share (ltb given (32 * rows (long B + 4))) refl
-          where
-            by-share : (t : Bool) → ltb given (32 * rows (long B + 4)) ≡ t → numberWith a given g room ≡ buildDownNumber a release kMIMO processes Nsoft layers g room
-            by-share true l = simp (e, buffer-told e, l)
-            by-share false l = simp (e, buffer-told e, l)
-
     -- what number 0 tells
     passes : (room : ℕ) → buildDownNumber a release kMIMO processes Nsoft layers g room ≡ 0
         → (r : Rule) → Listed r (buildDownRules a release kMIMO processes Nsoft layers g room) → r .bad ≡ false
@@ -195,35 +186,9 @@ module _ (a : List ℕ) (release kMIMO processes Nsoft layers : ℕ) where
         good : badSize (length a) ≡ false
         good = clear (sizeRule (length a)) (search listed)
 
-    -- by the segmentation that was found
-    module _ {s : Segments} {soft : ℕ} (told : s ≡ segmentsFor (length a)) (e : soft ≡ shareFor (s .blocks) release kMIMO processes Nsoft layers) where
-      share-found : badSize (length a) ≡ false → soft ≡ given
-      share-found good = e ∙ ap (λ (C : ℕ). shareFor C release kMIMO processes Nsoft layers) (sized-in (length a) s good told .count)
-
-      pub number-found : (room : ℕ) → numberWith a soft g room ≡ buildDownNumber a release kMIMO processes Nsoft layers g room
-      unfolding numberWith buildDownNumber buildDownRules firstOf
-      number-found room = go (badSize (length a)) refl
-        where
-          go : (t : Bool) → badSize (length a) ≡ t → numberWith a soft g room ≡ buildDownNumber a release kMIMO processes Nsoft layers g room
-          go true z = simp z
-          go false z = ap (λ (k : ℕ). numberWith a k g room) (share-found z) ∙ number-told room
-
-      pub share-accepted : (room : ℕ) → buildDownNumber a release kMIMO processes Nsoft layers g room ≡ 0 → soft ≡ given
-      share-accepted room h = share-found (accepted-down room h .0 .size)
-
     -- the share is the standard's
     pub share-told : (room : ℕ) → buildDownNumber a release kMIMO processes Nsoft layers g room ≡ 0 → given ≡ softShare (blocks B) release kMIMO processes Nsoft layers
     unfolding buildDownRules badBuffer
     share-told room h =
         used (passes room h (sizeRule (length a)) (search listed))
         (or-false _ _ (passes room h (bufferRule B release kMIMO processes Nsoft layers) (search listed)) .0)
-
-    pub refused-down : (out : List ℕ) → (buildDownNumber a release kMIMO processes Nsoft layers g (length out) ≡ 0 → ⊥) → out ≡ buildDownOutput a release kMIMO processes Nsoft layers g out
-    unfolding buildDownOutput
-    refused-down out h = simp (ne-eqb _ _ h)
-
-    pub built-down : (out : List ℕ) {front : List ℕ} → buildDownNumber a release kMIMO processes Nsoft layers g (length out) ≡ 0
-        → front ≡ codewordIn given a g → front ++ drop (g .bits) out ≡ buildDownOutput a release kMIMO processes Nsoft layers g out
-    unfolding buildDownOutput
-    built-down out h e =
-        simp (eq-eqb _ _ h) (ap (λ (l : List ℕ). l ++ drop (g .bits) out) (e ∙ ap (λ (soft : ℕ). codewordIn soft a g) (share-told (length out) h)))

@@ -1,10 +1,9 @@
--- The stretches of the codeword, clause 5.1.5: the code blocks' bits stand one after the other, each as long as its share, and all together are the G bits.
+-- The stretches of the codeword, clause 5.1.5: the code blocks' bits stand one after the other, each as long as its share.
 -- Assumes nothing.
 use mathlib.Core.Path.{_≡_, sym, _∙_, ap, ap₂}
-use mathlib.Core.Bool.{false}
 use mathlib.Core.List.{List, _++_}
-use Prim.Native.Nat.{ℕ, zero, suc, _+_, _-_, _≤_, _<_}
-use native.Mathlib.Nat.{zero-add, suc-add, add-suc, add-zero}
+use Prim.Native.Nat.{ℕ, zero, suc, _+_, _-_, _<_}
+use native.Mathlib.Nat.{zero-add, suc-add, add-suc}
 use native.Mathlib.Omega.{arith}
 use lib.ListN.{length, take, drop, length-append}
 use lib.Seq.{take-at, drop-at, drop-drop}
@@ -12,14 +11,10 @@ use Rattle.laws.proofs.Bits.{length-bitsOf}
 use Rattle.check_bits.specs.CheckBits.{checkBits}
 use Rattle.segmentation.specs.Segmentation.{blocks}
 use Rattle.segmentation.specs.CodeBlocks.{withCheck}
-use Rattle.segmentation.proofs.Segmentation.{blocks-least}
 use Rattle.rate_matching.proofs.Walk.{length-selected}
 use Rattle.codeword.specs.declared.Grant.{Grant}
 use Rattle.codeword.specs.Shares.{sharesBefore, granted, grantedBefore}
-use Rattle.codeword.specs.Build.{badAllocation}
 use Rattle.codeword.specs.Codeword.{sentBits, blockBits, bitsFrom, codewordIn}
-use Rattle.codeword.proofs.Accepted.{allocated}
-use Rattle.codeword.proofs.Shares.{shares-all}
 
 module _ (soft : ℕ) (b : List ℕ) (g : Grant) where
   -- E_r bits
@@ -38,12 +33,6 @@ module _ (soft : ℕ) (b : List ℕ) (g : Grant) where
       ∙ sym (drop-drop E S (bitsFrom soft b g 0 (r + suc n)))
       ∙ ap (drop E) (past r (suc n))
       ∙ drop-at (blockBits soft b g r) (bitsFrom soft b g (suc r) n) E (length-blockBits r)
-
-  length-bitsFrom : (r n : ℕ) → grantedBefore (blocks (length b)) g r + length (bitsFrom soft b g r n) ≡ grantedBefore (blocks (length b)) g (r + n)
-  unfolding bitsFrom sharesBefore
-  length-bitsFrom r zero = rw (add-zero r) (omega arith)
-  length-bitsFrom r (suc n) =
-      rw (add-suc, length-append, length-blockBits) (omega (arith, ap (grantedBefore (blocks (length b)) g) (suc-add r n), length-bitsFrom (suc r) n))
 
 -- b has the transport check's 24 bits more
 pub length-withCheck : (a : List ℕ) → length (withCheck a) ≡ length a + 24
@@ -69,13 +58,3 @@ module _ (soft : ℕ) (a : List ℕ) (g : Grant) where
       rw (stretch-is r h)
       (take-at (blockBits soft (withCheck a) g r) _ (granted (blocks (length a + 24)) g r)
       (length-blockBits soft (withCheck a) g r ∙ ap (λ (n : ℕ). granted (blocks n) g r) (length-withCheck a)))
-
-  -- G bits, in an accepted allocation
-  pub length-codeword : length a ≤ 30576 → badAllocation (blocks (length a + 24)) (g .modulation) (g .layers) (g .bits) ≡ false → length (codewordIn soft a g) ≡ g .bits
-  unfolding codewordIn sharesBefore
-  length-codeword h accepted =
-      let C : ℕ = blocks (length a + 24) in
-      sym (zero-add _)
-      ∙ length-bitsFrom soft (withCheck a) g 0 C
-      ∙ ap₂ (λ (n m : ℕ). grantedBefore (blocks n) g m) (length-withCheck a) (zero-add C)
-      ∙ shares-all C (g .modulation) (g .layers) (g .bits) (blocks-least (length a + 24) (omega arith)) (allocated C (g .modulation) (g .layers) (g .bits) accepted .multiple)

@@ -1,13 +1,8 @@
-// The soft buffer of a downlink, clause 5.1.4.1.2: each code block's share of it, and where its circle is cut.
+// The soft buffer of a downlink, clause 5.1.4.1.2: each code block's share of it.
 ghost use mathlib.Core.Path.{_≡_};
-ghost use Prim.Native.Nat.{_≤_, min};
-ghost use Rattle.rate_matching.specs.SubBlocks.{rows};
-ghost use Rattle.rate_matching.specs.Circle.{cutAt};
+ghost use Prim.Native.Nat.{min};
 ghost use Rattle.rate_matching.specs.SoftBuffer.{divisorIn, mLimit};
 ghost use Rattle.codeword.specs.Downlink.{badReceiver, shareFor};
-
-// What an uplink's code block has: the places of the largest circle.
-pub(crate) const WHOLE_SHARE: usize = 18528;
 
 // The most processes that share the buffer.
 const M_LIMIT: usize = 8;
@@ -65,13 +60,4 @@ pub fn share_for(
     }
     let shared = divisor_in(release, soft, layers) * mimo * limited(processes);
     soft / shared / blocks
-}
-
-// N_cb of a code block whose streams have d places.
-pub(crate) fn cut_at(soft: usize, d: usize) -> usize
-    requires { ⌜ d ≤ 6148 ⌝ }
-    ensures { λ r. ⌜ r ≡ cutAt soft (rows d) ⌝ }
-{
-    let whole = 96 * ((d + 31) / 32);
-    if soft < whole { soft } else { whole }
 }

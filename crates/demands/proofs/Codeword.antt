@@ -17,7 +17,7 @@ use Rattle.codeword.specs.Shares.{granted, grantedBefore}
 use Rattle.codeword.specs.Codeword.{blockCircle, blockRows, blockCut, codewordIn, codeword}
 use Rattle.codeword.specs.Build.{buildNumber}
 use Rattle.codeword.specs.Downlink.{buildDownNumber}
-use Rattle.codeword.specs.inner.Sending.{Accepted}
+use Rattle.codeword.specs.inner.Accepted.{Accepted}
 use Rattle.codeword.proofs.Numbers.{accepted}
 use Rattle.codeword.proofs.SoftShares.{accepted-down, share-told}
 use Rattle.slots.specs.Reception.{blockPlaces}

@@ -24,10 +24,10 @@ use Rattle.rate_matching.proofs.Walk.{loop-is-selected}
 use Rattle.codeword.specs.declared.Grant.{Grant}
 use Rattle.codeword.specs.Shares.{granted, grantedBefore}
 use Rattle.codeword.specs.Codeword.{blockCircle, blockRows, blockCut, sentBits, blockBits, codewordIn}
-use Rattle.codeword.specs.inner.Sending.{Accepted}
+use Rattle.codeword.specs.inner.Accepted.{Accepted}
 use Rattle.codeword.proofs.Accepted.{given-bits}
 use Rattle.codeword.proofs.Data.{withCheck-bits, codeBlock-bits, block-filled, data-place}
-use Rattle.codeword.proofs.Sent.{cut-told}
+use Rattle.codeword.proofs.SoftShares.{cut-told}
 use Rattle.codeword.proofs.Taken.{length-withCheck, stretch}
 use Rattle.slots.specs.Reception.{blockPlaces}
 use Rattle.history.proofs.ReleaseTrue.{block-bits}

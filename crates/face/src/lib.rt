@@ -33,7 +33,7 @@ pub extern "C" fn zemrukste_build(
         version,
         bits: g,
     };
-    codeword::build(block, grant, out) as u32
+    build_calls::build(block, grant, out) as u32
 }
 
 // Build of a block that lies in two slices, the header's bits before the payload's.
@@ -56,7 +56,7 @@ pub extern "C" fn zemrukste_build_two(
         version,
         bits: g,
     };
-    codeword::build_two(header, payload, grant, out) as u32
+    build_calls::build_two(header, payload, grant, out) as u32
 }
 
 // Build for a downlink: the same, for a receiver with a limited soft buffer.
@@ -83,7 +83,7 @@ pub extern "C" fn zemrukste_build_down(
         version,
         bits: g,
     };
-    codeword::build_down(block, release, mimo, processes, soft, layers, grant, out) as u32
+    build_calls::build_down(block, release, mimo, processes, soft, layers, grant, out) as u32
 }
 
 // Sizes: the six numbers as bytes over the front of `out`, or the number of the refusal, which writes nothing.

@@ -21,7 +21,7 @@ pub fn build(report: &[u8], control: usize, block: &[u8], grant: Grant, out: &mu
     }
     let ahead = grant.layers * control;
     report_code::control_bits(number_of(report), &mut out[..ahead]);
-    codeword::build(block, grant, &mut out[ahead..]);
+    build_calls::build(block, grant, &mut out[ahead..]);
     0
 }
 

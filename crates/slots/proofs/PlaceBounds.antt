@@ -24,7 +24,7 @@ use Rattle.codeword.specs.Build.{badVersion}
 use Rattle.codeword.specs.Codeword.{blockRows, blockCut}
 use Rattle.codeword.specs.declared.Grant.{Grant}
 use Rattle.codeword.specs.Shares.{granted}
-use Rattle.codeword.proofs.Sent.{cut-told}
+use Rattle.codeword.proofs.SoftShares.{cut-told}
 use Rattle.slots.specs.State.{perBlock}
 use Rattle.slots.specs.Reception.{blockPlaces}
 use Rattle.slots.proofs.Buffers.{Wide}

@@ -1,15 +1,15 @@
 -- `share_for` meets its contract: no code block and a refused receiver have no share, else N_IR is divided by C.
 -- Assumes nothing.
 use borrow.Author.Needs.{needs}
-use mathlib.Core.Path.{_≡_, sym, _∙_, ap}
+use mathlib.Core.Path.{_≡_, sym, _∙_}
 use mathlib.Core.Bool.{false}
-use Prim.Native.Nat.{ℕ, _*_, _≤_}
+use Prim.Native.Nat.{_*_, _≤_}
 use native.Mathlib.Nat.{mul-le-mul}
 use native.Mathlib.Omega.{arith}
 use borrow.Author.Tests.{eq-eqb, ne-eqb}
 use Rattle.rate_matching.specs.SoftBuffer.{mLimit, nIR, softShare}
 use Rattle.codeword.specs.Downlink.{badReceiver, shareFor}
-use Rattle.codeword.proofs.SoftShares.{Receiver, receiver, divisor-few}
+use Rattle.codeword.proofs.SoftShares.{receiver, divisor-few}
 use Rattle.codeword.proofs.buffer.share_for.Statement.{statement}
 use Rattle.codeword.proofs.buffer.share_for.Tie as tie
 
