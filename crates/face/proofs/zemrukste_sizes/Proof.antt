@@ -29,7 +29,7 @@ in-range : (c : tie.Else1) → Sized (at-start (at-segments-for c) .args .a) (at
 in-range c = sized _ _ (at-segments-for c .segments-for .ensures) (c .if1 .left)
 
 segments-for-requires : tie.Need-segments-for-requires
-segments-for-requires c κs = search needs
+segments-for-requires c κs = tt
 
 returns : tie.Need-returns
 returns c = refused-1 _ _ (unsized _ _ (at-segments-for-from-struct-known (c .before) .segments-for .ensures) (c .if1 .taken))
@@ -47,7 +47,7 @@ slice-aggregate-put-numbers-2 : tie.Need-slice-aggregate-put-numbers-2
 slice-aggregate-put-numbers-2 c = front-count 24 (at-start (at-segments-for (at-else2 c .before)) .args .out .now) (at-else2 c .if2 .left)
 
 put-numbers-requires : tie.Need-put-numbers-requires
-put-numbers-requires c κs = search needs
+put-numbers-requires c κs = tt
 
 same-length : tie.Need-same-length
 same-length c = search needs

@@ -6,13 +6,13 @@ use Rattle.face.proofs.calls.zemrukste_open.Statement.{statement}
 use Rattle.face.proofs.calls.zemrukste_open.Tie as tie
 
 state-in-requires : tie.Need-state-in-requires
-state-in-requires c κs = search needs
+state-in-requires c κs = tt
 
 open-requires : tie.Need-open-requires
-open-requires c κs = search needs
+open-requires c κs = tt
 
 finish-requires : tie.Need-finish-requires
-finish-requires c κs = search needs
+finish-requires c κs = tt
 
 same-length : tie.Need-same-length
 same-length c = search needs

@@ -6,13 +6,13 @@ use Rattle.face.proofs.calls.zemrukste_streams.Statement.{statement}
 use Rattle.face.proofs.calls.zemrukste_streams.Tie as tie
 
 state-in-requires : tie.Need-state-in-requires
-state-in-requires c κs = search needs
+state-in-requires c κs = tt
 
 streams-requires : tie.Need-streams-requires
-streams-requires c κs = search needs
+streams-requires c κs = tt
 
 number-requires : tie.Need-number-requires
-number-requires c κs = search needs
+number-requires c κs = tt
 
 same-length : tie.Need-same-length
 same-length c = search needs

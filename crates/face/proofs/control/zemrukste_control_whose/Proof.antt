@@ -3,18 +3,17 @@
 use mathlib.Core.Path.{_∙_, ap}
 use Rattle.control_messages.specs.declared.Owner.{Owner}
 use Rattle.control_messages.specs.Calls.{numberOf, terminalOf}
-use borrow.Author.Needs.{needs}
 use Rattle.face.proofs.control.zemrukste_control_whose.Statement.{statement}
 use Rattle.face.proofs.control.zemrukste_control_whose.Tie as tie
 
 whose-requires : tie.Need-whose-requires
-whose-requires c κs = search needs
+whose-requires c κs = tt
 
 named-requires : tie.Need-named-requires
-named-requires c κs = search needs
+named-requires c κs = tt
 
 number-requires : tie.Need-number-requires
-number-requires c κs = search needs
+number-requires c κs = tt
 
 returns : tie.Need-returns
 returns c =

@@ -6,13 +6,13 @@ use Rattle.face.proofs.packed.zemrukste_open_down_packed.Statement.{sta
 use Rattle.face.proofs.packed.zemrukste_open_down_packed.Tie as tie
 
 state-in-requires : tie.Need-state-in-requires
-state-in-requires c κs = search needs
+state-in-requires c κs = tt
 
 open-down-packed-requires : tie.Need-open-down-packed-requires
-open-down-packed-requires c κs = search needs
+open-down-packed-requires c κs = tt
 
 finish-requires : tie.Need-finish-requires
-finish-requires c κs = search needs
+finish-requires c κs = tt
 
 same-length : tie.Need-same-length
 same-length c = search needs

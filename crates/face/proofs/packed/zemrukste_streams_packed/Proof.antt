@@ -6,13 +6,13 @@ use Rattle.face.proofs.packed.zemrukste_streams_packed.Statement.{state
 use Rattle.face.proofs.packed.zemrukste_streams_packed.Tie as tie
 
 state-in-requires : tie.Need-state-in-requires
-state-in-requires c κs = search needs
+state-in-requires c κs = tt
 
 streams-packed-requires : tie.Need-streams-packed-requires
-streams-packed-requires c κs = search needs
+streams-packed-requires c κs = tt
 
 number-requires : tie.Need-number-requires
-number-requires c κs = search needs
+number-requires c κs = tt
 
 same-length : tie.Need-same-length
 same-length c = search needs
