@@ -6,9 +6,9 @@ use mathlib.Core.List.{List, _++_, append-assoc}
 use Prim.Native.Nat.{ℕ, _+_, _-_, _*_, _≤_}
 use native.Mathlib.Omega.{arith}
 use lib.Dec.{eqb, ltb}
-use lib.ListN.{length, take, drop, length-append, length-drop}
+use lib.ListN.{length, take, drop, replicate, length-append, length-drop, length-replicate}
 use lib.Seq.{take-append-seam, drop-append-seam, drop-drop}
-use borrow.Author.Tests.{eqb-true, eq-eqb, ne-eqb}
+use borrow.Author.Tests.{eqb-true, eq-eqb}
 use Rattle.segmentation.specs.declared.Segments.{Segments}
 use Rattle.segmentation.specs.Sizes.{segmentsFor}
 use Rattle.slots.specs.declared.Head.{Head}
@@ -33,9 +33,9 @@ use Rattle.slots.specs.Circle.{streamsOn}
 use Rattle.slots.specs.Reading.{heardBlock, threeStreams}
 use Rattle.slots.specs.Calls.{sizeAtHead, readNumber, readOutcome, released, readOutput, streamsNumber, streamsOutcome, streamsOutput}
 use Rattle.slots.proofs.Acceptance.{reads, streams}
-use Rattle.answers.specs.Rows.{answerRow, refusalRow, runRow, runsRow}
+use Rattle.answers.specs.Rows.{answerRow, runRow, runsRow}
 use Rattle.call_rows.specs.Rooms.{readRoom, streamsRoom, buildRoom}
-use Rattle.call_rows.specs.Rows.{readRow, streamLength, streamRun, streamsRow, buildRow, buildDownRow}
+use Rattle.call_rows.specs.Rows.{readRow, streamLength, streamRun, streamsRow, builtRow, buildRow, buildDownRow}
 
 -- Read answers Done exactly where the block is released
 pub released-is : (state : State) (store : List ℕ) (slot terminal size : ℕ)
@@ -73,6 +73,10 @@ released-number : (state : State) (store : List ℕ) (slot terminal size : ℕ) 
 unfolding released readOutcome
 released-number state store slot terminal size e = done-number (readNumber state (length store) slot terminal size) state _ e
 
+-- a fresh room has its length
+pub fresh : {out : List ℕ} (n : ℕ) → out ≡ replicate n 0 → n ≡ length out
+fresh n e = sym (ap length e ∙ length-replicate n 0)
+
 -- a call that wrote h over the first n bytes of an output which kept its length
 pub front : (h out : List ℕ) {out′ : List ℕ} (n : ℕ) → n ≤ length out → out′ ≡ h ++ drop n out → length out′ ≡ length out → take n out′ ≡ h
 front h out n fits e kept = rw (e, ← long) (take-append-seam h (drop (length h) out))
@@ -91,20 +95,18 @@ module _ (a b c rest : List ℕ) {out : List ℕ} (n : ℕ) (one : length a ≡ 
   after-two : drop (n + n) out ≡ c ++ rest
   after-two = sym (drop-drop n n out) ∙ rw (after-one, ← two) (drop-append-seam b (c ++ rest))
 
-  pub first-run : take n out ≡ a
-  first-run = rw (by-one, ← one) (take-append-seam a (b ++ (c ++ rest)))
+  one-run : n + n - n ≡ n
+  one-run = omega arith
 
-  pub second-run : take (n + n - n) (drop n out) ≡ b
-  second-run = rw (after-one, take-eq) (rw (← two) (take-append-seam b (c ++ rest)))
-    where
-      take-eq : n + n - n ≡ n
-      take-eq = omega arith
+  last-run : n + n + n - (n + n) ≡ n
+  last-run = omega arith
 
-  pub third-run : take (n + n + n - (n + n)) (drop (n + n) out) ≡ c
-  third-run = rw (after-two, take-eq) (rw (← three) (take-append-seam c rest))
-    where
-      take-eq : n + n + n - (n + n) ≡ n
-      take-eq = omega arith
+  three-runs : (take n out ≡ a) × (take (n + n - n) (drop n out) ≡ b) × (take (n + n + n - (n + n)) (drop (n + n) out) ≡ c)
+  three-runs = (
+    rw (by-one, ← one) (take-append-seam a (b ++ (c ++ rest))),
+    rw (one-run, after-one, ← two) (take-append-seam b (c ++ rest)),
+    rw (last-run, after-two, ← three) (take-append-seam c rest),
+  )
 
 -- the block that a released read wrote
 pub read-run : (state : State) (store : List ℕ) (slot terminal : ℕ) (out : List ℕ) {out′ : List ℕ} → isDone (readOutcome state store slot terminal (length out) .answer) ≡ true
@@ -140,16 +142,7 @@ module _ (state : State) (store : List ℕ) (slot terminal r : ℕ) (out : List 
   pub stream-runs : (take (streamLength state slot r) out′ ≡ streamRun state store slot r 0)
       × (take (streamLength state slot r + streamLength state slot r - streamLength state slot r) (drop (streamLength state slot r) out′) ≡ streamRun state store slot r 1)
       × (take (streamLength state slot r + streamLength state slot r + streamLength state slot r - (streamLength state slot r + streamLength state slot r)) (drop (streamLength state slot r + streamLength state slot r) out′) ≡ streamRun state store slot r 2)
-  stream-runs =
-      let n = streamLength state slot r in
-      let a = streamRun state store slot r 0 in
-      let b = streamRun state store slot r 1 in
-      let c = streamRun state store slot r 2 in
-      let rest = drop (3 * n) out in (
-        first-run a b c rest n (run-length 0) (run-length 1) (run-length 2) written,
-        second-run a b c rest n (run-length 0) (run-length 1) (run-length 2) written,
-        third-run a b c rest n (run-length 0) (run-length 1) (run-length 2) written,
-      )
+  stream-runs = three-runs _ _ _ _ _ (run-length 0) (run-length 1) (run-length 2) written
 
   -- D by the head and the segmentation that the caller found
   pub stream-size : {head : Head} {s : Segments} {k : ℕ} → head ≡ headAt state slot → s ≡ segmentsFor (head .size) → k ≡ cond (ltb r (s .shorts)) (s .short) (s .long)
@@ -159,13 +152,6 @@ module _ (state : State) (store : List ℕ) (slot terminal r : ℕ) (out : List 
       let w = streams state (length store) slot terminal r (length out) accepted in
       let found = e ∙ ap (λ (x : Head). segmentsFor (x .size)) h in
       ap (λ (n : ℕ). n + 4) (k-is ∙ size-told (headAt state slot .size) r found (open-size state (w .sound) slot (w .below) (w .opened) .0))
-
--- the codeword that an accepted Build wrote
-pub build-run : (block : List ℕ) (g : Grant) (out : List ℕ) {out′ : List ℕ} → buildNumber block g (length out) ≡ 0
-    → out′ ≡ buildOutput block g out → length out′ ≡ length out → (g .bits ≤ length out) × (take (g .bits) out′ ≡ codeword block g)
-unfolding buildOutput
-build-run block g out taken e kept =
-    let fits = accepted-build block g (length out) taken .1 in (fits, front (codeword block g) out (g .bits) fits (rw (eq-eqb _ _ taken) at e) kept)
 
 -- ---- the rows
 
@@ -202,35 +188,29 @@ streams-row state store slot terminal r out room done wrote d-is =
     let runs = stream-runs state store slot terminal r out done wrote in
     rw (d-is, runs .0, runs .1, runs .2, room, streamed-is state (length store) slot terminal r (length out), done)
 
--- a refused Build's row
-pub build-refused : (block : List ℕ) (g : Grant) (out : List ℕ) {number : ℕ} → buildRoom ≡ length out → number ≡ buildNumber block g (length out)
-    → (number ≡ 0 → ⊥) → refusalRow number ≡ buildRow block g
-unfolding buildRow
-build-refused block g out room e h = rw (room, ← e, ne-eqb _ 0 h)
+-- the row of what a Build gave: an accepted one wrote the codeword X over the first g bytes of the room
+built : (number g : ℕ) (X out : List ℕ) {out′ : List ℕ} → (number ≡ 0 → (g ≤ length out) × (out′ ≡ X ++ drop g out)) → length out′ ≡ length out
+    → (number ≡ 0 → g ≤ length out′) × (builtRow number (take g out′) ≡ builtRow number X)
+unfolding builtRow
+built number g X out {out′} wrote kept = (λ (z : number ≡ 0). omega (arith, wrote z .0), go (eqb number 0) refl)
+  where
+    go : (t : Bool) → eqb number 0 ≡ t → builtRow number (take g out′) ≡ builtRow number X
+    go true e = let w = wrote (eqb-true number 0 e) in rw (front X out g (w .0) (w .1) kept)
+    go false e = rw e
 
--- a codeword's row
 pub build-row : (block : List ℕ) (g : Grant) (out : List ℕ) {out′ : List ℕ} {number : ℕ} → buildRoom ≡ length out → number ≡ buildNumber block g (length out)
-    → number ≡ 0 → out′ ≡ buildOutput block g out → length out′ ≡ length out → (g .bits ≤ length out) × (runRow (take (g .bits) out′) ≡ buildRow block g)
-unfolding buildRow
-build-row block g out room e z wrote kept =
-    let taken = sym e ∙ z in
-    let run = build-run block g out taken wrote kept in
-    (run .0, rw (run .1, room, eq-eqb _ _ taken))
+    → out′ ≡ buildOutput block g out → length out′ ≡ length out → (number ≡ 0 → g .bits ≤ length out′) × (builtRow number (take (g .bits) out′) ≡ buildRow block g)
+unfolding buildRow buildOutput
+build-row block g out {out′} {number} room e wrote kept =
+    let given : number ≡ 0 → (g .bits ≤ length out) × (out′ ≡ codeword block g ++ drop (g .bits) out) = λ z. let taken = sym e ∙ z in (accepted-build block g (length out) taken .1, rw (eq-eqb _ _ taken) at wrote) in
+    rw (room, ← e) (built number (g .bits) (codeword block g) out given kept)
 
--- Build for a downlink
-module _ (block : List ℕ) (release kMIMO processes Nsoft layers : ℕ) (g : Grant) (out : List ℕ) {number : ℕ} (room : buildRoom ≡ length out)
-    (e : number ≡ buildDownNumber block release kMIMO processes Nsoft layers g (length out)) where
-  -- a refused one's row
-  pub down-refused : (number ≡ 0 → ⊥) → refusalRow number ≡ buildDownRow block release kMIMO processes Nsoft layers g
-  unfolding buildDownRow
-  down-refused h = rw (room, ← e, ne-eqb _ 0 h)
-
-  -- a codeword's row
-  pub down-row : {out′ : List ℕ} → number ≡ 0 → out′ ≡ buildDownOutput block release kMIMO processes Nsoft layers g out → length out′ ≡ length out
-      → (g .bits ≤ length out) × (runRow (take (g .bits) out′) ≡ buildDownRow block release kMIMO processes Nsoft layers g)
-  unfolding buildDownRow buildDownOutput
-  down-row z wrote kept =
-      let taken = sym e ∙ z in
-      let fits = accepted-down block release kMIMO processes Nsoft layers g (length out) taken .1 in
-      let run = front (codewordIn (softShare (blocks (length block + 24)) release kMIMO processes Nsoft layers) block g) out (g .bits) fits (rw (eq-eqb _ _ taken) at wrote) kept in
-      (fits, rw (run, room, eq-eqb _ _ taken))
+-- for a downlink
+pub down-row : (block : List ℕ) (release kMIMO processes Nsoft layers : ℕ) (g : Grant) (out : List ℕ) {out′ : List ℕ} {number : ℕ} → buildRoom ≡ length out
+    → number ≡ buildDownNumber block release kMIMO processes Nsoft layers g (length out) → out′ ≡ buildDownOutput block release kMIMO processes Nsoft layers g out → length out′ ≡ length out
+    → (number ≡ 0 → g .bits ≤ length out′) × (builtRow number (take (g .bits) out′) ≡ buildDownRow block release kMIMO processes Nsoft layers g)
+unfolding buildDownRow buildDownOutput
+down-row block release kMIMO processes Nsoft layers g out {out′} {number} room e wrote kept =
+    let code = codewordIn (softShare (blocks (length block + 24)) release kMIMO processes Nsoft layers) block g in
+    let given : number ≡ 0 → (g .bits ≤ length out) × (out′ ≡ code ++ drop (g .bits) out) = λ z. let taken = sym e ∙ z in (accepted-down block release kMIMO processes Nsoft layers g (length out) taken .1, rw (eq-eqb _ _ taken) at wrote) in
+    rw (room, ← e) (built number (g .bits) code out given kept)

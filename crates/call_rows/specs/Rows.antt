@@ -55,16 +55,16 @@ streamsRow state store slot terminal r =
     (runsRow (streamRun state store slot r 0) (streamRun state store slot r 1) (streamRun state store slot r 2))
     (answerRow (streamsOutcome state (length store) slot terminal r streamsRoom .answer))
 
--- the codeword, or the refusal
-unfoldable pub buildRow : List ℕ → Grant → List ℕ
-buildRow block g =
-    cond (eqb (buildNumber block g buildRoom) 0)
-    (runRow (codeword block g))
-    (refusalRow (buildNumber block g buildRoom))
+-- a codeword, or the refusal with this number
+unfoldable pub builtRow : ℕ → List ℕ → List ℕ
+builtRow number code = cond (eqb number 0) (runRow code) (refusalRow number)
 
--- the codeword for a downlink, or the refusal
+unfoldable pub buildRow : List ℕ → Grant → List ℕ
+buildRow block g = builtRow (buildNumber block g buildRoom) (codeword block g)
+
+-- for a downlink
 unfoldable pub buildDownRow : List ℕ → ℕ → ℕ → ℕ → ℕ → ℕ → Grant → List ℕ
 buildDownRow block release kMIMO processes Nsoft layers g =
-    cond (eqb (buildDownNumber block release kMIMO processes Nsoft layers g buildRoom) 0)
-    (runRow (codewordIn (softShare (blocks (length block + 24)) release kMIMO processes Nsoft layers) block g))
-    (refusalRow (buildDownNumber block release kMIMO processes Nsoft layers g buildRoom))
+    builtRow
+    (buildDownNumber block release kMIMO processes Nsoft layers g buildRoom)
+    (codewordIn (softShare (blocks (length block + 24)) release kMIMO processes Nsoft layers) block g)

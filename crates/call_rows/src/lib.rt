@@ -1,35 +1,34 @@
-// The calls on rooms in either form, and the rows of those that give bits.
-pub mod rooms;
-
+// The rows of the calls that give bits: Read, Streams and Build.
 use codeword::Grant;
 use slot_calls::states;
 use slots::State;
 ghost use mathlib.Core.Path.{_≡_};
 ghost use Prim.Native.Nat.{_+_, _-_, _*_, _≤_};
-ghost use lib.ListN.{length, take, drop};
+ghost use lib.ListN.{length, take, drop, replicate};
 ghost use Rattle.codeword.specs.Shares.{grant};
 ghost use Rattle.packing.specs.Store.{placesIn};
 ghost use Rattle.lines.specs.Put.{putAt, endAt};
 ghost use Rattle.answers.specs.Rows.{runsRow};
-ghost use Rattle.call_rows.specs.Rows.{at, readRow, streamsRow, buildRow, buildDownRow};
+ghost use Rattle.call_rows.specs.Rooms.{readRoom, streamsRoom, buildRoom};
+ghost use Rattle.call_rows.specs.Rows.{at, readRow, streamsRow, builtRow, buildRow, buildDownRow};
 
 // Room for the largest block.
 fn block_room() -> [u8; 30576]
-    ensures { λ r. ⌜ 30576 ≡ length r ⌝ }
+    ensures { λ r. ⌜ r ≡ replicate readRoom 0 ⌝ }
 {
     [0; 30576]
 }
 
 // Room for the three streams of the largest code block.
 fn streams_room() -> [u8; 18444]
-    ensures { λ r. ⌜ 18444 ≡ length r ⌝ }
+    ensures { λ r. ⌜ r ≡ replicate streamsRoom 0 ⌝ }
 {
     [0; 18444]
 }
 
 // Room for the longest codeword.
 fn code_room() -> [u8; 172800]
-    ensures { λ r. ⌜ 172800 ≡ length r ⌝ }
+    ensures { λ r. ⌜ r ≡ replicate buildRoom 0 ⌝ }
 {
     [0; 172800]
 }
@@ -47,7 +46,7 @@ pub fn put_read(
     ensures { λ r. ⌜ now (out .exit) ≡ putAt 0 (readRow state (placesIn four (now (store .entry))) slot terminal) (now (out .entry)) ⌝ }
 {
     let mut block = block_room();
-    let outcome = rooms::read_in(state, four, slot, terminal, store, &mut block);
+    let outcome = room_calls::read_in(state, four, slot, terminal, store, &mut block);
     let answer = outcome.answer;
     if slot_calls::is_done(answer) {
         let head = states::head_at(state, slot);
@@ -72,7 +71,7 @@ pub fn put_streams(
     ensures { λ r. ⌜ now (out .exit) ≡ putAt 0 (streamsRow state (placesIn four (now (store .entry))) slot terminal block) (now (out .entry)) ⌝ }
 {
     let mut runs = streams_room();
-    let outcome = rooms::streams_in(state, four, slot, terminal, block, store, &mut runs);
+    let outcome = room_calls::streams_in(state, four, slot, terminal, block, store, &mut runs);
     let answer = outcome.answer;
     if slot_calls::is_done(answer) {
         let head = states::head_at(state, slot);
@@ -101,11 +100,7 @@ pub fn put_codeword(block: &[u8], grant: Grant, out: &mut [u8]) -> usize
 {
     let mut code = code_room();
     let number = build_calls::build(block, grant, &mut code);
-    if number != 0 {
-        return answers::put_refusal(number as usize, out);
-    }
-    let g = grant.bits;
-    answers::put_run(&code[..g], out)
+    put_built(number, &code, grant.bits, out)
 }
 
 // The row of Build for a downlink.
@@ -121,9 +116,17 @@ pub fn put_codeword_down(block: &[u8], n: [usize; 9], out: &mut [u8]) -> usize
         bits: n[8],
     };
     let number = build_calls::build_down(block, n[0], n[1], n[2], n[3], n[4], grant, &mut code);
+    put_built(number, &code, grant.bits, out)
+}
+
+// The row of what a Build gave: the codeword, or the refusal.
+fn put_built(number: u8, code: &[u8], g: usize, out: &mut [u8]) -> usize
+    requires { ⌜ (number ≡ 0 → g ≤ length (now code)) ⌝ }
+    ensures { λ r. ⌜ r ≡ endAt 0 (builtRow number (take g (now (code .entry)))) (now (out .entry)) ⌝ }
+    ensures { λ r. ⌜ now (out .exit) ≡ putAt 0 (builtRow number (take g (now (code .entry)))) (now (out .entry)) ⌝ }
+{
     if number != 0 {
         return answers::put_refusal(number as usize, out);
     }
-    let g = grant.bits;
     answers::put_run(&code[..g], out)
 }

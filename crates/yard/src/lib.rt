@@ -131,7 +131,7 @@ fn call_line(
     match verb {
         Verb::New => told(slot_calls::new(n[0], n[1]), four, out),
         Verb::Open => told(
-            call_rows::rooms::open_in(state, four, n[0], n[1] as u16, n[2], store),
+            room_calls::open_in(state, four, n[0], n[1] as u16, n[2], store),
             four,
             out,
         ),
@@ -226,7 +226,7 @@ fn opened_down(state: State, four: bool, n: [usize; 9], store: &mut [u8]) -> Out
     ensures { λ r. ⌜ now (store .exit) ≡ inForm four (openDownStore state (at n 0) (at n 2) (at n 3) (at n 4) (at n 5) (at n 6) (at n 7) (placesIn four (now (store .entry)))) ⌝ }
 {
     let terminal = n[1] as u16;
-    call_rows::rooms::open_down_in(
+    room_calls::open_down_in(
         state,
         four,
         n[0],
@@ -257,7 +257,7 @@ fn received(
     let mut given = bits_room();
     let count = requests::read_bits(line, from, &mut given);
     let terminal = n[1] as u16;
-    call_rows::rooms::receive_in(
+    room_calls::receive_in(
         state,
         four,
         n[0],

@@ -1,12 +1,16 @@
--- `call_rows::put_codeword` meets its contract: the number decides.
+-- `call_rows::put_codeword` meets its contract: the row of what Build gave.
 -- Assumes nothing.
-use native.Mathlib.Omega.{arith}
-use denote.Ref.{now}
-use Rattle.laws.proofs.Parts.{front-count}
-use Rattle.call_rows.proofs.Wrote.{build-refused, build-row}
+use Rattle.call_rows.proofs.Wrote.{fresh, build-row}
 use borrow.Author.Needs.{needs}
 use Rattle.call_rows.proofs.put_codeword.Statement.{statement}
 use Rattle.call_rows.proofs.put_codeword.Tie as tie
+
+-- the ways back
+abbrev at-build : tie.After-put-built-arg → tie.After-build
+at-build c = c .before .before .before
+
+abbrev at-code-room : tie.After-build → tie.After-code-room
+at-code-room c = c .before .before
 
 code-room-requires : tie.Need-code-room-requires
 code-room-requires c κs = search needs
@@ -17,38 +21,20 @@ slice-aggregate-build c = search needs
 build-requires : tie.Need-build-requires
 build-requires c κs = search needs
 
-cast-put-refusal : tie.Need-cast-put-refusal
-cast-put-refusal c = search needs
+slice-aggregate-put-built : tie.Need-slice-aggregate-put-built
+slice-aggregate-put-built c = search needs
 
-put-refusal-requires : tie.Need-put-refusal-requires
-put-refusal-requires c κs = search needs
+put-built-requires : tie.Need-put-built-requires
+put-built-requires c κs = build-row _ _ _ (fresh _ (at-code-room (at-build c) .code-room .ensures)) (at-build c .build .ensures .0) (at-build c .build .ensures .1) (at-build c .build .kept .1 .1 .0) .0
 
 same-length : tie.Need-same-length
 same-length c = search needs
 
 returns : tie.Need-returns
 returns c =
-    let args = c .before .before .before .before .before .before .before .before .before .before .before .args in
-    rw (build-refused (now (args .block)) (args .grant) (c .before .before .before .before .before .before .before .before .code-room .result) (c .before .before .before .before .before .before .before .before .code-room .ensures) (c .before .before .before .before .before .before .build .ensures .0) (c .before .before .before .before .if1 .taken)) at (c .before .before .put-refusal .ensures)
-
-array-share-prefix-code : tie.Need-array-share-prefix-code
-array-share-prefix-code c =
-    let made = c .before .before .build in
-    omega (arith, build-row _ _ _ (c .before .before .before .before .code-room .ensures) (made .ensures .0) (c .if1 .left) (made .ensures .1) (made .kept .1 .1 .0) .0, made .kept .1 .1 .0)
-
-slice-aggregate-put-run : tie.Need-slice-aggregate-put-run
-slice-aggregate-put-run c = front-count _ _ (array-share-prefix-code (c .before))
-
-put-run-requires : tie.Need-put-run-requires
-put-run-requires c κs = search needs
-
-same-length-2 : tie.Need-same-length-2
-same-length-2 c = search needs
-
-returns-2 : tie.Need-returns-2
-returns-2 c =
-    let made = c .before .before .before .before .before .before .before .build in
-    rw (build-row _ _ _ (c .before .before .before .before .before .before .before .before .before .code-room .ensures) (made .ensures .0) (c .before .before .before .before .before .if1 .left) (made .ensures .1) (made .kept .1 .1 .0) .1) at (c .before .before .put-run .ensures)
+    let put-built = c .before .before in
+    let given = put-built .before in
+    rw (build-row _ _ _ (fresh _ (at-code-room (at-build given) .code-room .ensures)) (at-build given .build .ensures .0) (at-build given .build .ensures .1) (at-build given .build .kept .1 .1 .0) .1) at (put-built .put-built .ensures)
 
 pub put-codeword-spec : {M : Type 1} → statement M
 put-codeword-spec =
@@ -57,12 +43,7 @@ put-codeword-spec =
     code-room-requires
     slice-aggregate-build
     build-requires
-    cast-put-refusal
-    put-refusal-requires
+    slice-aggregate-put-built
+    put-built-requires
     same-length
-    returns
-    array-share-prefix-code
-    slice-aggregate-put-run
-    put-run-requires
-    same-length-2
-    returns-2)
+    returns)

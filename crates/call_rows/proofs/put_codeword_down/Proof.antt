@@ -1,12 +1,16 @@
--- `call_rows::put_codeword_down` meets its contract: the number decides.
+-- `call_rows::put_codeword_down` meets its contract: the row of what Build gave.
 -- Assumes nothing.
-use native.Mathlib.Omega.{arith}
-use denote.Ref.{now}
-use Rattle.laws.proofs.Parts.{front-count}
-use Rattle.call_rows.proofs.Wrote.{down-refused, down-row}
+use Rattle.call_rows.proofs.Wrote.{fresh, down-row}
 use borrow.Author.Needs.{needs}
 use Rattle.call_rows.proofs.put_codeword_down.Statement.{statement}
 use Rattle.call_rows.proofs.put_codeword_down.Tie as tie
+
+-- the ways back
+abbrev at-build-down : tie.After-put-built-arg → tie.After-build-down
+at-build-down c = c .before .before .before
+
+abbrev at-code-room : tie.After-build-down → tie.After-code-room
+at-code-room c = c .before .before
 
 code-room-requires : tie.Need-code-room-requires
 code-room-requires c κs = search needs
@@ -44,38 +48,20 @@ slice-aggregate-build-down c = search needs
 build-down-requires : tie.Need-build-down-requires
 build-down-requires c κs = search needs
 
-cast-put-refusal : tie.Need-cast-put-refusal
-cast-put-refusal c = search needs
+slice-aggregate-put-built : tie.Need-slice-aggregate-put-built
+slice-aggregate-put-built c = search needs
 
-put-refusal-requires : tie.Need-put-refusal-requires
-put-refusal-requires c κs = search needs
+put-built-requires : tie.Need-put-built-requires
+put-built-requires c κs = down-row _ _ _ _ _ _ _ _ (fresh _ (at-code-room (at-build-down c) .code-room .ensures)) (at-build-down c .build-down .ensures .0) (at-build-down c .build-down .ensures .1) (at-build-down c .build-down .kept .1 .1 .1 .1 .1 .1 .1 .0) .0
 
 same-length : tie.Need-same-length
 same-length c = search needs
 
 returns : tie.Need-returns
 returns c =
-    let args = c .before .before .before .before .before .before .before .before .before .before .before .args in
-    rw (down-refused (now (args .block)) _ _ _ _ _ _ (c .before .before .before .before .before .before .before .before .code-room .result) (c .before .before .before .before .before .before .before .before .code-room .ensures) (c .before .before .before .before .before .before .build-down .ensures .0) (c .before .before .before .before .if1 .taken)) at (c .before .before .put-refusal .ensures)
-
-array-share-prefix-code : tie.Need-array-share-prefix-code
-array-share-prefix-code c =
-    let made = c .before .before .build-down in
-    omega (arith, down-row _ _ _ _ _ _ _ _ (c .before .before .before .before .code-room .ensures) (made .ensures .0) (c .if1 .left) (made .ensures .1) (made .kept .1 .1 .1 .1 .1 .1 .1 .0) .0, made .kept .1 .1 .1 .1 .1 .1 .1 .0)
-
-slice-aggregate-put-run : tie.Need-slice-aggregate-put-run
-slice-aggregate-put-run c = front-count _ _ (array-share-prefix-code (c .before))
-
-put-run-requires : tie.Need-put-run-requires
-put-run-requires c κs = search needs
-
-same-length-2 : tie.Need-same-length-2
-same-length-2 c = search needs
-
-returns-2 : tie.Need-returns-2
-returns-2 c =
-    let made = c .before .before .before .before .before .before .before .build-down in
-    rw (down-row _ _ _ _ _ _ _ _ (c .before .before .before .before .before .before .before .before .before .code-room .ensures) (made .ensures .0) (c .before .before .before .before .before .if1 .left) (made .ensures .1) (made .kept .1 .1 .1 .1 .1 .1 .1 .0) .1) at (c .before .before .put-run .ensures)
+    let put-built = c .before .before in
+    let given = put-built .before in
+    rw (down-row _ _ _ _ _ _ _ _ (fresh _ (at-code-room (at-build-down given) .code-room .ensures)) (at-build-down given .build-down .ensures .0) (at-build-down given .build-down .ensures .1) (at-build-down given .build-down .kept .1 .1 .1 .1 .1 .1 .1 .0) .1) at (put-built .put-built .ensures)
 
 pub put-codeword-down-spec : {M : Type 1} → statement M
 put-codeword-down-spec =
@@ -93,12 +79,7 @@ put-codeword-down-spec =
     array-read-build-down-9
     slice-aggregate-build-down
     build-down-requires
-    cast-put-refusal
-    put-refusal-requires
+    slice-aggregate-put-built
+    put-built-requires
     same-length
-    returns
-    array-share-prefix-code
-    slice-aggregate-put-run
-    put-run-requires
-    same-length-2
-    returns-2)
+    returns)

@@ -1,7 +1,7 @@
 -- `call_rows::put_read` meets its contract: the answer decides.
 -- Assumes nothing.
 use mathlib.Core.Path.{_≡_, sym, _∙_, ap}
-use Prim.Native.Nat.{_≤_}
+use Prim.Native.Nat.{ℕ, _≤_}
 use native.Mathlib.Omega.{arith}
 use lib.ListN.{length, take}
 use denote.Ref.{now}
@@ -11,7 +11,7 @@ use Rattle.slots.specs.Calls.{sizeAtHead}
 use Rattle.packing.specs.Store.{placesIn}
 use Rattle.answers.specs.Rows.{runRow}
 use Rattle.call_rows.specs.Rows.{readRow}
-use Rattle.call_rows.proofs.Wrote.{read-refused, read-row}
+use Rattle.call_rows.proofs.Wrote.{fresh, read-refused, read-row}
 use borrow.Author.Needs.{needs}
 use Rattle.call_rows.proofs.put_read.Statement.{statement}
 use Rattle.call_rows.proofs.put_read.Tie as tie
@@ -25,6 +25,9 @@ at-block-room c = c .before .before
 
 abbrev at-read-in : tie.After-is-done → tie.After-read-in
 at-read-in c = c .before .before
+
+abbrev at-then1 : tie.After-head-at → tie.Then1
+at-then1 c = c .before
 
 abbrev at-head-at : tie.After-block3 → tie.After-head-at
 at-head-at c = c .before
@@ -45,16 +48,16 @@ head-at-requires : tie.Need-head-at-requires
 head-at-requires c κs = search needs
 
 -- the block that was read stands in the room
-given : (c : tie.After-head-at) → let args = at-start (at-block-room (at-read-in (c .before .before))) .args in let out = at-read-in (c .before .before) .read-in .last .1 .1 .1 .1 .1 .0 in
+given : (c : tie.After-head-at) → let args = at-start (at-block-room (at-read-in (at-then1 c .before))) .args in let out = at-read-in (at-then1 c .before) .read-in .last .1 .1 .1 .1 .1 .0 in
     (c .head-at .result .size ≤ length out) × (runRow (take (c .head-at .result .size) out) ≡ readRow (args .state) (placesIn (args .four) (now (args .store))) (args .slot) (args .terminal))
 unfolding sizeAtHead
 given c =
-    let then1 = c .before in
+    let then1 = at-then1 c in
     let made = at-read-in (then1 .before) .read-in in
     let kept = made .kept .1 .1 .1 .1 .1 .0 in
-    let row = read-row _ _ _ _ _ (at-block-room (at-read-in (then1 .before)) .block-room .ensures) (made .ensures .0) (sym (then1 .before .is-done .ensures) ∙ then1 .if1 .taken) (made .ensures .1) kept in
+    let row = read-row _ _ _ _ _ (fresh _ (at-block-room (at-read-in (then1 .before)) .block-room .ensures)) (made .ensures .0) (sym (then1 .before .is-done .ensures) ∙ then1 .if1 .taken) (made .ensures .1) kept in
     let size = ap (λ (h : Head). h .size) (c .head-at .ensures) in
-    rw size (omega (arith, row .0, kept), row .1)
+    (omega (arith, row .0, kept, size), ap (λ (n : ℕ). runRow (take n (made .last .1 .1 .1 .1 .1 .0))) size ∙ row .1)
 
 array-share-prefix-block : tie.Need-array-share-prefix-block
 array-share-prefix-block c = omega (arith, given c .0)
@@ -72,7 +75,9 @@ same-length : tie.Need-same-length
 same-length c = search needs
 
 returns : tie.Need-returns
-returns c = rw (given (at-head-at (c .before .before .before .before)) .1) at (c .before .before .put-run .ensures)
+returns c =
+    let put-run = c .before .before in
+    rw (given (at-head-at (put-run .before .before)) .1) at (put-run .put-run .ensures)
 
 same-length-2 : tie.Need-same-length-2
 same-length-2 c = search needs
@@ -82,7 +87,7 @@ returns-2 c =
     let put-answer = c .before .before in
     let else1 = put-answer .before .before in
     let args = at-start (at-block-room (at-read-in (else1 .before))) .args in
-    rw (read-refused (args .state) (placesIn (args .four) (now (args .store))) (args .slot) (args .terminal) (at-block-room (at-read-in (else1 .before)) .block-room .result) (at-block-room (at-read-in (else1 .before)) .block-room .ensures) (at-read-in (else1 .before) .read-in .ensures .0) (sym (else1 .before .is-done .ensures) ∙ else1 .if1 .left)) at (put-answer .put-answer .ensures)
+    rw (read-refused (args .state) (placesIn (args .four) (now (args .store))) (args .slot) (args .terminal) (at-block-room (at-read-in (else1 .before)) .block-room .result) (fresh _ (at-block-room (at-read-in (else1 .before)) .block-room .ensures)) (at-read-in (else1 .before) .read-in .ensures .0) (sym (else1 .before .is-done .ensures) ∙ else1 .if1 .left)) at (put-answer .put-answer .ensures)
 
 pub put-read-spec : {M : Type 1} → statement M
 put-read-spec =

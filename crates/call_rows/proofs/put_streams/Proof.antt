@@ -10,8 +10,9 @@ use Rattle.slots.specs.declared.Outcome.{Outcome}
 use Rattle.slots.specs.Calls.{streamsOutcome}
 use Rattle.slots.specs.Answers.{isDone}
 use Rattle.packing.specs.Store.{placesIn}
+use Rattle.call_rows.specs.Rooms.{streamsRoom}
 use Rattle.call_rows.specs.Rows.{streamLength}
-use Rattle.call_rows.proofs.Wrote.{runs-fit, stream-size, streams-refused, streams-row}
+use Rattle.call_rows.proofs.Wrote.{fresh, runs-fit, stream-size, streams-refused, streams-row}
 use borrow.Author.Needs.{needs}
 use Rattle.call_rows.proofs.put_streams.Statement.{statement}
 use Rattle.call_rows.proofs.put_streams.Tie as tie
@@ -76,7 +77,7 @@ fit : (c : tie.After-size-of) → let args = at-start (at-streams-room (at-strea
 fit c = runs-fit _ _ _ _ _ _ (done c) (at-streams-in (at-then1 (at-head-at (at-segments-for c)) .before) .streams-in .ensures .1)
 
 add-put-three : tie.Need-add-put-three
-add-put-three c = omega (arith, size c, fit c, at-streams-in (at-then1 (at-head-at (at-segments-for c)) .before) .streams-in .kept .1 .1 .1 .1 .1 .1 .0, at-streams-room (at-streams-in (at-then1 (at-head-at (at-segments-for c)) .before)) .streams-room .ensures)
+add-put-three c = omega (arith, size c, fit c, at-streams-in (at-then1 (at-head-at (at-segments-for c)) .before) .streams-in .kept .1 .1 .1 .1 .1 .1 .0, fresh streamsRoom (at-streams-room (at-streams-in (at-then1 (at-head-at (at-segments-for c)) .before)) .streams-room .ensures))
 
 put-three-requires : tie.Need-put-three-requires
 put-three-requires c κs = omega (arith, size (at-size-of c), fit (at-size-of c), at-streams-in (at-then1 (at-head-at (at-segments-for (at-size-of c))) .before) .streams-in .kept .1 .1 .1 .1 .1 .1 .0)
@@ -91,7 +92,7 @@ returns : tie.Need-returns
 returns c =
     let put-three = c .before .before in
     let s = at-size-of (put-three .before) in
-    rw (streams-row _ _ _ _ _ _ (at-streams-room (at-streams-in (at-then1 (at-head-at (at-segments-for s)) .before)) .streams-room .ensures) (done s) (at-streams-in (at-then1 (at-head-at (at-segments-for s)) .before) .streams-in .ensures .1) (size s)) at (put-three .put-three .ensures)
+    rw (streams-row _ _ _ _ _ _ (fresh _ (at-streams-room (at-streams-in (at-then1 (at-head-at (at-segments-for s)) .before)) .streams-room .ensures)) (done s) (at-streams-in (at-then1 (at-head-at (at-segments-for s)) .before) .streams-in .ensures .1) (size s)) at (put-three .put-three .ensures)
 
 same-length-2 : tie.Need-same-length-2
 same-length-2 c = search needs
@@ -101,7 +102,7 @@ returns-2 c =
     let put-answer = c .before .before in
     let else1 = put-answer .before .before in
     let args = at-start (at-streams-room (at-streams-in (else1 .before))) .args in
-    rw (streams-refused (args .state) (placesIn (args .four) (now (args .store))) (args .slot) (args .terminal) (args .block) (at-streams-room (at-streams-in (else1 .before)) .streams-room .result) (at-streams-room (at-streams-in (else1 .before)) .streams-room .ensures) (at-streams-in (else1 .before) .streams-in .ensures .0) (sym (else1 .before .is-done .ensures) ∙ else1 .if1 .left)) at (put-answer .put-answer .ensures)
+    rw (streams-refused (args .state) (placesIn (args .four) (now (args .store))) (args .slot) (args .terminal) (args .block) (at-streams-room (at-streams-in (else1 .before)) .streams-room .result) (fresh _ (at-streams-room (at-streams-in (else1 .before)) .streams-room .ensures)) (at-streams-in (else1 .before) .streams-in .ensures .0) (sym (else1 .before .is-done .ensures) ∙ else1 .if1 .left)) at (put-answer .put-answer .ensures)
 
 pub put-streams-spec : {M : Type 1} → statement M
 put-streams-spec =

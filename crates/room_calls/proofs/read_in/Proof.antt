@@ -1,9 +1,9 @@
--- `call_rows::rooms::read_in` meets its contract: the call of each form.
+-- `room_calls::read_in` meets its contract: the call of each form.
 -- Assumes nothing.
 use borrow.Author.Needs.{needs}
 use Rattle.packing.specs.Store.{placesIn}
-use Rattle.call_rows.proofs.rooms.read_in.Statement.{statement}
-use Rattle.call_rows.proofs.rooms.read_in.Tie as tie
+use Rattle.room_calls.proofs.read_in.Statement.{statement}
+use Rattle.room_calls.proofs.read_in.Tie as tie
 
 read-packed-requires : tie.Need-read-packed-requires
 read-packed-requires c κs = search needs

@@ -1,9 +1,9 @@
--- `call_rows::rooms::streams_in` meets its contract: the call of each form.
+-- `room_calls::streams_in` meets its contract: the call of each form.
 -- Assumes nothing.
 use borrow.Author.Needs.{needs}
 use Rattle.packing.specs.Store.{placesIn}
-use Rattle.call_rows.proofs.rooms.streams_in.Statement.{statement}
-use Rattle.call_rows.proofs.rooms.streams_in.Tie as tie
+use Rattle.room_calls.proofs.streams_in.Statement.{statement}
+use Rattle.room_calls.proofs.streams_in.Tie as tie
 
 streams-packed-requires : tie.Need-streams-packed-requires
 streams-packed-requires c κs = search needs

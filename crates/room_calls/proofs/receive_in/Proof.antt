@@ -1,9 +1,9 @@
--- `call_rows::rooms::receive_in` meets its contract: the call of each form.
+-- `room_calls::receive_in` meets its contract: the call of each form.
 -- Assumes nothing.
 use borrow.Author.Needs.{needs}
 use Rattle.packing.specs.Store.{placesIn, inForm}
-use Rattle.call_rows.proofs.rooms.receive_in.Statement.{statement}
-use Rattle.call_rows.proofs.rooms.receive_in.Tie as tie
+use Rattle.room_calls.proofs.receive_in.Statement.{statement}
+use Rattle.room_calls.proofs.receive_in.Tie as tie
 
 receive-packed-requires : tie.Need-receive-packed-requires
 receive-packed-requires c κs = search needs
