@@ -10,7 +10,7 @@ use Rattle.rate_matching.specs.SubBlocks.{rows}
 use Rattle.rate_matching.specs.Circle.{circleLength, cutAt, startIn}
 use Rattle.rate_matching.specs.Walk.{turn}
 use Rattle.rate_matching.specs.Shape.{shape}
-use Rattle.rate_matching.specs.Matcher.{matchable}
+use Rattle.rate_matching.specs.Turns.{matchable}
 use Rattle.slots.specs.Putting.{putAlong}
 use Rattle.slots.specs.Room.{agreeing}
 
