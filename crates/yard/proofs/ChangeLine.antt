@@ -1,6 +1,6 @@
 -- Laws of a line that changes the form (`changeStep`): from what the calls gave to what the definitions say, refused and accepted.
 -- Assumes nothing.
-use mathlib.Core.Path.{_≡_, _∙_}
+use mathlib.Core.Path.{_≡_}
 use mathlib.Core.Bool.{Bool}
 use mathlib.Core.List.{List}
 use Prim.Native.Nat.{ℕ}
@@ -14,7 +14,6 @@ use Rattle.yard.specs.declared.Step.{Step}
 use Rattle.yard.specs.Change.{changeRow, formAfter}
 use Rattle.form_changes.specs.Change.{formNumber, plainChanged, packedChanged}
 use Rattle.yard.specs.Step.{changeStep}
-use Rattle.yard.proofs.Steps.{same-step}
 
 module _ (state : State) (four to : Bool) (plain packed out : List ℕ) {number : ℕ} (e : number ≡ formNumber state (length plain) (length packed)) where
   -- the step, both stores and the output
@@ -25,17 +24,13 @@ module _ (state : State) (four to : Bool) (plain packed out : List ℕ) {number 
       × ((packed′ ≡ packedChanged state four to plain packed) × (out′ ≡ putAt 0 (changeRow state (length plain) (length packed)) out)))
 
   module _ (plain′ packed′ : List ℕ) (p : plain′ ≡ plainChanged state four to plain packed) (q : packed′ ≡ packedChanged state four to plain packed)
-      (step : Step) (out′ : List ℕ) {written : ℕ} where
-    pub change-refused : (number ≡ 0 → ⊥) → (step .state ≡ state) × (step .four ≡ four) × (step .written ≡ written)
-        → (written ≡ endAt 0 (refusalRow number) out) × (out′ ≡ putAt 0 (refusalRow number) out) → Told step plain′ packed′ out′
+      (out′ : List ℕ) {written : ℕ} where
+    pub change-refused : (number ≡ 0 → ⊥) → (written ≡ endAt 0 (refusalRow number) out) × (out′ ≡ putAt 0 (refusalRow number) out)
+        → Told (record { state = state; four = four; written = written }) plain′ packed′ out′
     unfolding changeStep changeRow formAfter
-    change-refused h made put =
-        let no = ne-eqb number 0 h in
-        (rw (← e, no) (same-step (made .0) (made .1) (made .2 ∙ put .0)), (p, (q, rw (← e, no) (put .1))))
+    change-refused h put = let no = ne-eqb number 0 h in (rw (← e, no, put .0), (p, (q, rw (← e, no) (put .1))))
 
-    pub change-accepted : number ≡ 0 → (step .state ≡ state) × (step .four ≡ to) × (step .written ≡ written)
-        → (written ≡ endAt 0 (answerRow Done) out) × (out′ ≡ putAt 0 (answerRow Done) out) → Told step plain′ packed′ out′
+    pub change-accepted : number ≡ 0 → (written ≡ endAt 0 (answerRow Done) out) × (out′ ≡ putAt 0 (answerRow Done) out)
+        → Told (record { state = state; four = to; written = written }) plain′ packed′ out′
     unfolding changeStep changeRow formAfter
-    change-accepted z made put =
-        let yes = eq-eqb number 0 z in
-        (rw (← e, yes) (same-step (made .0) (made .1) (made .2 ∙ put .0)), (p, (q, rw (← e, yes) (put .1))))
+    change-accepted z put = let yes = eq-eqb number 0 z in (rw (← e, yes, put .0), (p, (q, rw (← e, yes) (put .1))))

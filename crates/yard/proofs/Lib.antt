@@ -1,4 +1,4 @@
-pub mod Given
-pub mod Steps
-pub mod ChangeLine
+mod Given
+mod Calls
+mod ChangeLine
 pub mod Lines

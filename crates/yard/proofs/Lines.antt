@@ -13,12 +13,13 @@ use Rattle.lines.specs.Put.{putAt, endAt}
 use Rattle.lines.proofs.Putting.{end-within}
 use Rattle.requests.specs.declared.Request.{Request}
 use Rattle.requests.specs.Request.{requestOf}
+use Rattle.yard.specs.declared.Change.{Change}
 use Rattle.yard.specs.declared.Step.{Step}
-use Rattle.yard.specs.Change.{changes, packs, changeRow}
+use Rattle.yard.specs.Change.{changeOf, changeRow}
 use Rattle.form_changes.specs.Change.{plainChanged, packedChanged}
-use Rattle.yard.specs.Step.{callRow, callStep, callStore, rowOfLine, changeStep, stepOf, plainAfter, packedAfter, outAfter, longestRow, stepWithin, plainWithin, packedWithin, outWithin}
+use Rattle.yard.specs.Step.{stepMade, callRow, callStep, callStore, rowOfLine, changeStep, stepOf, plainAfter, packedAfter, outAfter, longestRow, stepWithin, plainWithin, packedWithin, outWithin}
 
-module _ (state : State) (four : Bool) (plain packed line out : List ℕ) {request : Request} (read : request ≡ requestOf line) where
+module _ (state : State) (four : Bool) (plain packed line out : List ℕ) {request : Request} (read : request ≡ requestOf line) {change : Change} (asks : change ≡ changeOf (request .verb)) where
   -- the step, both stores and the output
   abbrev Told : Step → List ℕ → List ℕ → List ℕ → Type 0
   Told step plain′ packed′ out′ =
@@ -29,33 +30,33 @@ module _ (state : State) (four : Bool) (plain packed line out : List ℕ) {reque
   verb-is : requestOf line .verb ≡ request .verb
   verb-is = ap (λ (r : Request). r .verb) (sym read)
 
-  pub by-change : {to : Bool} → changes (request .verb) ≡ true → to ≡ packs (request .verb) → (step : Step) (plain′ packed′ out′ : List ℕ)
-      → (step ≡ changeStep state four to (length plain) (length packed) out)
-      × ((plain′ ≡ plainChanged state four to plain packed)
-      × ((packed′ ≡ packedChanged state four to plain packed) × (out′ ≡ putAt 0 (changeRow state (length plain) (length packed)) out)))
+  pub by-change : change .changes ≡ true → (step : Step) (plain′ packed′ out′ : List ℕ)
+      → (step ≡ changeStep state four (change .packs) (length plain) (length packed) out)
+      × ((plain′ ≡ plainChanged state four (change .packs) plain packed)
+      × ((packed′ ≡ packedChanged state four (change .packs) plain packed) × (out′ ≡ putAt 0 (changeRow state (length plain) (length packed)) out)))
       → Told step plain′ packed′ out′
   unfolding stepOf plainAfter packedAfter outAfter rowOfLine
-  by-change does p step plain′ packed′ out′ made = rw (verb-is, does, ← p) made
+  by-change does step plain′ packed′ out′ made = rw (verb-is, ← asks, does) made
 
-  pub by-packed-call : changes (request .verb) ≡ false → four ≡ true → (step : Step) (packed′ out′ : List ℕ)
+  pub by-packed-call : change .changes ≡ false → four ≡ true → (step : Step) (packed′ out′ : List ℕ)
       → (step ≡ callStep state true packed line out) × ((packed′ ≡ callStore state true packed line) × (out′ ≡ putAt 0 (callRow state true packed line) out))
       → Told step plain packed′ out′
   unfolding stepOf plainAfter packedAfter outAfter rowOfLine
-  by-packed-call none f step packed′ out′ made = rw (verb-is, none, f) (made .0, (refl, (made .1 .0, made .1 .1)))
+  by-packed-call none f step packed′ out′ made = rw (verb-is, ← asks, none, f) (made .0, (refl, (made .1 .0, made .1 .1)))
 
-  pub by-plain-call : changes (request .verb) ≡ false → four ≡ false → (step : Step) (plain′ out′ : List ℕ)
+  pub by-plain-call : change .changes ≡ false → four ≡ false → (step : Step) (plain′ out′ : List ℕ)
       → (step ≡ callStep state false plain line out) × ((plain′ ≡ callStore state false plain line) × (out′ ≡ putAt 0 (callRow state false plain line) out))
       → Told step plain′ packed out′
   unfolding stepOf plainAfter packedAfter outAfter rowOfLine
-  by-plain-call none f step plain′ out′ made = rw (verb-is, none, f) (made .0, (made .1 .0, (refl, made .1 .1)))
+  by-plain-call none f step plain′ out′ made = rw (verb-is, ← asks, none, f) (made .0, (made .1 .0, (refl, made .1 .1)))
 
 -- the length that a step tells is that of its row
 pub step-row : (state : State) (four : Bool) (plain packed line out : List ℕ)
     → stepOf state four plain packed line out .written ≡ endAt 0 (rowOfLine state four plain packed line) out
-unfolding stepOf rowOfLine changeStep callStep
-step-row state four plain packed line out = go (changes (requestOf line .verb)) refl
+unfolding stepOf rowOfLine changeStep callStep callRow stepMade
+step-row state four plain packed line out = go (changeOf (requestOf line .verb) .changes) refl
   where
-    go : (t : Bool) → changes (requestOf line .verb) ≡ t → stepOf state four plain packed line out .written ≡ endAt 0 (rowOfLine state four plain packed line) out
+    go : (t : Bool) → changeOf (requestOf line .verb) .changes ≡ t → stepOf state four plain packed line out .written ≡ endAt 0 (rowOfLine state four plain packed line) out
     go true e = simp e
     go false e = simp e
 

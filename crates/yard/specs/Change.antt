@@ -10,42 +10,29 @@ use Rattle.requests.specs.declared.Verb.{Verb}
 use Rattle.requests.specs.declared.Verb.the-variants.{New, Open, OpenDown, Close, Receive, Read, Streams, Build, BuildDown, Sizes, Worst, Pack, Unpack, Nothing, Unreadable}
 use Rattle.answers.specs.Rows.{answerRow, refusalRow}
 use Rattle.form_changes.specs.Change.{formNumber}
+use Rattle.yard.specs.declared.Change.{Change}
 
--- `pack` asks for the packed form
-unfoldable pub packs : Verb → Bool
-packs New = false
-packs Open = false
-packs OpenDown = false
-packs Close = false
-packs Receive = false
-packs Read = false
-packs Streams = false
-packs Build = false
-packs BuildDown = false
-packs Sizes = false
-packs Worst = false
-packs Pack = true
-packs Unpack = false
-packs Nothing = false
-packs Unreadable = false
+-- a line that leaves the form as it is
+abbrev pub noChange : Change
+noChange = record { changes = false; packs = false }
 
--- `pack` and `unpack` change the form
-unfoldable pub changes : Verb → Bool
-changes New = false
-changes Open = false
-changes OpenDown = false
-changes Close = false
-changes Receive = false
-changes Read = false
-changes Streams = false
-changes Build = false
-changes BuildDown = false
-changes Sizes = false
-changes Worst = false
-changes Pack = true
-changes Unpack = true
-changes Nothing = false
-changes Unreadable = false
+-- `pack` asks for the packed form, `unpack` for the plain one
+unfoldable pub changeOf : Verb → Change
+changeOf New = noChange
+changeOf Open = noChange
+changeOf OpenDown = noChange
+changeOf Close = noChange
+changeOf Receive = noChange
+changeOf Read = noChange
+changeOf Streams = noChange
+changeOf Build = noChange
+changeOf BuildDown = noChange
+changeOf Sizes = noChange
+changeOf Worst = noChange
+changeOf Pack = record { changes = true; packs = true }
+changeOf Unpack = record { changes = true; packs = false }
+changeOf Nothing = noChange
+changeOf Unreadable = noChange
 
 unfoldable pub changeRow : State → ℕ → ℕ → List ℕ
 changeRow state plain packed =

@@ -1,26 +1,16 @@
 // A line of the yard's log made one call of 01, or a change of form, and its answer a row.
-mod change;
-
-use codeword::Grant;
 use requests::Request;
 use requests::Verb;
-use slot_calls::states;
 use slots::Answer;
-use slots::Outcome;
 use slots::State;
 ghost use mathlib.Core.Path.{_≡_};
-ghost use Prim.Native.Nat.{_≤_};
-ghost use lib.ListN.{length};
-ghost use Rattle.codeword.specs.Shares.{grant};
-ghost use Rattle.slots.specs.Calls.{openDownOutcome, openDownStore, receiveOutcome, receiveStore};
-ghost use Rattle.packing.specs.Store.{placesIn, inForm};
-ghost use Rattle.lines.specs.Put.{putAt, endAt};
-ghost use Rattle.requests.specs.Request.{requestOf, bitsFrom, longestLine};
-ghost use Rattle.answers.specs.Rows.{answerRow};
-ghost use Rattle.call_rows.specs.Rows.{at, shareRow, buildRow, buildDownRow};
-ghost use Rattle.yard.specs.Change.{changeRow};
+ghost use lib.ListN.{length, replicate};
+ghost use Rattle.lines.specs.Put.{putAt};
+ghost use Rattle.requests.specs.Request.{requestOf, longestLine};
 ghost use Rattle.form_changes.specs.Change.{plainChanged, packedChanged};
-ghost use Rattle.yard.specs.Step.{callRow, callStep, callStore, changeStep, stepOf, plainAfter, packedAfter, outAfter, stepWithin, plainWithin, packedWithin, outWithin};
+ghost use Rattle.line_calls.specs.Call.{storeBy};
+ghost use Rattle.yard.specs.Change.{changeOf, changeRow};
+ghost use Rattle.yard.specs.Step.{rowMade, stepMade, callRow, callStep, callStore, changeStep, stepOf, plainAfter, packedAfter, outAfter, stepWithin, plainWithin, packedWithin, outWithin};
 
 // The state and the form of the rooms to hand to the next line, and the length of the row that answers this one.
 pub struct Step {
@@ -29,8 +19,11 @@ pub struct Step {
     pub written: usize,
 }
 
-// The number of a line that can't be read.
-const UNREADABLE: usize = 15;
+// What a line asks of the form of the rooms: whether it changes it, and whether to four places a byte.
+pub struct Change {
+    pub changes: bool,
+    pub packs: bool,
+}
 
 // No row is longer: `ok`, a tab, a codeword of 172,800 bits and a newline.
 const LONGEST_ROW: usize = 172804;
@@ -79,13 +72,47 @@ fn line_on(
 {
     let request = requests::read_request(line);
     let verb = request.verb;
-    if change::changes(verb) {
-        return change_line(state, four, change::packs(verb), plain, packed, out);
+    let change = change_of(verb);
+    if change.changes {
+        return change_line(state, four, change.packs, plain, packed, out);
     }
     if four {
         return call_line(state, true, request, line, packed, out);
     }
     call_line(state, false, request, line, plain, out)
+}
+
+// What a line with this verb asks of the form.
+fn change_of(verb: Verb) -> Change
+    ensures { λ r. ⌜ r ≡ changeOf verb ⌝ }
+{
+    let none = Change {
+        changes: false,
+        packs: false,
+    };
+    match verb {
+        Verb::New => none,
+        Verb::Open => none,
+        Verb::OpenDown => none,
+        Verb::Close => none,
+        Verb::Receive => none,
+        Verb::Read => none,
+        Verb::Streams => none,
+        Verb::Build => none,
+        Verb::BuildDown => none,
+        Verb::Sizes => none,
+        Verb::Worst => none,
+        Verb::Pack => Change {
+            changes: true,
+            packs: true,
+        },
+        Verb::Unpack => Change {
+            changes: true,
+            packs: false,
+        },
+        Verb::Nothing => none,
+        Verb::Unreadable => none,
+    }
 }
 
 // Changes the form of every room.
@@ -105,13 +132,22 @@ fn change_line(
     let number = form_changes::change_form(state, four, to, plain, packed);
     if number != 0 {
         let refused = answers::put_refusal(number as usize, out);
-        return unchanged(state, four, refused);
+        return Step {
+            state,
+            four,
+            written: refused,
+        };
     }
     let written = answers::put_answer(Answer::Done, out);
-    unchanged(state, to, written)
+    Step {
+        state,
+        four: to,
+        written,
+    }
 }
 
-// Makes a call on the store that has the rooms, in its form.
+// Makes a call on the store that has the rooms, in its form, with the line's BITS where it has them. A line's terminal has no more than 16 bits, and of
+// the second number of another verb none is made.
 fn call_line(
     state: State,
     four: bool,
@@ -125,175 +161,46 @@ fn call_line(
     ensures { λ r. ⌜ now (store .exit) ≡ callStore state four (now (store .entry)) (now (line .entry)) ⌝ }
     ensures { λ r. ⌜ now (out .exit) ≡ putAt 0 (callRow state four (now (store .entry)) (now (line .entry))) (now (out .entry)) ⌝ }
 {
-    let verb = request.verb;
     let n = request.numbers;
-    let bits = request.bits;
-    match verb {
-        Verb::New => told(slot_calls::new(n[0], n[1]), four, out),
-        Verb::Open => told(
-            room_calls::open_in(state, four, n[0], n[1] as u16, n[2], store),
-            four,
-            out,
-        ),
-        Verb::OpenDown => told_share(opened_down(state, four, n, store), n[0], four, out),
-        Verb::Close => told(slot_calls::close(state, n[0], n[1] as u16), four, out),
-        Verb::Receive => told(received(state, four, n, line, bits, store), four, out),
-        Verb::Read => unchanged(
-            state,
-            four,
-            call_rows::put_read(state, four, n[0], n[1] as u16, store, out),
-        ),
-        Verb::Streams => unchanged(
-            state,
-            four,
-            call_rows::put_streams(state, four, n[0], n[1] as u16, n[2], store, out),
-        ),
-        Verb::Build => unchanged(state, four, put_build(n, line, bits, out)),
-        Verb::BuildDown => unchanged(state, four, put_build_down(n, line, bits, out)),
-        Verb::Sizes => unchanged(
-            state,
-            four,
-            answers::put_sizes(segmentation::sizes_for(n[0]), out),
-        ),
-        Verb::Worst => unchanged(
-            state,
-            four,
-            answers::put_worst(planning::worst_for(n[0], n[1], n[2]), out),
-        ),
-        Verb::Pack => unchanged(state, four, 0),
-        Verb::Unpack => unchanged(state, four, 0),
-        Verb::Nothing => unchanged(state, four, 0),
-        Verb::Unreadable => unchanged(state, four, answers::put_refusal(UNREADABLE, out)),
+    let terminal = (n[1] % 65536) as u16;
+    let from = request.bits;
+    if line.len() <= from {
+        return call_with(state, four, request, terminal, &line[..0], store, out);
     }
-}
-
-// A step of which these are known.
-fn unchanged(state: State, four: bool, written: usize) -> Step
-    ensures { λ r. ⌜ (r .state ≡ state) × (r .four ≡ four) × (r .written ≡ written) ⌝ }
-{
-    Step {
-        state,
-        four,
-        written,
-    }
-}
-
-// The step of a call that gives no bits.
-fn told(outcome: Outcome, four: bool, out: &mut [u8]) -> Step
-    ensures { λ r. ⌜ (r .state ≡ outcome .state) × (r .four ≡ four) × (r .written ≡ endAt 0 (answerRow (outcome .answer)) (now (out .entry))) ⌝ }
-    ensures { λ r. ⌜ now (out .exit) ≡ putAt 0 (answerRow (outcome .answer)) (now (out .entry)) ⌝ }
-{
-    let answer = outcome.answer;
-    let state = outcome.state;
-    let written = answers::put_answer(answer, out);
-    Step {
-        state,
-        four,
-        written,
-    }
-}
-
-// The step of an Open for a downlink: an accepted one tells the share that the slot's head now holds.
-fn told_share(outcome: Outcome, slot: usize, four: bool, out: &mut [u8]) -> Step
-    ensures { λ r. ⌜ (r .state ≡ outcome .state) × (r .four ≡ four) × (r .written ≡ endAt 0 (shareRow outcome slot) (now (out .entry))) ⌝ }
-    ensures { λ r. ⌜ now (out .exit) ≡ putAt 0 (shareRow outcome slot) (now (out .entry)) ⌝ }
-{
-    let answer = outcome.answer;
-    let state = outcome.state;
-    if !slot_calls::is_done(answer) {
-        return told(outcome, four, out);
-    }
-    let head = states::head_at(state, slot);
-    let written = answers::put_number(head.share, out);
-    Step {
-        state,
-        four,
-        written,
-    }
+    let mut given = bits_room();
+    let count = requests::read_bits(line, from, &mut given);
+    call_with(state, four, request, terminal, &given[..count], store, out)
 }
 
 // Room for the BITS of the longest line.
 fn bits_room() -> [u8; 200000]
-    ensures { λ r. ⌜ 200000 ≡ length r ⌝ }
+    ensures { λ r. ⌜ r ≡ replicate longestLine 0 ⌝ }
 {
     [0; 200000]
 }
 
-// Open for a downlink.
-fn opened_down(state: State, four: bool, n: [usize; 9], store: &mut [u8]) -> Outcome
-    requires { ⌜ at n 1 ≤ 65535 ⌝ }
-    ensures { λ r. ⌜ r ≡ openDownOutcome state (length (placesIn four (now (store .entry)))) (at n 0) (at n 1) (at n 2) (at n 3) (at n 4) (at n 5) (at n 6) (at n 7) ⌝ }
-    ensures { λ r. ⌜ now (store .exit) ≡ inForm four (openDownStore state (at n 0) (at n 2) (at n 3) (at n 4) (at n 5) (at n 6) (at n 7) (placesIn four (now (store .entry)))) ⌝ }
-{
-    let terminal = n[1] as u16;
-    room_calls::open_down_in(
-        state,
-        four,
-        n[0],
-        terminal,
-        n[2],
-        n[3],
-        n[4],
-        n[5],
-        n[6],
-        n[7],
-        store,
-    )
-}
-
-// Receive with the line's BITS.
-fn received(
+// The call with this terminal and these bits, and the row that tells it.
+fn call_with(
     state: State,
     four: bool,
-    n: [usize; 9],
-    line: &[u8],
-    from: usize,
+    request: Request,
+    terminal: u16,
+    bits: &[u8],
     store: &mut [u8],
-) -> Outcome
-    requires { ⌜ (length (now line) ≤ longestLine) × (at n 1 ≤ 65535) ⌝ }
-    ensures { λ r. ⌜ r ≡ receiveOutcome state (at n 0) (at n 1) (at n 2) (at n 3) (at n 4) (bitsFrom (now (line .entry)) from) (placesIn four (now (store .entry))) ⌝ }
-    ensures { λ r. ⌜ now (store .exit) ≡ inForm four (receiveStore state (at n 0) (at n 1) (at n 2) (at n 3) (at n 4) (bitsFrom (now (line .entry)) from) (placesIn four (now (store .entry)))) ⌝ }
+    out: &mut [u8],
+) -> Step
+    ensures { λ r. ⌜ r ≡ stepMade (request .verb) (request .numbers) terminal (now (bits .entry)) state four (now (store .entry)) (now (out .entry)) ⌝ }
+    ensures { λ r. ⌜ now (store .exit) ≡ storeBy (request .verb) (request .numbers) terminal (now (bits .entry)) state four (now (store .entry)) ⌝ }
+    ensures { λ r. ⌜ now (out .exit) ≡ putAt 0 (rowMade (request .verb) (request .numbers) terminal (now (bits .entry)) state four (now (store .entry))) (now (out .entry)) ⌝ }
 {
-    let mut given = bits_room();
-    let count = requests::read_bits(line, from, &mut given);
-    let terminal = n[1] as u16;
-    room_calls::receive_in(
-        state,
+    let verb = request.verb;
+    let n = request.numbers;
+    let outcome = line_calls::make_call(verb, n, terminal, bits, state, four, store);
+    let after = outcome.state;
+    let written = line_calls::put_row(verb, n, terminal, bits, outcome, four, store, out);
+    Step {
+        state: after,
         four,
-        n[0],
-        terminal,
-        n[2],
-        n[3],
-        n[4],
-        &given[..count],
-        store,
-    )
-}
-
-// The row of Build with the line's BITS.
-fn put_build(n: [usize; 9], line: &[u8], from: usize, out: &mut [u8]) -> usize
-    requires { ⌜ length (now line) ≤ longestLine ⌝ }
-    ensures { λ r. ⌜ r ≡ endAt 0 (buildRow (bitsFrom (now (line .entry)) from) (grant (at n 0) (at n 1) (at n 2) (at n 3))) (now (out .entry)) ⌝ }
-    ensures { λ r. ⌜ now (out .exit) ≡ putAt 0 (buildRow (bitsFrom (now (line .entry)) from) (grant (at n 0) (at n 1) (at n 2) (at n 3))) (now (out .entry)) ⌝ }
-{
-    let mut given = bits_room();
-    let count = requests::read_bits(line, from, &mut given);
-    let grant = Grant {
-        modulation: n[0],
-        layers: n[1],
-        version: n[2],
-        bits: n[3],
-    };
-    call_rows::put_codeword(&given[..count], grant, out)
-}
-
-// The row of Build for a downlink with the line's BITS.
-fn put_build_down(n: [usize; 9], line: &[u8], from: usize, out: &mut [u8]) -> usize
-    requires { ⌜ length (now line) ≤ longestLine ⌝ }
-    ensures { λ r. ⌜ r ≡ endAt 0 (buildDownRow (bitsFrom (now (line .entry)) from) (at n 0) (at n 1) (at n 2) (at n 3) (at n 4) (grant (at n 5) (at n 6) (at n 7) (at n 8))) (now (out .entry)) ⌝ }
-    ensures { λ r. ⌜ now (out .exit) ≡ putAt 0 (buildDownRow (bitsFrom (now (line .entry)) from) (at n 0) (at n 1) (at n 2) (at n 3) (at n 4) (grant (at n 5) (at n 6) (at n 7) (at n 8))) (now (out .entry)) ⌝ }
-{
-    let mut given = bits_room();
-    let count = requests::read_bits(line, from, &mut given);
-    call_rows::put_codeword_down(&given[..count], n, out)
+        written,
+    }
 }

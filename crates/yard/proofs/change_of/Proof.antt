@@ -1,9 +1,9 @@
--- `yard::change::packs` meets its contract: each verb by itself.
+-- `yard::change_of` meets its contract: each verb by itself.
 -- Assumes nothing.
+use Rattle.yard.specs.Change.{changeOf}
 use borrow.Author.Needs.{needs}
-use Rattle.yard.specs.Change.{packs}
-use Rattle.yard.proofs.change.packs.Statement.{statement}
-use Rattle.yard.proofs.change.packs.Tie as tie
+use Rattle.yard.proofs.change_of.Statement.{statement}
+use Rattle.yard.proofs.change_of.Tie as tie
 
 enum-told : tie.Need-enum-told
 enum-told c = search needs
@@ -51,67 +51,67 @@ enum-told-15 : tie.Need-enum-told-15
 enum-told-15 c = search needs
 
 returns : tie.Need-returns
-unfolding packs
-returns c = cc
+unfolding changeOf
+returns c = rw (c .enum-told .given .1)
 
 returns-2 : tie.Need-returns-2
-unfolding packs
-returns-2 c = cc
+unfolding changeOf
+returns-2 c = rw (c .enum-told2 .given .1)
 
 returns-3 : tie.Need-returns-3
-unfolding packs
-returns-3 c = cc
+unfolding changeOf
+returns-3 c = rw (c .enum-told3 .given .1)
 
 returns-4 : tie.Need-returns-4
-unfolding packs
-returns-4 c = cc
+unfolding changeOf
+returns-4 c = rw (c .enum-told4 .given .1)
 
 returns-5 : tie.Need-returns-5
-unfolding packs
-returns-5 c = cc
+unfolding changeOf
+returns-5 c = rw (c .enum-told5 .given .1)
 
 returns-6 : tie.Need-returns-6
-unfolding packs
-returns-6 c = cc
+unfolding changeOf
+returns-6 c = rw (c .enum-told6 .given .1)
 
 returns-7 : tie.Need-returns-7
-unfolding packs
-returns-7 c = cc
+unfolding changeOf
+returns-7 c = rw (c .enum-told7 .given .1)
 
 returns-8 : tie.Need-returns-8
-unfolding packs
-returns-8 c = cc
+unfolding changeOf
+returns-8 c = rw (c .enum-told8 .given .1)
 
 returns-9 : tie.Need-returns-9
-unfolding packs
-returns-9 c = cc
+unfolding changeOf
+returns-9 c = rw (c .enum-told9 .given .1)
 
 returns-10 : tie.Need-returns-10
-unfolding packs
-returns-10 c = cc
+unfolding changeOf
+returns-10 c = rw (c .enum-told10 .given .1)
 
 returns-11 : tie.Need-returns-11
-unfolding packs
-returns-11 c = cc
+unfolding changeOf
+returns-11 c = rw (c .enum-told11 .given .1)
 
 returns-12 : tie.Need-returns-12
-unfolding packs
-returns-12 c = cc
+unfolding changeOf
+returns-12 c = rw (c .enum-told12 .given .1)
 
 returns-13 : tie.Need-returns-13
-unfolding packs
-returns-13 c = cc
+unfolding changeOf
+returns-13 c = rw (c .enum-told13 .given .1)
 
 returns-14 : tie.Need-returns-14
-unfolding packs
-returns-14 c = cc
+unfolding changeOf
+returns-14 c = rw (c .enum-told14 .given .1)
 
 returns-15 : tie.Need-returns-15
-unfolding packs
-returns-15 c = cc
+unfolding changeOf
+returns-15 c = rw (c .enum-told15 .given .1)
 
-pub packs-spec : {M : Type 1} → statement M
-packs-spec =
+pub change-of-spec : {M : Type 1} → statement M
+change-of-spec =
     tie.close
     (tie.spec
     enum-told
