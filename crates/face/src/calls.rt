@@ -101,8 +101,7 @@ pub extern "C" fn zemrukste_receive(
         store,
     );
     let answer = outcome.answer;
-    *count = state_bytes::value(answer, *count);
-    state_bytes::number(answer)
+    state_bytes::tell(answer, count)
 }
 
 // Read: 0 with the block in `out`, 11 with the count or 16 with the code block in `count`, or the number of another refusal.
@@ -123,8 +122,7 @@ pub extern "C" fn zemrukste_read(
 {
     let outcome = reading::read(state_bytes::state_in(bytes), slot, terminal, store, out);
     let answer = outcome.answer;
-    *count = state_bytes::value(answer, *count);
-    state_bytes::number(answer)
+    state_bytes::tell(answer, count)
 }
 
 // Streams: 0 with the three streams of a code block in `out`, or the number of the refusal, which writes nothing.

@@ -94,8 +94,7 @@ pub extern "C" fn zemrukste_receive_packed(
         store,
     );
     let answer = outcome.answer;
-    *count = state_bytes::value(answer, *count);
-    state_bytes::number(answer)
+    state_bytes::tell(answer, count)
 }
 
 // Read.
@@ -116,8 +115,7 @@ pub extern "C" fn zemrukste_read_packed(
 {
     let outcome = reading::read_packed(state_bytes::state_in(bytes), slot, terminal, store, out);
     let answer = outcome.answer;
-    *count = state_bytes::value(answer, *count);
-    state_bytes::number(answer)
+    state_bytes::tell(answer, count)
 }
 
 // Streams.

@@ -150,7 +150,16 @@ pub fn new(s: usize, m: usize, bytes: &mut [u8]) -> u32
     number(answer)
 }
 
-// 01's number of an answer.
+// 01's number of an answer; the number that comes with it, where one does, in `count`.
+pub fn tell(answer: Answer, count: &mut usize) -> u32
+    ensures { λ r. ⌜ r ≡ numberOf answer ⌝ }
+    ensures { λ r. ⌜ now (count .exit) ≡ valueOf answer (now (count .entry)) ⌝ }
+{
+    *count = value(answer, *count);
+    number(answer)
+}
+
+// The number of an answer.
 pub fn number(answer: Answer) -> u32
     ensures { λ r. ⌜ r ≡ numberOf answer ⌝ }
 {
@@ -163,7 +172,7 @@ pub fn number(answer: Answer) -> u32
 }
 
 // The number that comes with an answer, where one does; else what stood there before.
-pub fn value(answer: Answer, before: usize) -> usize
+fn value(answer: Answer, before: usize) -> usize
     ensures { λ r. ⌜ r ≡ valueOf answer before ⌝ }
 {
     match answer {
