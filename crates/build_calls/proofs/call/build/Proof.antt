@@ -14,7 +14,7 @@ slice-aggregate-build-two : tie.Need-slice-aggregate-build-two
 slice-aggregate-build-two c = search needs
 
 build-two-requires : tie.Need-build-two-requires
-build-two-requires c κs = search needs
+build-two-requires c κs = tt
 
 same-length : tie.Need-same-length
 same-length c = search needs

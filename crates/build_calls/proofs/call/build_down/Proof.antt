@@ -51,19 +51,19 @@ accepted-as : {soft given : ℕ} {a b : List ℕ} {g : Grant} → soft ≡ given
 accepted-as e f h = rw (e, f) h
 
 segments-for-requires : tie.Need-segments-for-requires
-segments-for-requires c κs = ?
+segments-for-requires c κs = tt
 
 share-for-requires : tie.Need-share-for-requires
-share-for-requires c κs = ?
+share-for-requires c κs = tt
 
 down-number-requires : tie.Need-down-number-requires
-down-number-requires c κs = ?
+down-number-requires c κs = search needs
 
 returns : tie.Need-returns
 returns c = (found (c .before), refused-down _ _ _ _ _ _ _ _ (λ e. c .if1 .taken (found (c .before) ∙ e)))
 
 slice-aggregate-write-codeword : tie.Need-slice-aggregate-write-codeword
-slice-aggregate-write-codeword c = ?
+slice-aggregate-write-codeword c = search needs
 
 slice-relend-prefix-write-codeword : tie.Need-slice-relend-prefix-write-codeword
 slice-relend-prefix-write-codeword c = fits (at-else1 c)
@@ -84,7 +84,7 @@ write-codeword-requires c κs =
     )
 
 same-length : tie.Need-same-length
-same-length c = ?
+same-length c = search needs
 
 returns-2 : tie.Need-returns-2
 returns-2 c =
@@ -112,6 +112,3 @@ build-down-spec =
     write-codeword-requires
     same-length
     returns-2)
--- x3536
--- x7777
--- x29691

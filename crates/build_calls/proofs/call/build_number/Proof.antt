@@ -1,6 +1,5 @@
 -- `build_number` meets its contract: each return by the tests on the way, in the order of the rules.
 -- Assumes nothing.
-use borrow.Author.Needs.{needs}
 use mathlib.Core.Path.{_≡_, sym, _∙_, ap}
 use mathlib.Core.Bool.{false}
 use mathlib.Core.List.{_++_}
@@ -64,7 +63,7 @@ returns : tie.Need-returns
 returns c = bad-size-is _ _ _ (unsized _ _ (at-start-from-struct-known (c .before) .pre) (c .if1 .taken))
 
 bad-allocation-requires : tie.Need-bad-allocation-requires
-bad-allocation-requires c κs = search needs
+bad-allocation-requires c κs = tt
 
 returns-2 : tie.Need-returns-2
 returns-2 c = bad-allocation-is _ _ _ (in-range (at-else1 (c .before)) .size) (sym (allocation (c .before)) ∙ c .if2 .taken)
@@ -81,7 +80,7 @@ returns-4 c =
     short-output-is _ _ _ (in-range (at-else1 (second .before)) .size) (allocated second) (third .if3 .left) (c .if4 .taken)
 
 bad-bits-requires : tie.Need-bad-bits-requires
-bad-bits-requires c κs = search needs
+bad-bits-requires c κs = tt
 
 returns-5 : tie.Need-returns-5
 returns-5 c =
@@ -92,7 +91,7 @@ returns-5 c =
     (bad-first _ _ (sym (c .before .bad-bits .ensures) ∙ c .if5 .taken))
 
 bad-bits-requires-2 : tie.Need-bad-bits-requires-2
-bad-bits-requires-2 c κs = search needs
+bad-bits-requires-2 c κs = tt
 
 -- what both slices tell of the joined bits
 given : (c : tie.After-bad-bits2) → let a = at-start (at-else1 (past-version (past-output (at-else4 (at-else5 c .before))) .before)) .args in

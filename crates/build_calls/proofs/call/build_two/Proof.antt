@@ -34,7 +34,7 @@ fits : (c : tie.Else1) → let a = at-start (at-segments-for-both (c .before)) .
 fits c = accepted _ _ _ (none c) .1
 
 segments-for-both-requires : tie.Need-segments-for-both-requires
-segments-for-both-requires c κs = search needs
+segments-for-both-requires c κs = tt
 
 build-number-requires : tie.Need-build-number-requires
 build-number-requires c κs = let a = at-start c .args in of-joined (now (a .header)) (now (a .payload)) (c .segments-for-both .ensures)

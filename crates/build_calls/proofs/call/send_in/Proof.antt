@@ -12,16 +12,13 @@ use Rattle.turbo.specs.Encode.{blockIn}
 use Rattle.rate_matching.specs.SubBlocks.{rows}
 use Rattle.rate_matching.specs.Circle.{cutAt}
 use Rattle.codeword.specs.Codeword.{blockRows, blockCut}
-use Rattle.build_calls.proofs.Sent.{size-most-told, row-told, filler-told, fronted, encoded, sent-is}
+use Rattle.build_calls.proofs.Sent.{row-told, filler-told, fronted, encoded, sent-is}
 use Rattle.build_calls.proofs.call.send_in.Statement.{statement}
 use Rattle.build_calls.proofs.call.send_in.Tie as tie
 
 -- the ways back
-abbrev at-start-from-cut-at-requires : tie.After-slice-known4 → tie.Start
-at-start-from-cut-at-requires c = c .before .before .before .before .before .before
-
 abbrev at-start : tie.After-cut-at → tie.Start
-at-start c = at-start-from-cut-at-requires (c .before)
+at-start c = c .before .before .before .before .before .before .before
 
 abbrev at-cut-at : tie.After-code-block → tie.After-cut-at
 at-cut-at c = c .before .before
@@ -30,7 +27,7 @@ abbrev at-row-of : tie.After-filler-of → tie.After-row-of
 at-row-of c = c .before
 
 cut-at-requires : tie.Need-cut-at-requires
-cut-at-requires c κs = let s = at-start-from-cut-at-requires c in omega (arith, s .pre .1 .first, size-most-told (s .pre .0))
+cut-at-requires c κs = tt
 
 -- N_cb is the code block's
 cut-is : (c : tie.After-cut-at) → let s = at-start c in c .cut-at .result ≡ blockCut (s .args .soft) (length (now (s .args .header) ++ now (s .args .payload)) + 24) (s .args .r)
@@ -49,19 +46,19 @@ slice-aggregate-code-block : tie.Need-slice-aggregate-code-block
 slice-aggregate-code-block c = front-count _ _ (omega arith)
 
 code-block-requires : tie.Need-code-block-requires
-code-block-requires c κs = search needs
+code-block-requires c κs = tt
 
 row-of-requires : tie.Need-row-of-requires
-row-of-requires c κs = search needs
+row-of-requires c κs = tt
 
 filler-of-requires : tie.Need-filler-of-requires
-filler-of-requires c κs = search needs
+filler-of-requires c κs = tt
 
 encode-requires : tie.Need-encode-requires
-encode-requires c κs = search needs
+encode-requires c κs = tt
 
 rate-match-requires : tie.Need-rate-match-requires
-rate-match-requires c κs = search needs
+rate-match-requires c κs = tt
 
 same-length : tie.Need-same-length
 same-length c = search needs

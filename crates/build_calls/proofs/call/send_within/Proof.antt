@@ -33,7 +33,7 @@ stream-fits : (c : tie.After-size-of) {n : ℕ} → let a = at-start c .args in
 stream-fits c h = omega (arith, size-is c)
 
 size-of-requires : tie.Need-size-of-requires
-size-of-requires c κs = search needs
+size-of-requires c κs = tt
 
 add-d : tie.Need-add-d
 add-d c = omega (arith, size-is c, size-most-told (at-start c .pre .0))

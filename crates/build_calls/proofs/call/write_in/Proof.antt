@@ -1,7 +1,6 @@
 -- `write_in` meets its contract: the loop's invariant is `Stretching`, what stands before the stretch of code block r is the codeword's beginning, and that the
 -- rooms keep their lengths.
 -- Assumes nothing.
-use borrow.Author.Needs.{needs}
 use mathlib.Core.Path.{sym, _∙_}
 use mathlib.Core.List.{_++_}
 use Prim.Native.Nat.{_-_}
@@ -52,7 +51,7 @@ abbrev at-out : tie.After-slice-known8 Inv-loop μ-loop → tie.After-out Inv-lo
 at-out c = c .before
 
 crc24a-two-requires : tie.Need-crc24a-two-requires Inv-loop μ-loop
-crc24a-two-requires c κs = search needs
+crc24a-two-requires c κs = tt
 
 loop-holds : tie.Need-loop-holds Inv-loop μ-loop
 loop-holds c =
@@ -60,7 +59,7 @@ loop-holds c =
     (start (given .0) (given .1 .0) (count-told _ (given .1 .0)) (c .crc24a-two .ensures), lent (given .1 .1))
 
 share-of-requires : tie.Need-share-of-requires Inv-loop μ-loop
-share-of-requires c κs = search needs
+share-of-requires c κs = tt
 
 add-end : tie.Need-add-end Inv-loop μ-loop
 add-end c = omega (arith, within (at-loop (at-then1 c) .loop .inv .0) (at-then1 c .if1 .taken) (c .share-of .ensures))
