@@ -13,7 +13,7 @@ use Rattle.segmentation.specs.Sizes.{sizesOf, sizesAnswer}
 use Rattle.codeword.specs.declared.Grant.{Grant}
 use Rattle.codeword.specs.Build.{buildNumber, buildOutput}
 use Rattle.codeword.specs.Downlink.{buildDownNumber, buildDownOutput}
-use Rattle.codeword.proofs.Numbers.{accepted-is}
+use Rattle.build_calls.proofs.Numbers.{accepted-is}
 use Rattle.slots.specs.declared.State.{State}
 use Rattle.slots.specs.State.{newState}
 use Rattle.slots.specs.Answers.{numberOf}

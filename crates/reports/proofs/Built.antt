@@ -19,7 +19,7 @@ use Rattle.codeword.specs.Codeword.{codeword}
 use Rattle.codeword.specs.Build as plain
 use Rattle.codeword.specs.Build.{badLength, badVersion, badBits, lengthRule, versionRule, outputRule, bitsRule, buildOutput}
 use Rattle.codeword.proofs.Accepted.{allocation-of, given-bits}
-use Rattle.codeword.proofs.Numbers.{accepted-is}
+use Rattle.build_calls.proofs.Numbers.{accepted-is}
 use Rattle.report_code.specs.Code.{controlBits, repeated, block}
 use Rattle.report_code.specs.Words.{numberOf, messageBits}
 use Rattle.report_code.proofs.Linear.{block-number}
