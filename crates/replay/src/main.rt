@@ -4,170 +4,111 @@ use libc::STDIN_FILENO;
 use libc::STDOUT_FILENO;
 use slots::State;
 ghost use mathlib.Core.Path.{_≡_};
-ghost use Prim.Native.Nat.{_+_, _≤_, _<_, min};
-ghost use lib.ListN.{length};
+ghost use Prim.Native.Nat.{_+_, _≤_, _<_};
+ghost use lib.ListN.{length, replicate};
+ghost use Rattle.log_text.specs.Unfinished.{mostKept};
+ghost use Rattle.replay.specs.inner.Line.{Stands};
 
-// So much of a line is kept as shows that it is too long to be read.
-const KEPT: usize = 200001;
-
-// Where a text's unfinished last line starts, with the state and the form of the rooms after its whole lines; `going` until an answer
-// can't be written.
-struct Progress {
-    state: State,
-    four: bool,
-    next: usize,
-    going: bool,
-}
-
-// The state and the form, how many bytes of an unfinished line stand at the text's front, and how many a read brought behind them.
-struct Read {
-    state: State,
-    four: bool,
-    have: usize,
-    got: usize,
-}
-
-// The state and the form after a line, and whether its answer could be written.
-struct Told {
+// The state and the form of the rooms after the lines that are answered; `going` until an answer can't be written.
+struct Log {
     state: State,
     four: bool,
     going: bool,
 }
+
+// A line of the text, from `from` up to `to`, where the text is read up to `end`: unfinished where `to` is `end`, and nothing is left where `end` is 0.
+// `over` once the input is.
+struct Line {
+    from: usize,
+    to: usize,
+    end: usize,
+    over: bool,
+}
+
+// The byte `\n`.
+const NEWLINE: u8 = 10;
 
 fn main() {
     let mut text = text_room();
     let mut plain = plain_room();
     let mut packed = packed_room();
     let mut out = answer_room();
-    replay_input(&mut text, &mut plain, &mut packed, &mut out);
+    replay_log(&mut text, &mut plain, &mut packed, &mut out);
 }
 
 // Room for the longest line that is read, and for what comes behind it.
 fn text_room() -> [u8; 262144]
-    ensures { λ r. ⌜ 262144 ≡ length r ⌝ }
+    ensures { λ r. ⌜ r ≡ replicate 262144 0 ⌝ }
 {
     [0; 262144]
 }
 
 // Room for S·M at most 3; a larger S·M meets number 5.
-fn plain_room() -> [u8; 55584]
-    ensures { λ r. ⌜ 55584 ≡ length r ⌝ }
-{
+fn plain_room() -> [u8; 55584] {
     [0; 55584]
 }
 
 // The same for rooms with four places a byte.
-fn packed_room() -> [u8; 13896]
-    ensures { λ r. ⌜ 13896 ≡ length r ⌝ }
-{
+fn packed_room() -> [u8; 13896] {
     [0; 13896]
 }
 
 // Room for the longest answer: a codeword of 172,800 bits with `ok`, a tab and a newline.
-fn answer_room() -> [u8; 172804]
-    ensures { λ r. ⌜ 172804 ≡ length r ⌝ }
-{
+fn answer_room() -> [u8; 172804] {
     [0; 172804]
 }
 
-// Answers the log's lines, and the last one too where no newline ends it.
-fn replay_input(text: &mut [u8], plain: &mut [u8], packed: &mut [u8], out: &mut [u8])
-    requires { ⌜ 200001 < length (now text) ⌝ }
+// Answers the log's lines. A proved loop has to end, and nothing says that an input does: so it counts its turns down, from a number that no run uses
+// up.
+fn replay_log(text: &mut [u8], plain: &mut [u8], packed: &mut [u8], out: &mut [u8])
+    requires { ⌜ mostKept < length (now text) ⌝ }
 {
-    let last = replay_reads(text, plain, packed, out);
-    let state = last.state;
-    let have = last.have;
-    if have > 0 {
-        answer(state, last.four, &text[..have], plain, packed, out);
+    let mut log = begun();
+    let mut line = first_line(text);
+    let mut turns = turns_left(u64::MAX, log.going, line.end);
+    while 0 < turns {
+        log = answer(log, line, text, plain, packed, out);
+        line = next_line(line, text);
+        turns = turns_left(turns, log.going, line.end);
     }
 }
 
-// Before the first `new` the state is that of a refused New. A proved loop has to end, and nothing says that an input does: so it
-// counts its turns down, from a number that no run uses up.
-fn replay_reads(text: &mut [u8], plain: &mut [u8], packed: &mut [u8], out: &mut [u8]) -> Read
-    requires { ⌜ 200001 < length (now text) ⌝ }
-    ensures { λ r. ⌜ r .have ≤ length (now (text .exit)) ⌝ }
-{
-    let begun = slot_calls::new(0, 0);
-    let state = begun.state;
-    let got = first_read(text);
-    let mut read = Read {
+// Before the first `new` the state is that of a refused New.
+fn begun() -> Log {
+    let outcome = slot_calls::new(0, 0);
+    let state = outcome.state;
+    Log {
         state,
         four: false,
-        have: 0,
-        got,
-    };
-    let mut turns = u64::MAX;
-    while 0 < read.got {
-        if turns == 0 {
-            let state = read.state;
-            return nothing_more(state, read.four);
-        }
-        turns -= 1;
-        read = replay_read(read, text, plain, packed, out);
-    }
-    read
-}
-
-// Answers the whole lines of what was read, keeps the unfinished one, and reads on.
-fn replay_read(
-    read: Read,
-    text: &mut [u8],
-    plain: &mut [u8],
-    packed: &mut [u8],
-    out: &mut [u8],
-) -> Read
-    requires { ⌜ (read .have + read .got ≤ length (now text)) × (200001 < length (now text)) ⌝ }
-    ensures { λ r. ⌜ r .have + r .got ≤ length (now (text .exit)) ⌝ }
-{
-    let state = read.state;
-    let have = read.have;
-    let end = have + read.got;
-    let progress = replay_lines(state, read.four, &text[..end], plain, packed, out, have);
-    let after = progress.state;
-    if !progress.going {
-        return nothing_more(after, progress.four);
-    }
-    let kept = keep(text, progress.next, end);
-    let got = read_more(text, kept);
-    Read {
-        state: after,
-        four: progress.four,
-        have: kept,
-        got,
+        going: true,
     }
 }
 
-// After the last turn: no line is left, and nothing more is read.
-fn nothing_more(state: State, four: bool) -> Read
-    ensures { λ r. ⌜ (r .have ≡ 0) × (r .got ≡ 0) ⌝ }
+// None where no answer can be written or no line is left.
+fn turns_left(turns: u64, going: bool, end: usize) -> u64
+    requires { ⌜ 0 < turns ⌝ }
+    ensures { λ r. ⌜ r < turns ⌝ }
 {
-    Read {
-        state,
-        four,
-        have: 0,
-        got: 0,
+    if !going {
+        return 0;
     }
+    if end == 0 {
+        return 0;
+    }
+    turns - 1
 }
 
 // The first read. A log whose first line ends in a carriage return is told of, once: its lines are no calls.
-fn first_read(text: &mut [u8]) -> usize
-    ensures { λ r. ⌜ r ≤ length (now (text .exit)) ⌝ }
+fn first_line(text: &mut [u8]) -> Line
+    ensures { λ r. ⌜ Stands r (length (now (text .exit))) ⌝ }
 {
     let got = read_more(text, 0);
     tell_line_ends(&text[..got]);
-    got
+    line_in(text, 0, 0, got, false)
 }
 
 fn tell_line_ends(text: &[u8]) {
-    let end = lines::line_end(text, 0);
-    if end == 0 {
-        return;
-    }
-    if end > text.len() {
-        return;
-    }
-    if text[end - 1] == 13 {
+    if log_text::ends_in_return(text) {
         io::write_all(
             STDERR_FILENO,
             b"replay: the log's lines end in carriage returns; they are refused with 15\n",
@@ -184,62 +125,101 @@ fn read_more(text: &mut [u8], have: usize) -> usize
     io::count(got, &text[have..])
 }
 
-// Answers each whole line of the text. In its first `seen` bytes no line ends: an unfinished line is not looked through again.
-fn replay_lines(
-    state: State,
-    four: bool,
+// The line from `from` on. In the bytes before `seen` it does not end: an unfinished line is not looked through again.
+fn line_in(text: &[u8], from: usize, seen: usize, end: usize, over: bool) -> Line
+    requires { ⌜ (from ≤ seen) × (seen ≤ end) × (end ≤ length (now text)) ⌝ }
+    ensures { λ r. ⌜ Stands r (length (now (text .entry))) ⌝ }
+{
+    let to = lines::line_end(&text[..end], seen);
+    Line {
+        from,
+        to,
+        end,
+        over,
+    }
+}
+
+// The line after this one, or this one, if it is unfinished, gone on with.
+fn next_line(line: Line, text: &mut [u8]) -> Line
+    requires { ⌜ Stands line (length (now text)) × (mostKept < length (now text)) ⌝ }
+    ensures { λ r. ⌜ Stands r (length (now (text .exit))) ⌝ }
+{
+    if line.to < line.end {
+        let from = line.to + 1;
+        return line_in(text, from, from, line.end, line.over);
+    }
+    if line.over {
+        return nothing_left();
+    }
+    read_on(line.from, line.end, text)
+}
+
+// No line is left.
+fn nothing_left() -> Line
+    ensures { λ r. ⌜ (r .from ≡ 0) × (r .to ≡ 0) × (r .end ≡ 0) ⌝ }
+{
+    Line {
+        from: 0,
+        to: 0,
+        end: 0,
+        over: true,
+    }
+}
+
+// Keeps an unfinished line, and reads on.
+fn read_on(from: usize, end: usize, text: &mut [u8]) -> Line
+    requires { ⌜ mostKept < length (now text) ⌝ }
+    ensures { λ r. ⌜ Stands r (length (now (text .exit))) ⌝ }
+{
+    let kept = log_text::keep(text, from, end);
+    let got = read_more(text, kept);
+    if got == 0 {
+        return last_line(text, kept);
+    }
+    line_in(text, 0, kept, kept + got, false)
+}
+
+// The last line of the input, of so many bytes, which no newline ended: it is ended here.
+fn last_line(text: &mut [u8], kept: usize) -> Line
+    requires { ⌜ kept < length (now text) ⌝ }
+    ensures { λ r. ⌜ Stands r (length (now (text .exit))) ⌝ }
+{
+    if kept == 0 {
+        return nothing_left();
+    }
+    text[kept] = NEWLINE;
+    Line {
+        from: 0,
+        to: kept,
+        end: kept + 1,
+        over: true,
+    }
+}
+
+// Makes the call or the change that a line asks for and writes its answer; an unfinished line waits.
+fn answer(
+    log: Log,
+    line: Line,
     text: &[u8],
     plain: &mut [u8],
     packed: &mut [u8],
     out: &mut [u8],
-    seen: usize,
-) -> Progress
-    ensures { λ r. ⌜ r .next ≤ length (now (text .entry)) ⌝ }
+) -> Log
+    requires { ⌜ Stands line (length (now text)) ⌝ }
 {
-    let mut after = state;
-    let mut form = four;
-    let mut next = 0;
-    let mut end = lines::line_end(text, seen);
-    while end < text.len() {
-        let told = answer(after, form, &text[next..end], plain, packed, out);
-        after = told.state;
-        form = told.four;
-        next = end + 1;
-        if !told.going {
-            return Progress {
-                state: after,
-                four: form,
-                next,
-                going: false,
-            };
-        }
-        end = lines::line_end(text, next);
+    let from = line.from;
+    let to = line.to;
+    if to == line.end {
+        return log;
     }
-    Progress {
-        state: after,
-        four: form,
-        next,
-        going: true,
-    }
-}
-
-// Makes a line's call or change and writes its answer.
-fn answer(
-    state: State,
-    four: bool,
-    line: &[u8],
-    plain: &mut [u8],
-    packed: &mut [u8],
-    out: &mut [u8],
-) -> Told {
-    let step = yard::replay_line(state, four, line, plain, packed, out);
+    let state = log.state;
+    let step = yard::replay_line(state, log.four, &text[from..to], plain, packed, out);
     let after = step.state;
-    let form = step.four;
     let written = step.written;
     let going = put_out(&out[..written]);
-    Told {
+    Log {
         state: after,
-        four: form,
+        four: step.four,
         going,
     }
 }
@@ -254,34 +234,4 @@ fn put_out(row: &[u8]) -> bool {
         );
     }
     going
-}
-
-// Moves an unfinished line to the front of the text, to be gone on with by the next read, and tells how much of it is kept. What a
-// line of more than 200,001 bytes loses here would not change its answer.
-fn keep(text: &mut [u8], from: usize, end: usize) -> usize
-    requires { ⌜ (from ≤ end) × (end ≤ length (now text)) ⌝ }
-    ensures { λ r. ⌜ r ≤ 200001 ⌝ }
-{
-    let kept = kept_of(end - from);
-    if 0 < from {
-        move_down(text, from, kept);
-    }
-    kept
-}
-
-// How much of so many bytes is kept.
-fn kept_of(count: usize) -> usize
-    ensures { λ r. ⌜ r ≡ min count 200001 ⌝ }
-{
-    if count < KEPT { count } else { KEPT }
-}
-
-fn move_down(text: &mut [u8], from: usize, count: usize)
-    requires { ⌜ from + count ≤ length (now text) ⌝ }
-{
-    let mut i = 0;
-    while i < count {
-        text[i] = text[from + i];
-        i += 1;
-    }
 }

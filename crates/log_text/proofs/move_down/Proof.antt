@@ -1,20 +1,19 @@
--- `replay::move_down` is safe and ends.
+-- `log_text::move_down` meets its contract: a loop that moves the bytes one by one, with the laws of `Kept`.
 -- Assumes nothing.
-use mathlib.Core.Path.{_≡_, refl, _∙_}
 use Prim.Native.Nat.{_-_}
 use native.Mathlib.Omega.{arith}
-use lib.ListN.{length, length-set}
-use Rattle.replay.proofs.move_down.Statement.{statement}
-use Rattle.replay.proofs.move_down.Tie as tie
+use Rattle.log_text.proofs.Kept.{Moving, begin, next, all-moved}
+use Rattle.log_text.proofs.move_down.Statement.{statement}
+use Rattle.log_text.proofs.move_down.Tie as tie
 
 abbrev Inv-loop : tie.InvT-loop
-Inv-loop text₀ from count i₀ text i = length text ≡ length text₀
+Inv-loop text₀ from count i₀ text i = Moving from count text₀ text i
 
 abbrev μ-loop : tie.MeasureT-loop
 μ-loop text₀ from count i₀ text i = count - i
 
 loop-holds : tie.Need-loop-holds Inv-loop μ-loop
-loop-holds c = refl
+loop-holds c = begin _ _ _ (c .pre)
 
 add-text : tie.Need-add-text Inv-loop μ-loop
 add-text c = omega arith
@@ -32,13 +31,13 @@ loop-less : tie.Need-loop-less Inv-loop μ-loop
 loop-less c = omega arith
 
 loop-again : tie.Need-loop-again Inv-loop μ-loop
-loop-again c = length-set (c .before .before .loop .text) (c .before .before .loop .i) _ ∙ c .before .before .loop .inv
+loop-again c = next _ _ _ (c .before .before .before .pre) (c .before .before .loop .i) (omega arith) (c .before .before .loop .inv)
 
 same-length : tie.Need-same-length Inv-loop μ-loop
-same-length c = c .before .loop .inv
+same-length c = c .before .loop .inv .writing .long
 
 returns : tie.Need-returns Inv-loop μ-loop
-returns c = tt
+returns c = all-moved _ _ _ (c .before .before .pre) (omega arith) (c .before .loop .inv)
 
 pub move-down-spec : {M : Type 1} → statement M
 move-down-spec =

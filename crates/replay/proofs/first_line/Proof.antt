@@ -1,9 +1,9 @@
--- `replay::first_read` meets its contract: what was read stands within the text.
+-- `replay::first_line` meets its contract: what was read stands within the text.
 -- Assumes nothing.
-use borrow.Author.Needs.{needs}
 use Rattle.laws.proofs.Parts.{front-count}
-use Rattle.replay.proofs.first_read.Statement.{statement}
-use Rattle.replay.proofs.first_read.Tie as tie
+use borrow.Author.Needs.{needs}
+use Rattle.replay.proofs.first_line.Statement.{statement}
+use Rattle.replay.proofs.first_line.Tie as tie
 
 read-more-requires : tie.Need-read-more-requires
 read-more-requires c κs = search needs
@@ -17,19 +17,23 @@ slice-aggregate-tell-line-ends c = front-count _ _ (slice-reshare-prefix-tell-li
 tell-line-ends-requires : tie.Need-tell-line-ends-requires
 tell-line-ends-requires c κs = search needs
 
+line-in-requires : tie.Need-line-in-requires
+line-in-requires c κs = search needs
+
 same-length : tie.Need-same-length
 same-length c = search needs
 
 returns : tie.Need-returns
 returns c = search needs
 
-pub first-read-spec : {M : Type 1} → statement M
-first-read-spec =
+pub first-line-spec : {M : Type 1} → statement M
+first-line-spec =
     tie.close
     (tie.spec
     read-more-requires
     slice-reshare-prefix-tell-line-ends
     slice-aggregate-tell-line-ends
     tell-line-ends-requires
+    line-in-requires
     same-length
     returns)
