@@ -32,7 +32,7 @@ told : (c : tie.After-turn-of) → let e = at-start c .args in Turned (e .d0 .no
 told c = record { test = at-start c .pre .0; found = c .turn-of .ensures }
 
 turn-of-requires : tie.Need-turn-of-requires
-turn-of-requires c κs = search needs
+turn-of-requires c κs = tt
 
 put-units-requires : tie.Need-put-units-requires
 put-units-requires c κs = let t = at-turn-of c in first-needs (told t) (at-start t .pre .1)
@@ -41,7 +41,7 @@ sub-pair-unit-at : tie.Need-sub-pair-unit-at
 sub-pair-unit-at c = whole-high (told (turned (at-put-units c)))
 
 pair-unit-at-requires : tie.Need-pair-unit-at-requires
-pair-unit-at-requires c κs = search needs
+pair-unit-at-requires c κs = tt
 
 put-rest-requires : tie.Need-put-rest-requires
 put-rest-requires c κs =

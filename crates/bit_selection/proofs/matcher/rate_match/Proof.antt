@@ -28,7 +28,7 @@ returns : tie.Need-returns
 returns c = nothing-is _ _ _ _ _ _ _ (c .if1 .taken)
 
 matchable-requires : tie.Need-matchable-requires
-matchable-requires c κs = search needs
+matchable-requires c κs = tt
 
 returns-2 : tie.Need-returns-2
 returns-2 c = refused-is _ _ _ _ _ _ _ (sym (c .before .matchable .ensures) ∙ not-true _ (c .if2 .taken))

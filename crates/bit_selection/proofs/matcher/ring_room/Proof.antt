@@ -5,12 +5,11 @@ use borrow.Author.Tests.{lt-ltb, le-ltb}
 use Rattle.rate_matching.specs.SubBlocks.{rows}
 use Rattle.rate_matching.specs.Circle.{circleLength}
 use Rattle.bit_selection.specs.inner.Ring.{ringRoom}
-use borrow.Author.Needs.{needs}
 use Rattle.bit_selection.proofs.matcher.ring_room.Statement.{statement}
 use Rattle.bit_selection.proofs.matcher.ring_room.Tie as tie
 
 rows-of-requires : tie.Need-rows-of-requires
-rows-of-requires c κs = search needs
+rows-of-requires c κs = tt
 
 mul-some : tie.Need-mul-some
 unfolding rows
