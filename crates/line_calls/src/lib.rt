@@ -144,3 +144,4 @@ fn put_share(outcome: Outcome, slot: usize, out: &mut [u8]) -> usize
         answers::put_answer(answer, out)
     }
 }
+

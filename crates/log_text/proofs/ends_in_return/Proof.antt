@@ -13,6 +13,9 @@ use Rattle.log_text.proofs.ends_in_return.Tie as tie
 abbrev at-start : tie.After-line-end → tie.Start
 at-start c = c .before .before
 
+abbrev at-else1 : tie.After-shared-slice-known2 → tie.Else1
+at-else1 c = c .before
+
 line-end-requires : tie.Need-line-end-requires
 line-end-requires c κs = search needs
 
@@ -25,12 +28,12 @@ sub-result c = search needs
 
 shared-slice-read-result : tie.Need-shared-slice-read-result
 shared-slice-read-result c =
-    let line-end = c .before .before in
+    let line-end = at-else1 c .before in
     omega (arith, line-end .line-end .ensures, end-within (now (at-start line-end .args .text)) 0 (omega arith))
 
 returns-2 : tie.Need-returns-2
 unfolding endsInReturn
-returns-2 c = rw (← (c .before .before .line-end .ensures), ne-eqb _ 0 (c .before .if1 .left))
+returns-2 c = rw (← (at-else1 c .before .line-end .ensures), ne-eqb _ 0 (at-else1 c .if1 .left))
 
 pub ends-in-return-spec : {M : Type 1} → statement M
 ends-in-return-spec =

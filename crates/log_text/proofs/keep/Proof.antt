@@ -11,6 +11,9 @@ use Rattle.log_text.proofs.keep.Tie as tie
 abbrev at-start : tie.After-kept-count → tie.Start
 at-start c = c .before .before
 
+abbrev at-else1 : tie.After-move-down-arg → tie.Else1
+at-else1 c = c .before
+
 kept-count-requires : tie.Need-kept-count-requires
 kept-count-requires c κs = search needs
 
@@ -21,7 +24,7 @@ returns c =
     stays (now (args .text)) (args .from) (args .end) (kept-count .kept-count .ensures) (c .if1 .taken)
 
 move-down-requires : tie.Need-move-down-requires
-move-down-requires c κs = omega (arith, c .before .before .kept-count .ensures)
+move-down-requires c κs = omega (arith, at-else1 c .before .kept-count .ensures)
 
 same-length : tie.Need-same-length
 same-length c = search needs
@@ -29,7 +32,7 @@ same-length c = search needs
 returns-2 : tie.Need-returns-2
 returns-2 c =
     let move-down = c .before .before in
-    let kept-count = move-down .before .before .before in
+    let kept-count = at-else1 (move-down .before) .before in
     let args = at-start kept-count .args in
     down (now (args .text)) (args .from) (args .end) (kept-count .kept-count .ensures) (move-down .move-down .ensures)
 

@@ -13,11 +13,8 @@ use Rattle.replay.proofs.read_on.Tie as tie
 abbrev at-start : tie.After-keep → tie.Start
 at-start c = c .before .before .before
 
-abbrev at-keep : tie.After-slice-known2 → tie.After-keep
-at-keep c = c .before .before
-
-abbrev at-slice-known2 : tie.After-read-more → tie.After-slice-known2
-at-slice-known2 c = c .before .before
+abbrev at-keep : tie.After-read-more-arg → tie.After-keep
+at-keep c = c .before .before .before
 
 -- less is kept than the text has room for
 room : (c : tie.After-keep) → c .keep .result < length (c .keep .last .0)
@@ -29,12 +26,12 @@ keep-requires : tie.Need-keep-requires
 keep-requires c κs = search needs
 
 read-more-requires : tie.Need-read-more-requires
-read-more-requires c κs = omega (arith, room (at-keep (c .before)))
+read-more-requires c κs = omega (arith, room (at-keep c))
 
 last-line-requires : tie.Need-last-line-requires
 last-line-requires c κs =
     let read-more = c .before .before .before .before in
-    omega (arith, room (at-keep (at-slice-known2 read-more)), read-more .read-more .kept .0)
+    omega (arith, room (at-keep (read-more .before)), read-more .read-more .kept .0)
 
 same-length : tie.Need-same-length
 same-length c = search needs

@@ -21,8 +21,11 @@ abbrev μ-loop : tie.MeasureT-loop
 abbrev at-first-line : tie.After-turns-left Inv-loop μ-loop → tie.After-first-line Inv-loop μ-loop
 at-first-line c = c .before .before .before
 
+abbrev at-loop-from-answer-arg4 : tie.After-answer-arg4 Inv-loop μ-loop → tie.At-loop Inv-loop μ-loop
+at-loop-from-answer-arg4 c = c .before .before .before .before .before
+
 abbrev at-loop : tie.After-answer Inv-loop μ-loop → tie.At-loop Inv-loop μ-loop
-at-loop c = c .before .before .before .before .before .before
+at-loop c = at-loop-from-answer-arg4 (c .before)
 
 abbrev at-answer : tie.After-next-line-arg Inv-loop μ-loop → tie.After-answer Inv-loop μ-loop
 at-answer c = c .before .before .before .before .before .before .before
@@ -38,11 +41,13 @@ turns-left-requires c κs = omega arith
 
 loop-holds : tie.Need-loop-holds Inv-loop μ-loop
 loop-holds c =
-    let line = at-first-line c .first-line in
-    (line .ensures, omega (arith, line .kept .0, at-first-line c .before .before .before .before .before .before .before .pre), refl, refl, refl, refl)
+    let first-line = at-first-line c in
+    let start = first-line .before .before .before .before .before .before .before in
+    let line = first-line .first-line in
+    (line .ensures, omega (arith, line .kept .0, start .pre), refl, refl, refl, refl)
 
 answer-requires : tie.Need-answer-requires Inv-loop μ-loop
-answer-requires c κs = c .before .before .before .before .before .loop .inv .0
+answer-requires c κs = at-loop-from-answer-arg4 c .loop .inv .0
 
 next-line-requires : tie.Need-next-line-requires Inv-loop μ-loop
 next-line-requires c κs = let inv = at-loop (at-answer c) .loop .inv in (inv .0, inv .1)
