@@ -144,4 +144,3 @@ fn put_share(outcome: Outcome, slot: usize, out: &mut [u8]) -> usize
         answers::put_answer(answer, out)
     }
 }
-
