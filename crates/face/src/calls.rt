@@ -140,7 +140,7 @@ pub extern "C" fn zemrukste_streams(
     ensures output { λ r. ⌜ now (out .exit)
         ≡ streamsOutput (stateIn (now (bytes .entry))) (now (store .entry)) slot terminal block (now (out .entry)) ⌝ }
 {
-    let outcome = reading::streams(
+    let outcome = streaming::streams(
         state_bytes::state_in(bytes),
         slot,
         terminal,

@@ -133,7 +133,7 @@ pub extern "C" fn zemrukste_streams_packed(
     ensures output { λ r. ⌜ now (out .exit)
         ≡ streamsOutput (stateIn (now (bytes .entry))) (placesIn true (now (store .entry))) slot terminal block (now (out .entry)) ⌝ }
 {
-    let outcome = reading::streams_packed(
+    let outcome = streaming::streams_packed(
         state_bytes::state_in(bytes),
         slot,
         terminal,

@@ -1,7 +1,5 @@
-// The call that a line of the yard's log asks for, by its verb, on a state and the rooms in either form, and the row that tells it.
-use codeword::Grant;
+// The call that a line of the yard's log asks for, by its verb, on a state and the rooms in either form.
 use requests::Verb;
-use slot_calls::states;
 use slots::Answer;
 use slots::Outcome;
 use slots::State;
@@ -9,12 +7,8 @@ ghost use mathlib.Core.Path.{_≡_};
 ghost use lib.ListN.{length};
 ghost use Rattle.slots.specs.Calls.{openDownOutcome, openDownStore};
 ghost use Rattle.packing.specs.Store.{placesIn, inForm};
-ghost use Rattle.lines.specs.Put.{putAt, endAt};
-ghost use Rattle.call_rows.specs.Rows.{at, shareRow};
-ghost use Rattle.line_calls.specs.Call.{unchanged, outcomeBy, storeBy, rowBy};
-
-// The number of a line that can't be read.
-const UNREADABLE: usize = 15;
+ghost use Rattle.call_rows.specs.Rows.{at};
+ghost use Rattle.line_calls.specs.Call.{unchanged, outcomeBy, storeBy};
 
 // Makes the call that a verb asks for with its numbers n, the second of them again as the terminal, and its bits, on the state and on the store that has
 // the rooms, in their form. A verb that only asks, or asks for nothing or for a change of form, leaves both as they are.
@@ -82,65 +76,4 @@ fn opened_down(state: State, four: bool, n: [usize; 9], terminal: u16, store: &m
         n[7],
         store,
     )
-}
-
-// Puts the row that tells a call at the start of out: what it answered or, of the state and the store after it, what was asked for.
-pub fn put_row(
-    verb: Verb,
-    n: [usize; 9],
-    terminal: u16,
-    bits: &[u8],
-    outcome: Outcome,
-    four: bool,
-    store: &[u8],
-    out: &mut [u8],
-) -> usize
-    ensures { λ r. ⌜ r ≡ endAt 0 (rowBy verb n terminal (now (bits .entry)) outcome (placesIn four (now (store .entry)))) (now (out .entry)) ⌝ }
-    ensures { λ r. ⌜ now (out .exit) ≡ putAt 0 (rowBy verb n terminal (now (bits .entry)) outcome (placesIn four (now (store .entry)))) (now (out .entry)) ⌝ }
-{
-    let answer = outcome.answer;
-    let state = outcome.state;
-    let a = n[0];
-    let b = n[1];
-    let c = n[2];
-    match verb {
-        Verb::New => answers::put_answer(answer, out),
-        Verb::Open => answers::put_answer(answer, out),
-        Verb::OpenDown => put_share(outcome, a, out),
-        Verb::Close => answers::put_answer(answer, out),
-        Verb::Receive => answers::put_answer(answer, out),
-        Verb::Read => call_rows::put_read(state, four, a, terminal, store, out),
-        Verb::Streams => call_rows::put_streams(state, four, a, terminal, c, store, out),
-        Verb::Build => {
-            let grant = Grant {
-                modulation: a,
-                layers: b,
-                version: c,
-                bits: n[3],
-            };
-            call_rows::put_codeword(bits, grant, out)
-        }
-        Verb::BuildDown => call_rows::put_codeword_down(bits, n, out),
-        Verb::Sizes => answers::put_sizes(segmentation::sizes_for(a), out),
-        Verb::Worst => answers::put_worst(planning::worst_for(a, b, c), out),
-        Verb::Pack => 0,
-        Verb::Unpack => 0,
-        Verb::Nothing => 0,
-        Verb::Unreadable => answers::put_refusal(UNREADABLE, out),
-    }
-}
-
-// The row of an Open for a downlink: an accepted one tells the share that the slot's head now holds.
-fn put_share(outcome: Outcome, slot: usize, out: &mut [u8]) -> usize
-    ensures { λ r. ⌜ r ≡ endAt 0 (shareRow outcome slot) (now (out .entry)) ⌝ }
-    ensures { λ r. ⌜ now (out .exit) ≡ putAt 0 (shareRow outcome slot) (now (out .entry)) ⌝ }
-{
-    let answer = outcome.answer;
-    let state = outcome.state;
-    if slot_calls::is_done(answer) {
-        let head = states::head_at(state, slot);
-        answers::put_number(head.share, out)
-    } else {
-        answers::put_answer(answer, out)
-    }
 }

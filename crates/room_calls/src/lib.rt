@@ -126,8 +126,8 @@ pub fn streams_in(
     ensures { λ r. ⌜ now (out .exit) ≡ streamsOutput state (placesIn four (now (store .entry))) slot terminal block (now (out .entry)) ⌝ }
 {
     if four {
-        reading::streams_packed(state, slot, terminal, block, store, out)
+        streaming::streams_packed(state, slot, terminal, block, store, out)
     } else {
-        reading::streams(state, slot, terminal, block, store, out)
+        streaming::streams(state, slot, terminal, block, store, out)
     }
 }

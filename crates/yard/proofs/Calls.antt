@@ -18,7 +18,8 @@ use Rattle.requests.specs.Verbs.{formOf}
 use Rattle.requests.specs.Request.{longestLine, requestOf, bitsFrom}
 use Rattle.requests.proofs.Asked.{asked, terminal-fits}
 use Rattle.call_rows.specs.Rows.{at}
-use Rattle.line_calls.specs.Call.{outcomeBy, storeBy, rowBy}
+use Rattle.line_calls.specs.Call.{outcomeBy, storeBy}
+use Rattle.line_rows.specs.Row.{rowBy}
 use Rattle.yard.specs.declared.Step.{Step}
 use Rattle.yard.specs.Step.{rowMade, stepMade, bitsOf, callRow, callStep, callStore}
 

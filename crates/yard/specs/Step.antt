@@ -12,7 +12,8 @@ use Rattle.lines.specs.Put.{putAt, endAt}
 use Rattle.requests.specs.declared.Verb.{Verb}
 use Rattle.requests.specs.Request.{requestOf, bitsFrom}
 use Rattle.call_rows.specs.Rows.{at}
-use Rattle.line_calls.specs.Call.{outcomeBy, storeBy, rowBy}
+use Rattle.line_calls.specs.Call.{outcomeBy, storeBy}
+use Rattle.line_rows.specs.Row.{rowBy}
 use Rattle.form_changes.specs.Change.{plainChanged, packedChanged}
 use Rattle.yard.specs.declared.Step.{Step}
 use Rattle.yard.specs.Change.{changeOf, changeRow, formAfter}

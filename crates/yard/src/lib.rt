@@ -197,7 +197,7 @@ fn call_with(
     let n = request.numbers;
     let outcome = line_calls::make_call(verb, n, terminal, bits, state, four, store);
     let after = outcome.state;
-    let written = line_calls::put_row(verb, n, terminal, bits, outcome, four, store, out);
+    let written = line_rows::put_row(verb, n, terminal, bits, outcome, four, store, out);
     Step {
         state: after,
         four,

@@ -6,7 +6,6 @@ use native.Mathlib.Omega.{arith}
 use lib.ListN.{length}
 use Rattle.log_text.specs.Unfinished.{mostKept}
 use Rattle.replay.specs.inner.Line.{Stands}
-use borrow.Author.Needs.{needs}
 use Rattle.replay.proofs.replay_log.Statement.{statement}
 use Rattle.replay.proofs.replay_log.Tie as tie
 

@@ -1,4 +1,4 @@
--- `line_calls::put_row` meets its contract: each verb's own row.
+-- `line_rows::put_row` meets its contract: each verb's own row.
 -- Assumes nothing.
 use mathlib.Core.Path.{_≡_, sym}
 use mathlib.Core.List.{List, []}
@@ -6,10 +6,10 @@ use Prim.Native.Nat.{ℕ}
 use native.Mathlib.Omega.{arith}
 use Rattle.lines.specs.Put.{putOver, putAt, endAt}
 use Rattle.lines.proofs.Putting.{put-fits, end-fits}
-use Rattle.line_calls.specs.Call.{rowBy}
+use Rattle.line_rows.specs.Row.{rowBy}
 use borrow.Author.Needs.{needs}
-use Rattle.line_calls.proofs.put_row.Statement.{statement}
-use Rattle.line_calls.proofs.put_row.Tie as tie
+use Rattle.line_rows.proofs.put_row.Statement.{statement}
+use Rattle.line_rows.proofs.put_row.Tie as tie
 
 -- a row that is none
 nothing : (out : List ℕ) → (0 ≡ endAt 0 [] out) × (out ≡ putAt 0 [] out)

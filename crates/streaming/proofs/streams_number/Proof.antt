@@ -1,11 +1,11 @@
--- `calls::streams_number` meets its contract: the chain goes on over 14 and the output's rule, where the owner is known (`Answering`).
+-- `streaming::streams_number` meets its contract: the chain goes on over 14 and the output's rule, where the owner is known (`Answering`).
 -- Assumes nothing.
 use Prim.Native.Nat.{_≤_}
 use native.Mathlib.Omega.{arith}
 use borrow.Author.Needs.{needs}
-use Rattle.reading.proofs.Answering.{owner-refused, found-most, streams-chained}
-use Rattle.reading.proofs.calls.streams_number.Statement.{statement}
-use Rattle.reading.proofs.calls.streams_number.Tie as tie
+use Rattle.streaming.proofs.Answering.{owner-refused, found-most, streams-chained}
+use Rattle.streaming.proofs.streams_number.Statement.{statement}
+use Rattle.streaming.proofs.streams_number.Tie as tie
 
 -- the ways back
 abbrev at-else1 : tie.After-head-at → tie.Else1

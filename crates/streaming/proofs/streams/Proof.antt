@@ -1,11 +1,11 @@
--- `calls::streams` meets its contract: it is the call on the form with a place a byte.
+-- `streaming::streams` meets its contract: it is the call on the form with a place a byte.
 -- Assumes nothing.
 use mathlib.Core.Path.{sym}
 use mathlib.Core.Bool.{true≢false}
 use borrow.Author.Needs.{needs}
 use Rattle.packing.specs.Store.{placesIn}
-use Rattle.reading.proofs.calls.streams.Statement.{statement}
-use Rattle.reading.proofs.calls.streams.Tie as tie
+use Rattle.streaming.proofs.streams.Statement.{statement}
+use Rattle.streaming.proofs.streams.Tie as tie
 
 slice-aggregate-streams-form : tie.Need-slice-aggregate-streams-form
 slice-aggregate-streams-form c = search needs

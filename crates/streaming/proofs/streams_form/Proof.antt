@@ -1,4 +1,4 @@
--- `calls::streams_form` meets its contract: the number decides, and number 0 says that the code block's circle lies within the store (`Answering`, `Form`).
+-- `streaming::streams_form` meets its contract: the number decides, and number 0 says that the code block's circle lies within the store (`Answering`, `Form`).
 -- Assumes nothing.
 use mathlib.Core.Path.{_≡_}
 use Prim.Native.Nat.{_+_, _*_, _≤_}
@@ -8,10 +8,10 @@ use denote.Ref.{now}
 use borrow.Author.Needs.{needs}
 use Rattle.slots.specs.Calls.{streamsNumber}
 use Rattle.packing.specs.Store.{placesIn}
 use Rattle.reading.proofs.Form.{index-fits, streams-asked}
-use Rattle.reading.proofs.Answering.{streams-refused, Streaming, circle-within, size-most, three-needs, streams-told}
-use Rattle.reading.proofs.calls.streams_form.Statement.{statement}
-use Rattle.reading.proofs.calls.streams_form.Tie as tie
+use Rattle.streaming.proofs.Answering.{streams-refused, Streaming, circle-within, size-most, three-needs, streams-told}
+use Rattle.streaming.proofs.streams_form.Statement.{statement}
+use Rattle.streaming.proofs.streams_form.Tie as tie
 
 -- the ways back
 abbrev at-start : tie.After-places-asked → tie.Start

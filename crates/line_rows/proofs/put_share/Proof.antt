@@ -1,12 +1,12 @@
--- `line_calls::put_share` meets its contract: by the answer of `is_done`.
+-- `line_rows::put_share` meets its contract: by the answer of `is_done`.
 -- Assumes nothing.
 use mathlib.Core.Path.{sym, _∙_, ap}
 use Rattle.slots.specs.declared.Head.{Head}
 use Rattle.slots.specs.Calls.{shareAtHead}
 use Rattle.call_rows.specs.Rows.{shareRow}
 use borrow.Author.Needs.{needs}
-use Rattle.line_calls.proofs.put_share.Statement.{statement}
-use Rattle.line_calls.proofs.put_share.Tie as tie
+use Rattle.line_rows.proofs.put_share.Statement.{statement}
+use Rattle.line_rows.proofs.put_share.Tie as tie
 
 is-done-requires : tie.Need-is-done-requires
 is-done-requires c κs = search needs

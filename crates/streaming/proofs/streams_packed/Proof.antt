@@ -1,8 +1,8 @@
--- `calls::streams_packed` meets its contract: it is the call on the form with four places a byte.
+-- `streaming::streams_packed` meets its contract: it is the call on the form with four places a byte.
 -- Assumes nothing.
 use borrow.Author.Needs.{needs}
-use Rattle.reading.proofs.calls.streams_packed.Statement.{statement}
-use Rattle.reading.proofs.calls.streams_packed.Tie as tie
+use Rattle.streaming.proofs.streams_packed.Statement.{statement}
+use Rattle.streaming.proofs.streams_packed.Tie as tie
 
 slice-aggregate-streams-form : tie.Need-slice-aggregate-streams-form
 slice-aggregate-streams-form c = search needs

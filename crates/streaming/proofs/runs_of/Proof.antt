@@ -1,4 +1,4 @@
--- `calls::runs_of` meets its contract: the circle is lent from the store, or unpacked first (`Form`).
+-- `streaming::runs_of` meets its contract: the circle is lent from the store, or unpacked first (`Form`).
 -- Assumes nothing.
 use mathlib.Core.Path.{_∙_, ap}
 use mathlib.Core.List.{List, _++_}
@@ -6,11 +6,11 @@ use Prim.Native.Nat.{ℕ, _+_, _*_, _/_, _≤_}
 use native.Mathlib.Omega.{arith}
 use lib.ListN.{length, drop}
 use Rattle.kept_bits.proofs.Rows.{reach-most, streams-shown}
 use Rattle.reading.proofs.Lent.{streams-alike}
 use Rattle.reading.proofs.Form.{part-within, part-long, plain-long, plain-alike, stretch-on, stretch-in, front-within, front-alike, circle-few, circle-reach}
 use borrow.Author.Needs.{needs}
-use Rattle.reading.proofs.calls.runs_of.Statement.{statement}
-use Rattle.reading.proofs.calls.runs_of.Tie as tie
+use Rattle.streaming.proofs.runs_of.Statement.{statement}
+use Rattle.streaming.proofs.runs_of.Tie as tie
 
 -- the ways back
 abbrev at-start : tie.After-bytes-a-block → tie.Start
