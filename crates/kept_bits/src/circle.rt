@@ -133,7 +133,7 @@ fn readable(long: usize, d: usize, from: StreamPlace, n: usize) -> bool
     (44 <= d) & (d % 8 == 4) & (from.0 <= 2) & (n <= d - from.1) & (reach <= long)
 }
 
-// The same where the circle has such places; else `out` stays.
+// Fills `out` with what the circle keeps for the places of a stream from `from` on, where the circle has them all; else `out` stays.
 pub fn read_stream(circle: &[u8], d: usize, from: StreamPlace, out: &mut [u8])
     ensures { λ _. ⌜ now (out .exit)
         ≡ cond (readable (length (now (circle .entry))) d from (length (now (out .entry))))

@@ -160,7 +160,7 @@ fn heads_from(begin: usize, width: usize) -> [CirclePlace; 32]
 }
 
 // The row and the column of the matrix where a stream place stands, as the matrix is written; of stream 2, which is read one further, where the place before it
-// does. Both are 0 where there is no such place.
+// does. Both are 0 where there is no such place, or no dummy before it.
 pub fn matrix_place(d: usize, place: StreamPlace) -> MatrixPlace
     ensures { λ r. ⌜ r ≡ matrixWithin d place ⌝ }
 {
