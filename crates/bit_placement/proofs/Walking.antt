@@ -1,7 +1,7 @@
 -- The loops that put bits along a code block's circle, clause 5.1.4.1.2 and 01 'Receive': unit after unit, from a version's start to the cut and round to the start.
 -- Assumes nothing.
 use mathlib.Core.Path.{_≡_, refl, sym, _∙_, ap, ap₂}
-use mathlib.Core.List.{List, [], _∷_, _++_}
+use mathlib.Core.List.{List, [], _∷_, _++_, append-nil}
 use Prim.Native.Nat.{ℕ, _+_, _-_, _*_, _/_, _%_, _≤_, _<_}
 use native.Mathlib.Decide.{decLt}
 use native.Mathlib.Omega.{arith}
@@ -216,3 +216,14 @@ module _ {D F soft v long : ℕ} (ok : Sends D F soft v long) where
 
         fits : Ncb ≤ length (shape D F)
         fits = rw (length-shape D F (omega (arith, ok .walked .filler))) (ok .cut .most)
+
+    -- where no unit is cut
+    pub round-uncut : T .rest ≡ 0
+        → bitPlaces (shape D F) (unitStart R (T .start)) (unitStart R (T .whole)) ++ bitPlaces (shape D F) (unitStart R 0) (unitStart R (T .start)) ≡ turnIn D F soft v
+    round-uncut z =
+        ap (λ (x : List ℕ). x ++ bitPlaces (shape D F) (unitStart R 0) (unitStart R (T .start)))
+        (sym (append-nil first) ∙ ap (λ (n : ℕ). first ++ take n (unitPlaces (unitWithin D F (T .whole)))) (sym z))
+        ∙ round-is refl
+      where
+        first : List ℕ
+        first = bitPlaces (shape D F) (unitStart R (T .start)) (unitStart R (T .whole))

@@ -2,6 +2,7 @@
 mod runs;
 mod units;
 
+use rate_matching::circle_length;
 use rate_matching::turn_of;
 use rate_matching::unit_at;
 ghost use mathlib.Core.Path.{_≡_};
@@ -26,10 +27,13 @@ pub fn put_turn(
     if turn.whole == 0 {
         return 0;
     }
-    if part.len() < 96 * ((d + 31) / 32) {
+    if part.len() < circle_length(d) {
         return 0;
     }
     let first = units::put_units(d, filler, turn.start, turn.whole, bits, 0, part);
+    if turn.rest == 0 {
+        return units::put_units(d, filler, 0, turn.start, bits, first, part);
+    }
     let cut = unit_at(d, filler, turn.whole);
     let second = units::put_rest(cut, turn.rest, bits, first, part);
     units::put_units(d, filler, 0, turn.start, bits, second, part)

@@ -32,7 +32,7 @@ use Rattle.bit_selection.specs.inner.Ring.{Holds, ringRoom, PutTo, TurnI
 use Rattle.bit_selection.proofs.UnitBits.{pair-stream, unit-reads, unit-few}
 use Rattle.bit_selection.proofs.TurnBits.{rest-within, units-turn}
 use Rattle.bit_selection.proofs.Ring.{bits-pair, putTo-join, ring-turn, ring-some}
-use Rattle.bit_selection.proofs.Rest.{rest-fits}
+use Rattle.bit_selection.proofs.Rest.{rest-none, rest-fits}
 
 -- ---- nothing to send, and nothing that can be sent
 
@@ -158,11 +158,8 @@ module _ {d0 d1 d2 : List ℕ} {F Ncb v : ℕ} {T : Turn} (z : Turned d0 d1 d2 F
     unfolding unitBits
     cut-bits some = bits-pair d0 d1 d2 U (cut-pair some) ∙ ap (bitsOf d0 d1 d2) (cut-is ∙ ap (unitWithin (length d0) F) whole-is)
 
-    rest-inside : T .rest ≤ length (pairBits d1 d2 U)
-    rest-inside = elim (decLt 0 (T .rest)) [
-      | yes some ↦ rw (cut-bits some, rest-is) (rest-within (length d0) F d0 d1 d2 refl (m .fits .first) (m .fits .second) (m .fits .some) (m .fits .filler) (m .fits .most) (m .cut))
-      | no none ↦ omega arith
-    ]
+    rest-inside : 0 < T .rest → T .rest ≤ length (pairBits d1 d2 U)
+    rest-inside some = rw (cut-bits some, rest-is) (rest-within (length d0) F d0 d1 d2 refl (m .fits .first) (m .fits .second) (m .fits .some) (m .fits .filler) (m .fits .most) (m .cut))
 
     rest-are : take (T .rest) (pairBits d1 d2 U) ≡ take rest (unitBits (length d0) d0 d1 d2 F (wholeUnits Ncb R))
     rest-are = elim (decLt 0 (T .rest)) [
@@ -181,13 +178,13 @@ module _ {d0 d1 d2 : List ℕ} {F Ncb v : ℕ} {T : Turn} (z : Turned d0 d1 d2 F
     put-whole = rw whole-is at p
 
     -- of the one that is cut
-    pub rest-needs : {U : Unit} → n ≤ long → U ≡ pairWithin (length d0) F (T .whole - 32)
-        → (length d2 ≡ length d1) × Reads (length d1) U × (0 < T .rest → U .first .0 ≡ 0 → ⊥) × (T .rest ≤ length (pairBits d1 d2 U)) × (n ≤ long)
-        × (0 < T .rest → n < E → n + (aloneCount U + bothCount U) ≤ long)
-    rest-needs {U} inside found = (m .fits .second ∙ sym (m .fits .first), rw (m .fits .first) (unit-reads (T .whole) (m .fits .most) (m .fits .filler) (cut-is found)), cut-pair found, rest-inside found, inside, fills)
+    pub rest-needs : {U : Unit} → 0 < T .rest → n ≤ long → U ≡ pairWithin (length d0) F (T .whole - 32)
+        → (length d2 ≡ length d1) × Reads (length d1) U × (U .first .0 ≡ 0 → ⊥) × (T .rest ≤ length (pairBits d1 d2 U)) × (n ≤ long)
+        × (n < E → n + (aloneCount U + bothCount U) ≤ long)
+    rest-needs {U} some inside found = (m .fits .second ∙ sym (m .fits .first), rw (m .fits .first) (unit-reads (T .whole) (m .fits .most) (m .fits .filler) (cut-is found)), cut-pair found some, rest-inside found some, inside, fills)
       where
-        fills : 0 < T .rest → n < E → n + (aloneCount U + bothCount U) ≤ long
-        fills some g =
+        fills : n < E → n + (aloneCount U + bothCount U) ≤ long
+        fills g =
             omega (
               arith,
               rest-room (m .cut) (m .version) start-is h put-whole l (omega (arith, rest-places)) g,
@@ -225,6 +222,12 @@ module _ {d0 d1 d2 : List ℕ} {F Ncb v : ℕ} {T : Turn} (z : Turned d0 d1 d2 F
 
       both : PutTo E (unitsFrom (length d0) d0 d1 d2 F (T .start) (wholeUnits Ncb R - T .start) ++ take rest (unitBits (length d0) d0 d1 d2 F (wholeUnits Ncb R))) (size₁ + T .rest) ring₀ 0 ring₂ k
       both = putTo-join whole (subst (λ (xs : List ℕ). PutTo E xs (T .rest) ring₁ n ring₂ k) (rest-are found) q)
+
+  -- and where none is cut, those without it
+  pub turn-uncut : {E size₁ size₃ : ℕ} {ring₀ ring₁ ring₃ : List ℕ} {n r : ℕ} → 0 < E → T .rest ≡ 0
+      → PutTo E (unitsFrom (length d0) d0 d1 d2 F (T .start) (T .whole - T .start)) size₁ ring₀ 0 ring₁ n
+      → PutTo E (unitsFrom (length d0) d0 d1 d2 F 0 (T .start - 0)) size₃ ring₁ n ring₃ r → TurnIn d0 d1 d2 F Ncb v E ring₃ r
+  turn-uncut h z p o = turn-in h refl p (rest-none (pairBits d1 d2 (pairWithin (length d0) F (T .whole - 32))) (p .inside) z) o
 
 -- the ring repeated
 pub matched-is : (d0 d1 d2 : List ℕ) (F Ncb v : ℕ) (out : List ℕ) → matchable (length d0) (length d1) (length d2) F Ncb v ≡ true

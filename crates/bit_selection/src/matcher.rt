@@ -183,13 +183,10 @@ fn put_rest(
     n: usize,
     most: usize,
 ) -> usize
-    requires { ⌜ (length (now d2) ≡ length (now d1)) × Reads (length (now d1)) unit × (0 < rest → unit .first .0 ≡ 0 → ⊥) × (rest ≤ length (pairBits (now d1) (now d2) unit))
-        × (n ≤ length (now ring)) × (0 < rest → n < most → n + (aloneCount unit + bothCount unit) ≤ length (now ring)) ⌝ }
+    requires { ⌜ (length (now d2) ≡ length (now d1)) × Reads (length (now d1)) unit × (unit .first .0 ≡ 0 → ⊥) × (rest ≤ length (pairBits (now d1) (now d2) unit))
+        × (n ≤ length (now ring)) × (n < most → n + (aloneCount unit + bothCount unit) ≤ length (now ring)) ⌝ }
     ensures { λ r. ⌜ PutTo most (take rest (pairBits (now (d1 .entry)) (now (d2 .entry)) unit)) rest (now (ring .entry)) n (now (ring .exit)) r ⌝ }
 {
-    if rest == 0 {
-        return n;
-    }
     if most <= n {
         return n;
     }
@@ -264,6 +261,9 @@ fn put_turn(
 {
     let turn = turn_of(d0.len(), filler, ncb, version);
     let n = put_units(d0, d1, d2, filler, turn.start, turn.whole, ring, 0, most);
+    if turn.rest == 0 {
+        return put_units(d0, d1, d2, filler, 0, turn.start, ring, n, most);
+    }
     let cut = pair_unit_at(d0.len(), filler, turn.whole - 32);
     let m = put_rest(d1, d2, cut, turn.rest, ring, n, most);
     put_units(d0, d1, d2, filler, 0, turn.start, ring, m, most)

@@ -20,10 +20,10 @@ use Rattle.rate_matching.specs.Columns.{numberOf, turnedRound, column}
 use Rattle.rate_matching.specs.SubBlocks.{rows, dummies, rowsBefore}
 use Rattle.rate_matching.specs.Circle.{circleLength}
 use Rattle.rate_matching.specs.Places.{plainPlace, placeNumber, longest}
-use Rattle.rate_matching.specs.Matrix.{headBy, headBegin, headWidth, matrixWithin}
+use Rattle.rate_matching.specs.Matrix.{headBy, matrixWithin}
 use Rattle.rate_matching.proofs.Columns.{column-rule}
 use Rattle.rate_matching.proofs.Places.{dummies-add, place-lt}
-use Rattle.rate_matching.proofs.Matrix.{written-is, head-at}
+use Rattle.rate_matching.proofs.Matrix.{first-head, written-is, head-at}
 use Rattle.slots.specs.Circle.{keptOn, missing, missingOn, sumFrom, lackingOn, heardOn}
 use Rattle.slots.proofs.Sums.{sumFrom-ext, sumFrom-shift, sumFrom-most}
 use Rattle.kept_bits.specs.Circle.{missingAt, countable, reachOf}
@@ -163,8 +163,8 @@ lacking-between circle k f h =
 
 -- entry y of stream 0's matrix is y place y
 y-place : (D y : ℕ) → placeBy (heads D 0) 1 y ≡ plainPlace (rows D) y
-unfolding placeBy plainPlace headBegin headWidth headBy
-y-place D y = rw (head-at 0 (rows D) (y % 32) (omega arith)) (omega arith)
+unfolding placeBy plainPlace headBy
+y-place D y = rw (head-at (rows D) 0 (y % 32) (omega arith), first-head (rows D) (column (y % 32))) (omega arith)
 
 -- and lies on the circle
 pub matrix-along : {D long : ℕ} (y n : ℕ) → D ≤ longest → 32 * rows D ≤ long → y + n ≤ 32 * rows D → Along long (heads D 0) 1 y n

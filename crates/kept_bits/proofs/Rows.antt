@@ -16,7 +16,7 @@ use Rattle.rate_matching.specs.declared.MatrixPlace.{MatrixPlace}
 use Rattle.rate_matching.specs.SubBlocks.{rows, dummies}
 use Rattle.rate_matching.specs.Circle.{circleLength}
 use Rattle.rate_matching.specs.Places.{placeNumber, placeOf, longest}
-use Rattle.rate_matching.specs.Matrix.{headsFrom, headBegin, headWidth, headsWithin, rowStep, writtenAt, matrixWithin}
+use Rattle.rate_matching.specs.Matrix.{headsOf, headsWithin, rowStep, writtenAt, matrixWithin}
 use Rattle.rate_matching.proofs.Places.{dummies-add, place-lt, place-on-circle}
 use Rattle.rate_matching.proofs.Matrix.{dummies-some, written-is, place-by, head-at}
 use Rattle.slots.specs.State.{perBlock}
@@ -26,7 +26,7 @@ use Rattle.kept_bits.specs.inner.Rows.{placeBy, keptBy, Along, Streams, 
 
 -- where the columns of stream s begin
 abbrev pub heads : ℕ → ℕ → List CirclePlace
-heads D s = headsFrom (headBegin D s) (headWidth D s)
+heads D s = headsOf (rows D) s
 
 module _ {D : ℕ} (w : Streams D) where
   no-whole-row : D % 32 ≡ 0 → ⊥
@@ -41,7 +41,7 @@ module _ {D : ℕ} (w : Streams D) where
 
   pub entry-place : (s i : ℕ) → s < 3 → i < D → placeBy (heads D s) (rowStep s) (writtenAt D (s, i)) ≡ placeNumber D s i
   unfolding placeBy
-  entry-place s i u h = rw (head-at (headBegin D s) (headWidth D s) (writtenAt D (s, i) % 32) (omega arith)) (sym (place-by D s i no-whole-row u h))
+  entry-place s i u h = rw (head-at (rows D) s (writtenAt D (s, i) % 32) (omega arith)) (sym (place-by D s i no-whole-row u h))
 
   -- the place of the matrix, and its entry
   pub matrix-there : (s i : ℕ) {m : MatrixPlace} → s < 3 → i < D → m ≡ matrixWithin D (s, i) → (m .column < 32) × (32 * m .row + m .column ≡ writtenAt D (s, i))

@@ -1,7 +1,9 @@
 // What the circle of one code block keeps: the bytes of a stream, and how many of them lack a bit.
 use rate_matching::CirclePlace;
+use rate_matching::LONGEST;
 use rate_matching::StreamPlace;
 use rate_matching::circle_length;
+use rate_matching::column_begin;
 use rate_matching::column_heads;
 use rate_matching::matrix_place;
 ghost use mathlib.Core.Path.{_≡_};
@@ -10,12 +12,10 @@ ghost use mathlib.Core.List.{_++_};
 ghost use Prim.Native.Nat.{ℕ, _+_, _-_, _*_, _≤_, _<_};
 ghost use lib.ListN.{length, drop, replicate};
 ghost use Rattle.laws.specs.Lists.{tab, tabFrom};
+ghost use Rattle.rate_matching.specs.Matrix.{headsWithin};
 ghost use Rattle.slots.specs.Circle.{sumFrom, keptOn, missing, lackingOn, shown, streamOn, streamsOn};
 ghost use Rattle.kept_bits.specs.Circle.{missingAt, countable, readable, showable};
 ghost use Rattle.kept_bits.specs.inner.Rows.{keptBelow, keptBy, missingBelow, missingBy, shownAt, AlongRow, Along, Stretch};
-
-// The largest D: that of K = 6,144.
-const LONGEST: usize = 6148;
 
 // 1 where a byte of a room lacks a bit.
 fn missing(byte: u8) -> u8
@@ -144,33 +144,33 @@ pub fn read_stream(circle: &[u8], d: usize, from: StreamPlace, out: &mut [u8])
     }
 }
 
-// How many entries of row `row` of stream 0's matrix lack a bit, from column `from` to column `to`.
-fn count_row(circle: &[u8], heads: [CirclePlace; 32], row: usize, from: usize, to: usize) -> usize
-    requires { ⌜ (from ≤ to) × AlongRow (length (now circle)) heads row from (to - from) ⌝ }
-    ensures { λ r. ⌜ r ≡ sumFrom (missingBelow (now (circle .entry)) heads row) from (to - from) ⌝ }
+// How many entries of row `row` of the matrix of stream 0 of d places lack a bit, from column `from` to column `to`.
+fn count_row(circle: &[u8], d: usize, row: usize, from: usize, to: usize) -> usize
+    requires { ⌜ (from ≤ to) × AlongRow (length (now circle)) (headsWithin d 0) row from (to - from) ⌝ }
+    ensures { λ r. ⌜ r ≡ sumFrom (missingBelow (now (circle .entry)) (headsWithin d 0) row) from (to - from) ⌝ }
 {
     let mut n: usize = 0;
     let mut p = from;
     while p < to {
-        let head = heads[p];
+        let head = column_begin(d, 0, p);
         n += missing(circle[head.0 + row]) as usize;
         p += 1;
     }
     n
 }
 
-// How many entries of stream 0's matrix lack a bit before a row and a column.
-fn count_before(circle: &[u8], heads: [CirclePlace; 32], row: usize, column: usize) -> usize
-    requires { ⌜ (column < 32) × Along (length (now circle)) heads 1 0 (32 * row + column) ⌝ }
-    ensures { λ r. ⌜ r ≡ sumFrom (missingBy (now (circle .entry)) heads) 0 (32 * row + column) ⌝ }
+// How many of its entries lack a bit before a row and a column. They are few, so that each column's head is worked out where it is asked for.
+fn count_before(circle: &[u8], d: usize, row: usize, column: usize) -> usize
+    requires { ⌜ (column < 32) × Along (length (now circle)) (headsWithin d 0) 1 0 (32 * row + column) ⌝ }
+    ensures { λ r. ⌜ r ≡ sumFrom (missingBy (now (circle .entry)) (headsWithin d 0)) 0 (32 * row + column) ⌝ }
 {
     let mut n = 0;
     let mut above = 0;
     while above < row {
-        n += count_row(circle, heads, above, 0, 32);
+        n += count_row(circle, d, above, 0, 32);
         above += 1;
     }
-    n + count_row(circle, heads, row, 0, column)
+    n + count_row(circle, d, row, 0, column)
 }
 
 // How many data places of a code block of size k lack a bit, the first f being filler. Stream 0 has the front of the circle, so that all of it is counted, many
@@ -180,13 +180,12 @@ fn lacking_on(circle: &[u8], k: usize, f: usize) -> usize
     ensures { λ r. ⌜ r ≡ lackingOn (now (circle .entry)) k f ⌝ }
 {
     let d = k + 4;
-    let heads = column_heads(d, 0);
     let tail = matrix_place(d, StreamPlace(0, k));
     let end = 32 * (tail.row + 1);
     let all = count_missing(&circle[..end]);
     let data = matrix_place(d, StreamPlace(0, f));
-    let front = count_before(circle, heads, data.row, data.column);
-    let back = count_row(circle, heads, tail.row, tail.column, 32);
+    let front = count_before(circle, d, data.row, data.column);
+    let back = count_row(circle, d, tail.row, tail.column, 32);
     all - front - back
 }
 

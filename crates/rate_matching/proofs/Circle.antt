@@ -191,10 +191,14 @@ module _ {Ncb R : ℕ} (cut : Cut Ncb R) where
 
 -- ---- the start of an uplink
 
+pub eighths-all : (R : ℕ) → 0 < R → eighths (circleLength R) R ≡ 12
+unfolding circleLength
+eighths-all R h = div-eq-of-lt-le {k = 12} (8 * R) (omega arith) (omega arith)
+
 -- k0 = R·(24·v + 2)
 pub start-is : (R v : ℕ) → 0 < R → startOf R v ≡ R * (24 * v + 2)
-unfolding startOf startIn circleLength
-start-is R v h = ap (λ (n : ℕ). R * (2 * n * v + 2)) (div-eq-of-lt-le {k = 12} (8 * R) (omega arith) (omega arith))
+unfolding startOf startIn
+start-is R v h = ap (λ (n : ℕ). R * (2 * n * v + 2)) (eighths-all R h)
 
 pub start-lt : (R v : ℕ) → 0 < R → v ≤ 3 → startOf R v < circleLength R
 unfolding startOf circleLength

@@ -18,7 +18,7 @@ use Rattle.rate_matching.proofs.Kept.{keep-from}
 use Rattle.rate_matching.specs.declared.Unit.{Unit}
 use Rattle.rate_matching.specs.Columns.{column}
 use Rattle.rate_matching.specs.SubBlocks.{rows, dummies, rowsBefore}
-use Rattle.rate_matching.specs.Circle.{Cut, startIn}
+use Rattle.rate_matching.specs.Circle.{circleLength, Cut, startIn}
 use Rattle.turbo.specs.Streams.{withoutFiller}
 use Rattle.turbo.proofs.Streams.{past-filler}
 use Rattle.rate_matching.specs.Places.{longest, circlePlace, placeNumber, placeOf, streamOf, entryOf, InStreams}
@@ -27,6 +27,7 @@ use Rattle.rate_matching.specs.Shape.{blank, shape, bitPlaces, second, p
 use Rattle.rate_matching.specs.Units.{unitStart, startUnit, wholeUnits, restPlaces, unitWithin, pairUnit, noUnit, aloneCount, bitsBefore}
 use Rattle.rate_matching.proofs.Columns.{column-rule}
 use Rattle.rate_matching.proofs.Places.{dummies-add, place-lt, held-place}
+use Rattle.rate_matching.proofs.Matrix.{pair-head}
 use Rattle.rate_matching.proofs.Walk.{getD-map, turn-pos, turn-lt}
 use Rattle.rate_matching.proofs.Circle.{circle-holds, eighths, start-below}
 use Rattle.rate_matching.proofs.ShapeTurn.{bitPlaces-none, turn-parts, blanks, stream, length-shape}
@@ -72,6 +73,13 @@ module _ {Ncb R : ℕ} (cut : Cut Ncb R) where
   rest-before h = elim (decLt (wholeUnits Ncb R) 64) [
     | yes l ↦ l
     | no l ↦ absurd (omega (arith, cut-place, cut .most, unit-last R, starts-rise R 64 (wholeUnits Ncb R) (omega arith)))
+  ]
+
+  -- and all do where the circle is not cut
+  pub whole-all : Ncb ≡ circleLength R → wholeUnits Ncb R ≡ 64
+  whole-all e = elim (decLt (wholeUnits Ncb R) 64) [
+    | yes l ↦ absurd (omega (arith, cut-place, rest-few, next-start, unit-last R, starts-rise R (wholeUnits Ncb R + 1) 64 (omega arith)))
+    | no l ↦ omega (arith, whole-most)
   ]
 
   -- k0 is the head of a unit
@@ -218,7 +226,7 @@ module _ (D F : ℕ) (some : D % 8 ≡ 4) (few : F < D) (c : ℕ) (h : c < 32) w
   -- how many bits its first q places have
   counted-is : (q : ℕ) → counted e f last (ordered .alone) (ordered .after) q ≡ bitsBefore (pairUnit D F c) (circlePlace (j + q))
   unfolding bitsBefore pairUnit aloneCount second
-  counted-is q = go (ltb (j + 2 * f) (j + q)) refl
+  counted-is q = rw (pair-head R c) (go (ltb (j + 2 * f) (j + q)) refl)
     where
       alone : e ≤ f
       alone = ordered .alone

@@ -18,8 +18,10 @@ use Rattle.rate_matching.specs.Circle.{circleLength}
 use Rattle.rate_matching.specs.Places.{longest}
 use Rattle.rate_matching.specs.Walk.{itself}
 use Rattle.rate_matching.specs.Shape.{shape, bitPlaces, second, pairPlaces, lastPlace}
+use Rattle.rate_matching.specs.Matrix.{columnHead}
 use Rattle.rate_matching.specs.Units.{columnUnit, pairUnit, unitAt, noUnit, unitWithin, columnWithin, pairWithin, alonePlace, aloneCount, bothCount, unitPlaces, bitsBefore, unitStart, Lies}
 use Rattle.rate_matching.proofs.Columns.{column-rule}
+use Rattle.rate_matching.proofs.Matrix.{first-head, pair-head}
 use Rattle.rate_matching.proofs.ShapeColumns.{column-places, pair-places}
 use Rattle.rate_matching.proofs.Units.{some-dummies, low-start, low-next, high-start, high-next}
 
@@ -127,7 +129,7 @@ module _ {D F c : ℕ} (most : D ≤ longest) (few : F < D) (h : c < 32) where
   column-lies = record {
     alone = omega arith;
     both = omega (arith, column-rowed .high);
-    end = omega (arith, column-rowed .few, mul-le-mul-right R h);
+    end = omega (arith, first-head R c, column-rowed .few, mul-le-mul-right R h);
   }
 
   pub pair-lies : Lies (pairUnit D F c)
@@ -135,16 +137,16 @@ module _ {D F c : ℕ} (most : D ≤ longest) (few : F < D) (h : c < 32) where
   pair-lies = record {
     alone = omega (arith, column-rowed .alone);
     both = omega (arith, column-rowed .last, column-rowed .column);
-    end = omega (arith, column-rowed .few, mul-le-mul-right (2 * R) h);
+    end = omega (arith, pair-head R c, column-rowed .few, mul-le-mul-right (2 * R) h);
   }
 
   column-ends : columnUnit D F c .end .0 ≤ circleLength R
   unfolding columnUnit circleLength
-  column-ends = omega (arith, mul-le-mul-right R h)
+  column-ends = omega (arith, first-head R c, mul-le-mul-right R h)
 
   pair-ends : pairUnit D F c .end .0 ≤ circleLength R
   unfolding pairUnit lastPlace circleLength
-  pair-ends = omega (arith, mul-le-mul-right (2 * R) h)
+  pair-ends = omega (arith, pair-head R c, mul-le-mul-right (2 * R) h)
 
   -- ---- there are so many
 
@@ -167,11 +169,10 @@ module _ {D F c : ℕ} (most : D ≤ longest) (few : F < D) (h : c < 32) where
   -- ---- its places that hold a bit
 
   pub column-named : unitPlaces (columnUnit D F c) ≡ bitPlaces (shape D F) (c * R) (c * R + R)
-  unfolding unitPlaces columnUnit aloneCount bothCount tab tabFrom
+  unfolding unitPlaces columnUnit tab tabFrom
   column-named =
-      let none : (c * R + f + 1 - (c * R + f)) / 2 ≡ 0 = omega arith in
-      let left : c * R + R - (c * R + f) ≡ R - f = omega (arith, column-rowed .high) in
-      ap₂ (λ (k n : ℕ). tab k (alonePlace (columnUnit D F c)) ++ tabFrom (c * R + f) n itself) none left
+      ap₂ (λ (k n : ℕ). tab k (alonePlace (columnUnit D F c)) ++ tabFrom (columnHead R 0 c + f) n itself) alone-none column-count
+      ∙ ap (λ (i : ℕ). tabFrom (i + f) (R - f) itself) (first-head R c)
       ∙ sym (column-places D F (omega arith) c h)
 
   module _ (some : D % 8 ≡ 4) where
@@ -193,14 +194,15 @@ module _ {D F c : ℕ} (most : D ≤ longest) (few : F < D) (h : c < 32) where
             map-tabFrom e (f - e) second (λ (k : ℕ). j + k)
             ∙ ap (λ (i : ℕ). tabFrom i (f - e) (λ (q : ℕ). j + (2 * q + 1))) (sym (add-zero e))
             ∙ tabFrom-shift e 0 (f - e) (λ (q : ℕ). j + (2 * q + 1))
-            ∙ tab-ext (f - e) (λ (q : ℕ). j + (2 * (e + q) + 1)) (λ (q : ℕ). j + (2 * e + 1) + 2 * q) (λ q l. omega arith)
+            ∙ tab-ext (f - e) (λ (q : ℕ). j + (2 * (e + q) + 1)) (alonePlace (pairUnit D F c)) (λ q l. omega (arith, pair-head R c))
 
         both : map (λ (k : ℕ). j + k) (tabFrom (2 * f) (lastPlace R p - 2 * f) itself) ≡ tabFrom (pairUnit D F c .both .0) (bothCount (pairUnit D F c)) itself
         both =
-            let left : j + lastPlace R p - (j + 2 * f) ≡ lastPlace R p - 2 * f = omega arith in
+            let head : j ≡ columnHead R 1 c = sym (pair-head R c) in
+            let left : lastPlace R p - 2 * f ≡ columnHead R 1 c + lastPlace R p - (columnHead R 1 c + 2 * f) = omega arith in
             map-tabFrom (2 * f) (lastPlace R p - 2 * f) itself (λ (k : ℕ). j + k)
             ∙ sym (tabFrom-shift j (2 * f) (lastPlace R p - 2 * f) itself)
-            ∙ ap (λ (n : ℕ). tabFrom (j + 2 * f) n itself) (sym left)
+            ∙ ap₂ (λ (i n : ℕ). tabFrom (i + 2 * f) n itself) head left
 
 -- ---- its bits before a place, as they are counted
 
@@ -233,7 +235,7 @@ module _ {D F : ℕ} (u : ℕ) (most : D ≤ longest) (few : F < D) {U : Unit} (
   -- a column of stream 0 has its bits from there on
   pub column-begins : u < 32 → U .both .0 ≡ u * rows D + rowsBefore (dummies D + F) (column u)
   unfolding columnUnit
-  column-begins h = ap (λ (x : Unit). x .both .0) (told-low h)
+  column-begins h = ap (λ (x : Unit). x .both .0) (told-low h) ∙ rw (first-head (rows D) u)
 
   pub told-high : 32 ≤ u → u < 64 → U ≡ pairUnit D F (u - 32)
   told-high h l = is ∙ unit-there most few l ∙ unit-high D F h

@@ -18,23 +18,29 @@ use Rattle.rate_matching.specs.Places.{circlePlace, longest}
 unfoldable pub lengthWithin : ℕ → ℕ
 lengthWithin D = cond (leb D longest) (circleLength (rows D)) 0
 
--- where column p of the matrix, as it is written, begins: columns of `width` places lie in the order of table 5.1.4-1 from `begin` on
-unfoldable pub headBy : ℕ → ℕ → ℕ → ℕ
-headBy begin width p = begin + column p * width
-
-unfoldable pub headsFrom : ℕ → ℕ → List CirclePlace
-headsFrom begin width = map circlePlace (tab 32 (headBy begin width))
-
--- stream 0 has the first 32·R places, streams 1 and 2 the others by turns
+-- stream 0 has the first 32·R places of the circle, streams 1 and 2 the others by turns
 unfoldable pub headBegin : ℕ → ℕ → ℕ
-headBegin D s = cond (eqb s 0) 0 (32 * rows D + (s - 1))
+headBegin R s = cond (eqb s 0) 0 (32 * R + (s - 1))
 
+-- the places from one column of stream s to the next
 unfoldable pub headWidth : ℕ → ℕ → ℕ
-headWidth D s = cond (eqb s 0) (rows D) (2 * rows D)
+headWidth R s = cond (eqb s 0) R (2 * R)
 
--- where the columns of stream s begin; all at place 0 where streams of D places have no such stream
+-- where column c of stream s begins, as it is sent
+unfoldable pub columnHead : ℕ → ℕ → ℕ → ℕ
+columnHead R s c = headBegin R s + c * headWidth R s
+
+-- where column p of the matrix, as it is written, begins: table 5.1.4-1 says as which column it is sent
+unfoldable pub headBy : ℕ → ℕ → ℕ → ℕ
+headBy R s p = columnHead R s (column p)
+
+-- where the columns of stream s begin
+unfoldable pub headsOf : ℕ → ℕ → List CirclePlace
+headsOf R s = map circlePlace (tab 32 (headBy R s))
+
+-- the same; all at place 0 where streams of D places have no such stream
 unfoldable pub headsWithin : ℕ → ℕ → List CirclePlace
-headsWithin D s = cond (leb D longest && leb s 2) (headsFrom (headBegin D s) (headWidth D s)) (replicate 32 (circlePlace 0))
+headsWithin D s = cond (leb D longest && leb s 2) (headsOf (rows D) s) (replicate 32 (circlePlace 0))
 
 -- a row further is one place further in stream 0, and two where streams 1 and 2 stand by turns
 unfoldable pub rowStep : ℕ → ℕ

@@ -13,13 +13,14 @@ use Rattle.rate_matching.specs.SubBlocks.{rows, dummies, rowsBefore}
 use Rattle.rate_matching.specs.Walk.{itself}
 use Rattle.rate_matching.specs.Shape.{second, lastPlace}
 use Rattle.rate_matching.specs.Places.{circlePlace, longest}
+use Rattle.rate_matching.specs.Matrix.{columnHead}
 
 -- column c of stream 0 on the circle of streams of D places, the first F of stream 0 absent: its bits begin behind the dummies and the filler
 unfoldable pub columnUnit : ℕ → ℕ → ℕ → Unit
 columnUnit D F c = record {
-  alone = circlePlace (c * rows D + rowsBefore (dummies D + F) (column c));
-  both = circlePlace (c * rows D + rowsBefore (dummies D + F) (column c));
-  end = circlePlace (c * rows D + rows D);
+  alone = circlePlace (columnHead (rows D) 0 c + rowsBefore (dummies D + F) (column c));
+  both = circlePlace (columnHead (rows D) 0 c + rowsBefore (dummies D + F) (column c));
+  end = circlePlace (columnHead (rows D) 0 c + rows D);
   early = (0, column c + 32 * rowsBefore (dummies D + F) (column c) - dummies D);
   first = (0, column c + 32 * rowsBefore (dummies D + F) (column c) - dummies D);
 }
@@ -28,9 +29,9 @@ columnUnit D F c = record {
 -- column 31 wraps to a dummy
 unfoldable pub pairUnit : ℕ → ℕ → ℕ → Unit
 pairUnit D F c = record {
-  alone = circlePlace (32 * rows D + c * (2 * rows D) + second (rowsBefore (dummies D) (column c + 1)));
-  both = circlePlace (32 * rows D + c * (2 * rows D) + 2 * rowsBefore (dummies D + F) (column c));
-  end = circlePlace (32 * rows D + c * (2 * rows D) + lastPlace (rows D) (column c));
+  alone = circlePlace (columnHead (rows D) 1 c + second (rowsBefore (dummies D) (column c + 1)));
+  both = circlePlace (columnHead (rows D) 1 c + 2 * rowsBefore (dummies D + F) (column c));
+  end = circlePlace (columnHead (rows D) 1 c + lastPlace (rows D) (column c));
   early = (2, column c + 1 + 32 * rowsBefore (dummies D) (column c + 1) - dummies D);
   first = (1, column c + 32 * rowsBefore (dummies D + F) (column c) - dummies D);
 }

@@ -3,7 +3,9 @@ mod mapping;
 mod shortened;
 pub mod table;
 
+pub use mapping::LONGEST;
 pub use mapping::circle_length;
+pub use mapping::column_begin;
 pub use mapping::column_heads;
 pub use mapping::column_unit_at;
 pub use mapping::matrix_place;

@@ -7,12 +7,14 @@ use crate::Unit;
 use crate::table::column_at;
 ghost use mathlib.Core.Path.{_≡_};
 ghost use Prim.Native.Nat.{_*_, _≤_, _<_};
+ghost use lib.ListN.{getD};
 ghost use Rattle.rate_matching.specs.SubBlocks.{rows, rowsBefore};
-ghost use Rattle.rate_matching.specs.Matrix.{lengthWithin, headsFrom, headsWithin, matrixWithin};
+ghost use Rattle.rate_matching.specs.Places.{circlePlace};
+ghost use Rattle.rate_matching.specs.Matrix.{lengthWithin, columnHead, headsOf, headsWithin, matrixWithin};
 ghost use Rattle.rate_matching.specs.Units.{columnUnit, pairUnit, noUnit, unitWithin, columnWithin, pairWithin};
 
 // The largest D: that of K = 6,144.
-pub(crate) const LONGEST: usize = 6148;
+pub const LONGEST: usize = 6148;
 
 // The rows of the matrix, R.
 pub fn rows_of(d: usize) -> usize
@@ -38,6 +40,21 @@ fn rows_before(i: usize, p: usize) -> usize
     if i <= p { 0 } else { (i - p - 1) / 32 + 1 }
 }
 
+// Where column c of a stream begins on a circle of `rows` rows, as it is sent: stream 0 has the front of the circle, R places a column; streams 1 and 2 stand
+// behind it by turns.
+fn column_head(rows: usize, stream: usize, c: usize) -> CirclePlace
+    requires { ⌜ (rows ≤ 193) × (stream ≤ 2) × (c < 32) ⌝ }
+    ensures { λ r. ⌜ r ≡ circlePlace (columnHead rows stream c) ⌝ }
+{
+    let begin = if stream == 0 {
+        0
+    } else {
+        32 * rows + (stream - 1)
+    };
+    let width = if stream == 0 { rows } else { 2 * rows };
+    CirclePlace(begin + c * width)
+}
+
 // Column c of stream 0: its bits begin behind the dummies and the filler.
 fn column_unit(d: usize, filler: usize, c: usize) -> Unit
     requires { ⌜ (d ≤ 6148) × (filler < d) × (c < 32) ⌝ }
@@ -47,7 +64,7 @@ fn column_unit(d: usize, filler: usize, c: usize) -> Unit
     let dummies = 32 * rows - d;
     let p = column_at(c);
     let row = rows_before(dummies + filler, p);
-    let begin = c * rows;
+    let begin = column_head(rows, 0, c).0;
     let both = CirclePlace(begin + row);
     let end = CirclePlace(begin + rows);
     let first = StreamPlace(0, p + 32 * row - dummies);
@@ -70,7 +87,7 @@ fn pair_unit(d: usize, filler: usize, c: usize) -> Unit
     let p = column_at(c);
     let lone = rows_before(dummies, p + 1);
     let row = rows_before(dummies + filler, p);
-    let begin = 32 * rows + c * (2 * rows);
+    let begin = column_head(rows, 1, c).0;
     Unit {
         alone: CirclePlace(begin + (2 * lone + 1)),
         both: CirclePlace(begin + 2 * row),
@@ -137,26 +154,33 @@ pub fn column_heads(d: usize, stream: usize) -> [CirclePlace; 32]
         let none = CirclePlace(0);
         return [none; 32];
     }
-    let rows = rows_of(d);
-    if stream == 0 {
-        return heads_from(0, rows);
-    }
-    heads_from(32 * rows + (stream - 1), 2 * rows)
+    heads_of(rows_of(d), stream)
 }
 
-// The first places of 32 columns of `width` places, the columns lying one after another from `begin` on.
-fn heads_from(begin: usize, width: usize) -> [CirclePlace; 32]
-    requires { ⌜ (begin ≤ 18528) × (width ≤ 386) ⌝ }
-    ensures { λ r. ⌜ r ≡ headsFrom begin width ⌝ }
+// The same of a matrix of `rows` rows.
+fn heads_of(rows: usize, stream: usize) -> [CirclePlace; 32]
+    requires { ⌜ (rows ≤ 193) × (stream ≤ 2) ⌝ }
+    ensures { λ r. ⌜ r ≡ headsOf rows stream ⌝ }
 {
     let none = CirclePlace(0);
     let mut heads = [none; 32];
     let mut p = 0;
     while p < 32 {
-        heads[p] = CirclePlace(begin + column_at(p) * width);
+        heads[p] = column_head(rows, stream, column_at(p));
         p += 1;
     }
     heads
+}
+
+// One of them: where column p begins, for a loop that asks for few.
+pub fn column_begin(d: usize, stream: usize, p: usize) -> CirclePlace
+    ensures { λ r. ⌜ r ≡ getD (headsWithin d stream) p (circlePlace 0) ⌝ }
+{
+    let there = (d <= LONGEST) & (stream <= 2) & (p < 32);
+    if !there {
+        return CirclePlace(0);
+    }
+    column_head(rows_of(d), stream, column_at(p))
 }
 
 // The row and the column of the matrix where a stream place stands, as the matrix is written; of stream 2, which is read one further, where the place before it

@@ -14,19 +14,26 @@ ghost use lib.ListN.{length};
 ghost use Rattle.rate_matching.specs.SubBlocks.{rows};
 ghost use Rattle.rate_matching.specs.Circle.{Cut, cutAt};
 ghost use Rattle.rate_matching.specs.Shape.{shape, bitPlaces};
-ghost use Rattle.rate_matching.specs.Units.{unitStart, startUnit, bitsBefore, Lies, Fitting};
+ghost use Rattle.rate_matching.specs.Units.{unitStart, unitOf, startUnit, bitsBefore, Lies, Fitting};
 ghost use Rattle.rate_matching.specs.Turns.{matchable, unitsOf, turnOf, turnLength};
+
+// The unit that begins at place R·(2·m + 2) of a circle of R rows.
+fn unit_of(m: usize) -> usize
+    requires { ⌜ m ≤ 36 ⌝ }
+    ensures { λ r. ⌜ r ≡ unitOf m ⌝ }
+{
+    if m < 15 {
+        return 2 * m + 2;
+    }
+    m + 17
+}
 
 // The unit that begins at the start of a version, on a circle of `rows` rows that is cut at `ncb`.
 fn start_unit(ncb: usize, rows: usize, version: usize) -> usize
     requires { ⌜ Cut ncb rows × (rows ≤ 193) × (version ≤ 3) ⌝ }
     ensures { λ r. ⌜ r ≡ startUnit ncb rows version ⌝ }
 {
-    let m = (ncb + (8 * rows - 1)) / (8 * rows) * version;
-    if m < 15 {
-        return 2 * m + 2;
-    }
-    m + 17
+    unit_of((ncb + (8 * rows - 1)) / (8 * rows) * version)
 }
 
 // How many bits of a unit lie before the place where the circle is cut.
@@ -73,12 +80,20 @@ pub fn cut_at(soft: usize, d: usize) -> usize
     if soft / 96 < rows { soft } else { 96 * rows }
 }
 
-// The turn of redundancy version `version` on a circle that is cut at `ncb`, of a code block with streams of d places, `filler` of them filler.
+// The turn of redundancy version `version` on a circle that is cut at `ncb`, of a code block with streams of d places, `filler` of them filler. A circle that
+// is not cut, as every uplink's, has all 64 units and needs no division.
 fn turn_in(d: usize, filler: usize, ncb: usize, version: usize) -> Turn
     requires { ⌜ matchable d d d filler ncb version ≡ true ⌝ }
     ensures { λ r. ⌜ r ≡ unitsOf d filler ncb version ⌝ }
 {
     let rows = rows_of(d);
+    if ncb == 96 * rows {
+        return Turn {
+            start: unit_of(12 * version),
+            whole: 64,
+            rest: 0,
+        };
+    }
     let start = start_unit(ncb, rows, version);
     let whole = 32 + (ncb - 32 * rows) / (2 * rows);
     let rest = bits_before(unit_at(d, filler, whole), CirclePlace(ncb));

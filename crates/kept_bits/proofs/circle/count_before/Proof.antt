@@ -5,6 +5,7 @@ use Prim.Native.Nat.{ℕ, _+_, _-_, _*_, _≤_}
 use native.Mathlib.Nat.{sub-zero}
 use native.Mathlib.Omega.{arith}
 use lib.ListN.{length}
+use Rattle.rate_matching.specs.Matrix.{headsWithin}
 use Rattle.slots.specs.Circle.{sumFrom}
 use Rattle.kept_bits.specs.inner.Rows.{missingBy, AlongRow}
 use Rattle.kept_bits.proofs.Gathering.{row-along}
@@ -13,10 +14,10 @@ use Rattle.kept_bits.proofs.circle.count_before.Statement.{statement}
 use Rattle.kept_bits.proofs.circle.count_before.Tie as tie
 
 abbrev Inv-loop : tie.InvT-loop
-Inv-loop circle heads row column n₀ above₀ n above = (above ≤ row) × Before circle heads n above
+Inv-loop circle d row column n₀ above₀ n above = (above ≤ row) × Before circle (headsWithin d 0) n above
 
 abbrev μ-loop : tie.MeasureT-loop
-μ-loop circle heads row column n₀ above₀ n above = row - above
+μ-loop circle d row column n₀ above₀ n above = row - above
 
 -- the ways back
 abbrev at-start : tie.At-loop Inv-loop μ-loop → tie.Start Inv-loop μ-loop
@@ -24,8 +25,8 @@ at-start c = c .before .before
 
 -- so many columns of a row that is not behind the last lie on the circle
 row-needs : (c : tie.At-loop Inv-loop μ-loop) (row n : ℕ) → 32 * row + n ≤ 32 * at-start c .args .row + at-start c .args .column → n ≤ 32
-    → AlongRow (length (at-start c .args .circle .now)) (at-start c .args .heads) row 0 n
-row-needs c row n h few = rw one (row-along (at-start c .args .heads) 1 row 0 n (omega arith) (omega arith) (omega arith) (at-start c .pre .1))
+    → AlongRow (length (at-start c .args .circle .now)) (headsWithin (at-start c .args .d) 0) row 0 n
+row-needs c row n h few = rw one (row-along (headsWithin (at-start c .args .d) 0) 1 row 0 n (omega arith) (omega arith) (omega arith) (at-start c .pre .1))
   where
     one : row ≡ 1 * row
     one = omega arith
@@ -53,7 +54,7 @@ count-row-requires-2 c κs = let s = at-start (c .before) in (omega arith, rw (s
 
 -- the loop has passed every row before the last
 rest : (c : tie.After-count-row2 Inv-loop μ-loop) → let e = at-start (c .before .before) .args in
-    (c .before .before .loop .n + c .count-row2 .result ≡ sumFrom (missingBy (e .circle .now) (e .heads)) 0 (32 * e .row + e .column)) × (c .count-row2 .result ≤ e .column)
+    (c .before .before .loop .n + c .count-row2 .result ≡ sumFrom (missingBy (e .circle .now) (headsWithin (e .d) 0)) 0 (32 * e .row + e .column)) × (c .count-row2 .result ≤ e .column)
 rest c =
     let s = at-start (c .before .before) in
     let all : c .before .before .loop .above ≡ s .args .row = omega (arith, c .before .before .loop .inv .0) in

@@ -4,6 +4,7 @@ use Prim.Native.Nat.{_+_, _-_, _≤_, _<_}
 use native.Mathlib.Omega.{arith}
 use lib.ListN.{length, getD}
 use Rattle.rate_matching.specs.Places.{circlePlace}
+use Rattle.rate_matching.specs.Matrix.{headsWithin}
 use Rattle.kept_bits.specs.inner.Rows.{keptBelow, missingBelow}
 use Rattle.kept_bits.proofs.Bytes.{missing-le}
 use Rattle.kept_bits.proofs.Lacking.{InRow, in-row-start, in-row-few, in-row-next, in-row-finish}
@@ -11,28 +12,34 @@ use Rattle.kept_bits.proofs.circle.count_row.Statement.{statement}
 use Rattle.kept_bits.proofs.circle.count_row.Tie as tie
 
 abbrev Inv-loop : tie.InvT-loop
-Inv-loop circle row from to heads n₀ p₀ n p = InRow circle heads row from to n p
+Inv-loop circle d row from to n₀ p₀ n p = InRow circle (headsWithin d 0) row from to n p
 
 abbrev μ-loop : tie.MeasureT-loop
-μ-loop circle row from to heads n₀ p₀ n p = to - p
+μ-loop circle d row from to n₀ p₀ n p = to - p
 
 -- the ways back
 abbrev at-start : tie.At-loop Inv-loop μ-loop → tie.Start Inv-loop μ-loop
 at-start c = c .before .before
 
-abbrev at-turn : tie.After-struct-known Inv-loop μ-loop → tie.In-loop Inv-loop μ-loop
-at-turn c = c .before .before
+abbrev at-head : tie.After-struct-known Inv-loop μ-loop → tie.After-column-begin Inv-loop μ-loop
+at-head c = c .before
+
+abbrev at-head-from-missing : tie.After-missing Inv-loop μ-loop → tie.After-column-begin Inv-loop μ-loop
+at-head-from-missing c = at-head (c .before .before)
 
 abbrev at-turn-from-missing : tie.After-missing Inv-loop μ-loop → tie.In-loop Inv-loop μ-loop
-at-turn-from-missing c = at-turn (c .before .before)
+at-turn-from-missing c = at-head-from-missing c .before
 
 -- the place lies on the circle
 lies : (c : tie.In-loop Inv-loop μ-loop) → let e = at-start (c .before) .args in
-    (c .before .loop .p < 32) × (getD (e .t2) (c .before .loop .p) (circlePlace 0) .0 + e .row < length (e .circle .now))
+    (c .before .loop .p < 32) × (getD (headsWithin (e .d) 0) (c .before .loop .p) (circlePlace 0) .0 + e .row < length (e .circle .now))
 lies c =
     let s = at-start (c .before) in
     let w = c .before .loop .inv .passed in
     (omega (arith, w, s .pre .0, s .pre .1 .most), s .pre .1 .places (c .before .loop .p) (w .0) (omega (arith, w, s .pre .0)))
+
+found : (c : tie.After-column-begin Inv-loop μ-loop) → let e = at-start (c .before .before) .args in c .column-begin .result .0 + e .row < length (e .circle .now)
+found c = rw (c .column-begin .ensures) (lies (c .before) .1)
 
 -- it is 0 or 1
 counted : (c : tie.After-missing Inv-loop μ-loop) → c .missing .result ≤ 1
@@ -41,17 +48,14 @@ counted c = rw (c .missing .ensures) (missing-le _)
 loop-holds : tie.Need-loop-holds Inv-loop μ-loop
 loop-holds c = in-row-start (c .before .pre .0)
 
-mul-head : tie.Need-mul-head Inv-loop μ-loop
-mul-head c = omega (arith, lies c .0)
-
-array-copy-out-head : tie.Need-array-copy-out-head Inv-loop μ-loop
-array-copy-out-head c = lies c .0
+column-begin-requires : tie.Need-column-begin-requires Inv-loop μ-loop
+column-begin-requires c κs = tt
 
 add-missing : tie.Need-add-missing Inv-loop μ-loop
-add-missing c = omega (arith, lies (at-turn c) .1)
+add-missing c = omega (arith, found (at-head c))
 
 shared-slice-read-missing : tie.Need-shared-slice-read-missing Inv-loop μ-loop
-shared-slice-read-missing c = lies (at-turn (c .before)) .1
+shared-slice-read-missing c = found (at-head (c .before))
 
 missing-requires : tie.Need-missing-requires Inv-loop μ-loop
 missing-requires c κs = tt
@@ -70,7 +74,7 @@ loop-less c = omega arith
 
 loop-again : tie.Need-loop-again Inv-loop μ-loop
 unfolding missingBelow keptBelow
-loop-again c = in-row-next (omega arith) (c .missing .ensures) (at-turn-from-missing c .before .loop .inv)
+loop-again c = in-row-next (omega arith) (rw (at-head-from-missing c .column-begin .ensures) at (c .missing .ensures)) (at-turn-from-missing c .before .loop .inv)
 
 returns : tie.Need-returns Inv-loop μ-loop
 returns c = in-row-finish (omega arith) (c .before .loop .inv)
@@ -82,8 +86,7 @@ count-row-spec =
     Inv-loop
     μ-loop
     loop-holds
-    mul-head
-    array-copy-out-head
+    column-begin-requires
     add-missing
     shared-slice-read-missing
     missing-requires

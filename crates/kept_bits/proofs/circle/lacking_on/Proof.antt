@@ -16,11 +16,8 @@ use Rattle.kept_bits.proofs.circle.lacking_on.Statement.{statement}
 use Rattle.kept_bits.proofs.circle.lacking_on.Tie as tie
 
 -- the ways back
-abbrev at-start : tie.After-column-heads → tie.Start
+abbrev at-start : tie.After-matrix-place → tie.Start
 at-start c = c .before .before
-
-abbrev at-heads : tie.After-matrix-place → tie.After-column-heads
-at-heads c = c .before
 
 abbrev at-tail : tie.After-count-missing-arg → tie.After-matrix-place
 at-tail c = c .before .before
@@ -35,22 +32,22 @@ abbrev at-front : tie.After-count-row → tie.After-count-before
 at-front c = c .before
 
 -- the end of stream 0 is on the circle
-end-fits : (c : tie.After-matrix-place) → let end = 32 * (c .matrix-place .result .row + 1) in (end ≤ length (at-start (at-heads c) .args .circle .now)) × (end ≤ 6176)
+end-fits : (c : tie.After-matrix-place) → let end = 32 * (c .matrix-place .result .row + 1) in (end ≤ length (at-start c .args .circle .now)) × (end ≤ 6176)
 end-fits c =
-    let s = at-start (at-heads c) in
+    let s = at-start c in
     let l = tail-last (s .args .circle .now) (s .pre .0) (s .pre .1) (c .matrix-place .ensures) refl .1 in
     let f = stream-fits (s .args .circle .now) (s .pre .0) (s .pre .1) (c .matrix-place .ensures) refl in
     (omega (arith, l, f), omega (arith, l, f))
 
 -- the counts add up
-parts : (c : tie.After-count-row) → let s = at-start (at-heads (at-tail (at-all (at-bits (at-front c)) .before))) in
+parts : (c : tie.After-count-row) → let s = at-start (at-tail (at-all (at-bits (at-front c)) .before)) in
     at-all (at-bits (at-front c)) .count-missing .result
     ≡ at-front c .count-before .result + (lackingOn (s .args .circle .now) (s .args .k) (s .args .f) + c .count-row .result)
 parts c =
     let bits = at-bits (at-front c) in
     let tail = at-tail (at-all bits .before) in
-    let s = at-start (at-heads tail) in
-    let found = at-heads tail .column-heads .ensures ∙ heads-there (s .pre .1) in
+    let s = at-start tail in
+    let found = heads-there (s .pre .1) in
     let first = bits .matrix-place2 .result in
     let last = tail .matrix-place .result in
     all-parts (s .args .circle .now) (s .pre .0) (s .pre .1) (tail .matrix-place .ensures) (bits .matrix-place2 .ensures) (at-all bits .count-missing .ensures)
@@ -59,9 +56,6 @@ parts c =
 
 add-d : tie.Need-add-d
 add-d c = search needs
-
-column-heads-requires : tie.Need-column-heads-requires
-column-heads-requires c κs = search needs
 
 matrix-place-requires : tie.Need-matrix-place-requires
 matrix-place-requires c κs = search needs
@@ -84,19 +78,19 @@ matrix-place-requires-2 c κs = search needs
 count-before-requires : tie.Need-count-before-requires
 count-before-requires c κs =
     let tail = at-tail (at-all c .before) in
-    let s = at-start (at-heads tail) in
+    let s = at-start tail in
     let t = tail .matrix-place .ensures in (
       bits-first (s .args .circle .now) (s .pre .0) (s .pre .1) t (c .matrix-place2 .ensures) .0,
-      rw (at-heads tail .column-heads .ensures ∙ heads-there (s .pre .1)) (front-needs (s .args .circle .now) (s .pre .0) (s .pre .1) t (c .matrix-place2 .ensures)),
+      rw (heads-there (s .pre .1)) (front-needs (s .args .circle .now) (s .pre .0) (s .pre .1) t (c .matrix-place2 .ensures)),
     )
 
 count-row-requires : tie.Need-count-row-requires
 count-row-requires c κs =
     let tail = at-tail (at-all (at-bits c) .before) in
-    let s = at-start (at-heads tail) in
+    let s = at-start tail in
     let t = tail .matrix-place .ensures in (
       omega (arith, tail-last (s .args .circle .now) (s .pre .0) (s .pre .1) t refl .0),
-      rw (at-heads tail .column-heads .ensures ∙ heads-there (s .pre .1)) (back-needs (s .args .circle .now) (s .pre .0) (s .pre .1) t refl),
+      rw (heads-there (s .pre .1)) (back-needs (s .args .circle .now) (s .pre .0) (s .pre .1) t refl),
     )
 
 sub-result : tie.Need-sub-result
@@ -113,7 +107,6 @@ lacking-on-spec =
     tie.close
     (tie.spec
     add-d
-    column-heads-requires
     matrix-place-requires
     add-end
     mul-end

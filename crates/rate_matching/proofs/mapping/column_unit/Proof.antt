@@ -1,12 +1,13 @@
 -- `mapping::column_unit` meets its contract: the rows found are those of the definition (`UnitPlaces`).
 -- Assumes nothing.
 use mathlib.Core.Path.{refl}
-use Prim.Native.Nat.{_+_, _-_, _*_, _<_}
+use Prim.Native.Nat.{_+_, _-_, _*_, _≤_, _<_}
 use native.Mathlib.Nat.{mul-le-mul-right}
 use native.Mathlib.Omega.{arith}
 use Rattle.rate_matching.specs.SubBlocks.{rows, dummies, rowsBefore}
 use Rattle.rate_matching.specs.Units.{columnUnit}
 use Rattle.rate_matching.proofs.Columns.{column-rule}
+use Rattle.rate_matching.proofs.Matrix.{first-head}
 use Rattle.rate_matching.proofs.UnitPlaces.{Rowed, rowed}
 use borrow.Author.Needs.{needs}
 use Rattle.rate_matching.proofs.mapping.column_unit.Statement.{statement}
@@ -18,6 +19,9 @@ at-rows-of c = c .before
 
 abbrev at-column-at : tie.After-rows-before → tie.After-column-at
 at-column-at c = c .before
+
+abbrev at-rows-before : tie.After-column-head → tie.After-rows-before
+at-rows-before c = c .before
 
 -- the rows that were found, and the function's entry
 abbrev entry : tie.After-rows-before → tie.Start
@@ -31,6 +35,13 @@ found c =
     let s = entry c in
     let low : at-column-at c .column-at .result < 32 = rw (at-column-at c .column-at .ensures) (column-rule (s .args .c) (s .pre .2) .0) in
     rowed (s .pre .0) (s .pre .1) low (at-rows-of (at-column-at c) .rows-of .ensures) refl refl (c .rows-before .ensures)
+
+-- the column begins on the circle
+begun : (c : tie.After-column-head) → c .column-head .result .0 ≤ 18528
+begun c =
+    let b = at-rows-before c in
+    let R = at-rows-of (at-column-at b) .rows-of .result in
+    rw (c .column-head .ensures) (omega (arith, first-head R (entry b .args .c), found b .few, mul-le-mul-right R (entry b .pre .2)))
 
 rows-of-requires : tie.Need-rows-of-requires
 rows-of-requires c κs = search needs
@@ -53,30 +64,29 @@ add-rows-before c = omega arith
 rows-before-requires : tie.Need-rows-before-requires
 rows-before-requires c κs = search needs
 
-mul-begin : tie.Need-mul-begin
-unfolding rows
-mul-begin c = let r = found c in omega (arith, r .few, mul-le-mul-right (at-rows-of (at-column-at c) .rows-of .result) (entry c .pre .2))
+column-head-requires : tie.Need-column-head-requires
+column-head-requires c κs = (found c .few, omega arith, entry c .pre .2)
 
 add-t12 : tie.Need-add-t12
-unfolding rows
-add-t12 c = let r = found c in omega (arith, r .few, r .high, mul-le-mul-right (at-rows-of (at-column-at c) .rows-of .result) (entry c .pre .2))
+add-t12 c = let r = found (at-rows-before c) in omega (arith, r .few, r .high, begun c)
 
 add-t12-2 : tie.Need-add-t12-2
-unfolding rows
-add-t12-2 c = let r = found c in omega (arith, r .few, r .high, mul-le-mul-right (at-rows-of (at-column-at c) .rows-of .result) (entry c .pre .2))
+add-t12-2 c = let r = found (at-rows-before c) in omega (arith, r .few, begun c)
 
 mul-t12 : tie.Need-mul-t12
-mul-t12 c = let r = found c in omega (arith, r .few, r .high)
+mul-t12 c = let r = found (at-rows-before c) in omega (arith, r .few, r .high)
 
-add-t13 : tie.Need-add-t13
-add-t13 c = let r = found c in omega (arith, r .few, r .high, r .column)
+add-t14 : tie.Need-add-t14
+add-t14 c = let r = found (at-rows-before c) in omega (arith, r .few, r .high, r .column)
 
-sub-t14 : tie.Need-sub-t14
-sub-t14 c = found c .behind
+sub-t15 : tie.Need-sub-t15
+sub-t15 c = found (at-rows-before c) .behind
 
 returns : tie.Need-returns
 unfolding columnUnit dummies
-returns c = simp (c .rows-before .ensures, at-column-at c .column-at .ensures, at-rows-of (at-column-at c) .rows-of .ensures)
+returns c =
+    let b = at-rows-before c in
+    simp (c .column-head .ensures, b .rows-before .ensures, at-column-at b .column-at .ensures, at-rows-of (at-column-at b) .rows-of .ensures)
 
 pub column-unit-spec : {M : Type 1} → statement M
 column-unit-spec =
@@ -88,10 +98,10 @@ column-unit-spec =
     column-at-requires
     add-rows-before
     rows-before-requires
-    mul-begin
+    column-head-requires
     add-t12
     add-t12-2
     mul-t12
-    add-t13
-    sub-t14
+    add-t14
+    sub-t15
     returns)

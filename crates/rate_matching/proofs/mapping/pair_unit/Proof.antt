@@ -1,13 +1,14 @@
 -- `mapping::pair_unit` meets its contract: the rows found are those of the definition (`UnitPlaces`).
 -- Assumes nothing.
 use mathlib.Core.Path.{refl}
-use Prim.Native.Nat.{_-_, _*_, _<_}
+use Prim.Native.Nat.{_-_, _*_, _≤_, _<_}
 use native.Mathlib.Nat.{mul-le-mul-right}
 use native.Mathlib.Omega.{arith}
 use Rattle.rate_matching.specs.SubBlocks.{rows, dummies}
 use Rattle.rate_matching.specs.Shape.{second, lastPlace}
 use Rattle.rate_matching.specs.Units.{pairUnit}
 use Rattle.rate_matching.proofs.Columns.{column-rule}
+use Rattle.rate_matching.proofs.Matrix.{pair-head}
 use Rattle.rate_matching.proofs.UnitPlaces.{Rowed, rowed}
 use borrow.Author.Needs.{needs}
 use Rattle.rate_matching.proofs.mapping.pair_unit.Statement.{statement}
@@ -26,6 +27,9 @@ at-column-at c = c .before
 abbrev at-rows-before : tie.After-rows-before2 → tie.After-rows-before
 at-rows-before c = c .before
 
+abbrev at-rows-before2 : tie.After-column-head → tie.After-rows-before2
+at-rows-before2 c = c .before
+
 -- the rows that were found, and the function's entry
 abbrev entry : tie.After-rows-before2 → tie.Start
 entry c = at-start (at-rows-of (at-column-at (at-rows-before c)))
@@ -37,6 +41,13 @@ found c =
     let s = entry c in
     let low : at-column-at (at-rows-before c) .column-at .result < 32 = rw (at-column-at (at-rows-before c) .column-at .ensures) (column-rule (s .args .c) (s .pre .2) .0) in
     rowed (s .pre .0) (s .pre .1) low (at-rows-of (at-column-at (at-rows-before c)) .rows-of .ensures) refl (at-rows-before c .rows-before .ensures) (c .rows-before2 .ensures)
+
+-- the column begins on the circle
+begun : (c : tie.After-column-head) → c .column-head .result .0 ≤ 18528
+begun c =
+    let b = at-rows-before2 c in
+    let R = at-rows-of (at-column-at (at-rows-before b)) .rows-of .result in
+    rw (c .column-head .ensures) (omega (arith, pair-head R (entry b .args .c), found b .few, mul-le-mul-right (2 * R) (entry b .pre .2)))
 
 rows-of-requires : tie.Need-rows-of-requires
 rows-of-requires c κs = search needs
@@ -66,66 +77,60 @@ add-rows-before-2 c = omega arith
 rows-before-requires-2 : tie.Need-rows-before-requires-2
 rows-before-requires-2 c κs = search needs
 
-mul-begin : tie.Need-mul-begin
-mul-begin c = let r = found c in omega (arith, r .few, r .high, r .alone, r .column, mul-le-mul-right (2 * at-rows-of (at-column-at (at-rows-before c)) .rows-of .result) (entry c .pre .2))
-
-mul-begin-2 : tie.Need-mul-begin-2
-mul-begin-2 c = let r = found c in omega (arith, r .few, r .high, r .alone, r .column, mul-le-mul-right (2 * at-rows-of (at-column-at (at-rows-before c)) .rows-of .result) (entry c .pre .2))
-
-mul-begin-3 : tie.Need-mul-begin-3
-mul-begin-3 c = let r = found c in omega (arith, r .few, r .high, r .alone, r .column, mul-le-mul-right (2 * at-rows-of (at-column-at (at-rows-before c)) .rows-of .result) (entry c .pre .2))
-
-add-begin : tie.Need-add-begin
-add-begin c = let r = found c in omega (arith, r .few, r .high, r .alone, r .column, mul-le-mul-right (2 * at-rows-of (at-column-at (at-rows-before c)) .rows-of .result) (entry c .pre .2))
+column-head-requires : tie.Need-column-head-requires
+column-head-requires c κs = (found c .few, omega arith, entry c .pre .2)
 
 mul-t10 : tie.Need-mul-t10
-mul-t10 c = let r = found c in omega (arith, r .few, r .high, r .alone, r .column, mul-le-mul-right (2 * at-rows-of (at-column-at (at-rows-before c)) .rows-of .result) (entry c .pre .2))
+mul-t10 c = let r = found (at-rows-before2 c) in omega (arith, r .few, r .high, r .alone, r .column, begun c)
 
 add-t12 : tie.Need-add-t12
-add-t12 c = let r = found c in omega (arith, r .few, r .high, r .alone, r .column, mul-le-mul-right (2 * at-rows-of (at-column-at (at-rows-before c)) .rows-of .result) (entry c .pre .2))
+add-t12 c = let r = found (at-rows-before2 c) in omega (arith, r .few, r .high, r .alone, r .column, begun c)
 
-add-t11 : tie.Need-add-t11
-add-t11 c = let r = found c in omega (arith, r .few, r .high, r .alone, r .column, mul-le-mul-right (2 * at-rows-of (at-column-at (at-rows-before c)) .rows-of .result) (entry c .pre .2))
+add-t13 : tie.Need-add-t13
+add-t13 c = let r = found (at-rows-before2 c) in omega (arith, r .few, r .high, r .alone, r .column, begun c)
 
 mul-t14 : tie.Need-mul-t14
-mul-t14 c = let r = found c in omega (arith, r .few, r .high, r .alone, r .column, mul-le-mul-right (2 * at-rows-of (at-column-at (at-rows-before c)) .rows-of .result) (entry c .pre .2))
+mul-t14 c = let r = found (at-rows-before2 c) in omega (arith, r .few, r .high, r .alone, r .column, begun c)
 
 add-t15 : tie.Need-add-t15
-add-t15 c = let r = found c in omega (arith, r .few, r .high, r .alone, r .column, mul-le-mul-right (2 * at-rows-of (at-column-at (at-rows-before c)) .rows-of .result) (entry c .pre .2))
+add-t15 c = let r = found (at-rows-before2 c) in omega (arith, r .few, r .high, r .alone, r .column, begun c)
 
 mul-t17 : tie.Need-mul-t17
-mul-t17 c = let r = found c in omega (arith, r .few, r .high, r .alone, r .column, mul-le-mul-right (2 * at-rows-of (at-column-at (at-rows-before c)) .rows-of .result) (entry c .pre .2))
+mul-t17 c = let r = found (at-rows-before2 c) in omega (arith, r .few, r .high, r .alone, r .column, begun c)
 
 sub-t19 : tie.Need-sub-t19
-sub-t19 c = let r = found c in omega (arith, r .last)
+sub-t19 c = let r = found (at-rows-before2 c) in omega (arith, r .last)
 
 add-t20 : tie.Need-add-t20
-add-t20 c = let r = found c in omega (arith, r .few, r .high, r .alone, r .column, mul-le-mul-right (2 * at-rows-of (at-column-at (at-rows-before c)) .rows-of .result) (entry c .pre .2))
+add-t20 c = let r = found (at-rows-before2 c) in omega (arith, r .few, r .high, r .alone, r .column, begun c)
 
 add-t22 : tie.Need-add-t22
-add-t22 c = let r = found c in omega (arith, r .few, r .high, r .alone, r .column, mul-le-mul-right (2 * at-rows-of (at-column-at (at-rows-before c)) .rows-of .result) (entry c .pre .2))
+add-t22 c = let r = found (at-rows-before2 c) in omega (arith, r .few, r .high, r .alone, r .column, begun c)
 
 mul-t23 : tie.Need-mul-t23
-mul-t23 c = let r = found c in omega (arith, r .few, r .high, r .alone, r .column, mul-le-mul-right (2 * at-rows-of (at-column-at (at-rows-before c)) .rows-of .result) (entry c .pre .2))
+mul-t23 c = let r = found (at-rows-before2 c) in omega (arith, r .few, r .high, r .alone, r .column, begun c)
 
 add-t24 : tie.Need-add-t24
-add-t24 c = let r = found c in omega (arith, r .few, r .high, r .alone, r .column, mul-le-mul-right (2 * at-rows-of (at-column-at (at-rows-before c)) .rows-of .result) (entry c .pre .2))
+add-t24 c = let r = found (at-rows-before2 c) in omega (arith, r .few, r .high, r .alone, r .column, begun c)
 
 sub-t25 : tie.Need-sub-t25
-sub-t25 c = found c .early
+sub-t25 c = found (at-rows-before2 c) .early
 
 mul-t27 : tie.Need-mul-t27
-mul-t27 c = let r = found c in omega (arith, r .few, r .high, r .alone, r .column, mul-le-mul-right (2 * at-rows-of (at-column-at (at-rows-before c)) .rows-of .result) (entry c .pre .2))
+mul-t27 c = let r = found (at-rows-before2 c) in omega (arith, r .few, r .high, r .alone, r .column, begun c)
 
 add-t28 : tie.Need-add-t28
-add-t28 c = let r = found c in omega (arith, r .few, r .high, r .alone, r .column, mul-le-mul-right (2 * at-rows-of (at-column-at (at-rows-before c)) .rows-of .result) (entry c .pre .2))
+add-t28 c = let r = found (at-rows-before2 c) in omega (arith, r .few, r .high, r .alone, r .column, begun c)
 
 sub-t29 : tie.Need-sub-t29
-sub-t29 c = found c .behind
+sub-t29 c = found (at-rows-before2 c) .behind
 
 returns : tie.Need-returns
 unfolding pairUnit dummies second lastPlace
-returns c = simp (c .rows-before2 .ensures, at-rows-before c .rows-before .ensures, at-column-at (at-rows-before c) .column-at .ensures, at-rows-of (at-column-at (at-rows-before c)) .rows-of .ensures)
+returns c =
+    let b = at-rows-before2 c in
+    let a = at-column-at (at-rows-before b) in
+    simp (c .column-head .ensures, b .rows-before2 .ensures, at-rows-before b .rows-before .ensures, a .column-at .ensures, at-rows-of a .rows-of .ensures)
 
 pub pair-unit-spec : {M : Type 1} → statement M
 pair-unit-spec =
@@ -139,13 +144,10 @@ pair-unit-spec =
     rows-before-requires
     add-rows-before-2
     rows-before-requires-2
-    mul-begin
-    mul-begin-2
-    mul-begin-3
-    add-begin
+    column-head-requires
     mul-t10
     add-t12
-    add-t11
+    add-t13
     mul-t14
     add-t15
     mul-t17
