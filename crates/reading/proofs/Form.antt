@@ -60,11 +60,6 @@ unfolding bytesABlock placesAByte
 bytes-there true r room h = omega (arith, places-are true room)
 bytes-there false r room h = omega (arith, places-are false room)
 
--- so that its number is not above the store's length
-pub index-fits : (four : Bool) (i : ℕ) (store : List ℕ) → i * perBlock + perBlock ≤ length (placesIn four store) → i ≤ length store
-index-fits true i store h = omega (arith, four-times store)
-index-fits false i store h = omega (arith, plain-times store)
-
 -- the places of a stretch lie on any circle of enough places
 pub stretch-on : {long long′ D s i n : ℕ} → Stretch long D s i n → perBlock ≤ long′ → Stretch long′ D s i n
 stretch-on {s = s} w h = record { sized = w .sized; stream = w .stream; begin = w .begin; within = w .within; room = omega (arith, h, reach-most s (w .sized .most)) }

@@ -5,3 +5,4 @@ pub mod Zeros
 pub mod Sequence
 pub mod Release
 pub mod Answering
+pub mod Kept

@@ -2,14 +2,14 @@
 -- And what it is to answer and to store.
 -- Assumes nothing.
 use mathlib.Core.Path.{_≡_, refl, sym, _∙_, ap, ap₂}
-use mathlib.Core.Bool.{Bool, false, cond}
+use mathlib.Core.Bool.{Bool, true, false, cond}
 use mathlib.Core.List.{List, _++_}
 use Prim.Native.Nat.{ℕ}
 use native.Mathlib.Nat.{mul-le-mul-right}
 use native.Mathlib.Omega.{arith}
 use lib.Dec.{eqb}
 use lib.ListN.{length}
-use borrow.Author.Tests.{ltb-false}
+use borrow.Author.Tests.{ltb-false, ne-eqb}
 use Rattle.laws.specs.Bits.{EachBelow}
 use Rattle.refusals.specs.Refusals.{firstOf}
 use Rattle.refusals.proofs.Refusals.{firstOf-append}
@@ -17,8 +17,9 @@ use Rattle.segmentation.proofs.Segmentation.{good-size}
 use Rattle.codeword.specs.Shares.{grant}
 use Rattle.codeword.specs.Build.{badVersion}
 use Rattle.codeword.proofs.Accepted.{given-bits}
+use Rattle.slots.specs.declared.Head.{Head}
 use Rattle.slots.specs.declared.State.{State}
-use Rattle.slots.specs.declared.Outcome.{Outcome}
+use Rattle.slots.specs.declared.Answer.{Answer}
 use Rattle.slots.specs.declared.Answer.the-variants.{StillLacking, Refused}
 use Rattle.slots.specs.State.{perBlock, roomLength}
 use Rattle.slots.specs.Room.{agreeing, roomAt, withRoom}
@@ -30,7 +31,10 @@ use Rattle.slots.proofs.Acceptance.{receives}
 use Rattle.slots.proofs.Accepted.{good, room-within}
 use Rattle.packing.specs.Store.{placesIn, inForm, placesAsked}
 use Rattle.packing.proofs.Stores.{form-back, asked-enough}
-use Rattle.reception.specs.inner.Parts.{bitsRules, numberAfter, InSlot}
+use Rattle.slot_calls.specs.declared.Owner.{Owner}
+use Rattle.slot_calls.specs.Owner.{ownerOf}
+use Rattle.slot_calls.proofs.OwnerParts.{owner-number, owner-head}
+use Rattle.reception.specs.inner.Parts.{bitsRules, numberAfter, numberBy, placesBy, answerBy, storeBy, InSlot}
 
 -- ---- the number: the owner's, and then that of the bits
 
@@ -71,32 +75,66 @@ in-slot state {long} {slot} terminal {Q} {N} {v} {bits} told zero sized shared =
 
 -- ---- the answer and the store, of a store of either form
 
-module _ (four : Bool) (state : State) (slot terminal Q N v : ℕ) (bits store : List ℕ) {number : ℕ}
-    (told : number ≡ receiveNumber state (length (placesIn four store)) slot terminal Q N v bits) where
-  -- a refusal
-  module _ (refused : eqb number 0 ≡ false) where
-    pub refused-answered : _≡_ {A = Outcome} (record { answer = Refused number; state = state }) (receiveOutcome state slot terminal Q N v bits (placesIn four store))
-    unfolding receiveOutcome unlessRefused
-    refused-answered = rw (← told, refused)
+-- what is answered and stored where the number is 0 or not
+module _ (four : Bool) (o : Owner) (M slot Q N v : ℕ) (bits store : List ℕ) {number : ℕ} (told : number ≡ numberBy o Q N v bits) where
+  pub refused-by : (number ≡ 0 → ⊥) → (Refused number ≡ answerBy o M slot Q N v bits (placesIn four store)) × (store ≡ storeBy four o M slot Q N v bits store)
+  unfolding answerBy storeBy
+  refused-by h = (rw (← told, ne-eqb number 0 h), rw (← told, ne-eqb number 0 h))
 
-    pub refused-stored : EachBelow 256 store → store ≡ inForm four (receiveStore state slot terminal Q N v bits (placesIn four store))
-    unfolding receiveStore
-    refused-stored below = sym (form-back four store below) ∙ rw (← told, refused)
+  pub put-by : number ≡ 0 → {count : ℕ} (store′ : List ℕ) → EachBelow 256 store′
+      → placesIn four store′ ≡ withRoom M slot (received agreeing (o .head .share) (o .head .size) (grant Q N v (length bits)) bits (roomAt M slot (placesIn four store))) (placesIn four store)
+      → count ≡ lacking (o .head .size) (roomAt M slot (placesIn four store′))
+      → (StillLacking count ≡ answerBy o M slot Q N v bits (placesIn four store)) × (store′ ≡ storeBy four o M slot Q N v bits store)
+  unfolding answerBy storeBy placesBy
+  put-by zero store′ below put counted = (
+    rw (← told, zero) (ap StillLacking (counted ∙ ap (λ (l : List ℕ). lacking (o .head .size) (roomAt M slot l)) put)),
+    rw (← told, zero) (sym (form-back four store′ below) ∙ ap (inForm four) put),
+  )
 
-  -- the bits are put
-  module _ (zero : number ≡ 0) {size soft count : ℕ} (store′ : List ℕ) (sized : size ≡ sizeAtHead state slot) (shared : soft ≡ shareAtHead state slot)
-      (put : placesIn four store′ ≡ withRoom (state .blocks) slot (received agreeing soft size (grant Q N v (length bits)) bits (roomAt (state .blocks) slot (placesIn four store))) (placesIn four store))
-      (counted : count ≡ lacking size (roomAt (state .blocks) slot (placesIn four store′))) where
-    places : placesIn four store′ ≡ receiveStore state slot terminal Q N v bits (placesIn four store)
-    unfolding receiveStore
-    places = rw (← told, zero) (rw (sized, shared) at put)
+-- by the rules of the state and the store
+module _ (four : Bool) (state : State) (slot terminal Q N v : ℕ) (bits store : List ℕ) {asked : ℕ} (a : asked ≡ placesAsked four (length store)) {o : Owner}
+    (e : o ≡ ownerOf state asked slot terminal) where
+  sized : o .head .size ≡ sizeAtHead state slot
+  unfolding sizeAtHead
+  sized = ap (λ (h : Head). h .size) (owner-head state asked slot terminal e)
 
-    pub stored : EachBelow 256 store′ → store′ ≡ inForm four (receiveStore state slot terminal Q N v bits (placesIn four store))
-    stored below = sym (form-back four store′ below) ∙ ap (inForm four) places
+  shared : o .head .share ≡ shareAtHead state slot
+  unfolding shareAtHead
+  shared = ap (λ (h : Head). h .share) (owner-head state asked slot terminal e)
 
-    pub answered : _≡_ {A = Outcome} (record { answer = StillLacking count; state = state }) (receiveOutcome state slot terminal Q N v bits (placesIn four store))
-    unfolding receiveOutcome unlessRefused
-    answered =
-        rw (← told, zero)
-        (ap (λ (n : ℕ). record { answer = StillLacking n; state = state })
-        ((rw sized at counted) ∙ ap (λ (l : List ℕ). lacking (sizeAtHead state slot) (roomAt (state .blocks) slot l)) places))
+  number-is : numberBy o Q N v bits ≡ receiveNumber state (length (placesIn four store)) slot terminal Q N v bits
+  unfolding numberBy
+  number-is = number-told four state store slot terminal Q N v bits a (owner-number state asked slot terminal e) sized refl
+
+  -- number 0 says that the slot's room lies within the store and has the block's code blocks
+  pub by-ready : numberBy o Q N v bits ≡ 0 → InSlot (state .blocks) slot (o .head .size) (o .head .share) (grant Q N v (length bits)) bits (length (placesIn four store))
+  by-ready zero = in-slot state terminal number-is zero sized shared
+
+  places-are : eqb (receiveNumber state (length (placesIn four store)) slot terminal Q N v bits) 0 ≡ true
+      → placesBy o (state .blocks) slot Q N v bits (placesIn four store) ≡ receiveStore state slot terminal Q N v bits (placesIn four store)
+  unfolding placesBy receiveStore
+  places-are z = rw (z, sized, shared) refl
+
+  stays : eqb (receiveNumber state (length (placesIn four store)) slot terminal Q N v bits) 0 ≡ false
+      → placesIn four store ≡ receiveStore state slot terminal Q N v bits (placesIn four store)
+  unfolding receiveStore
+  stays z = rw z refl
+
+  pub by-answer : {answer : Answer} → answer ≡ answerBy o (state .blocks) slot Q N v bits (placesIn four store) → answer ≡ receiveOutcome state slot terminal Q N v bits (placesIn four store) .answer
+  unfolding answerBy receiveOutcome unlessRefused
+  by-answer h = h ∙ go (eqb (receiveNumber state (length (placesIn four store)) slot terminal Q N v bits) 0) refl
+    where
+      go : (t : Bool) → eqb (receiveNumber state (length (placesIn four store)) slot terminal Q N v bits) 0 ≡ t
+          → answerBy o (state .blocks) slot Q N v bits (placesIn four store) ≡ receiveOutcome state slot terminal Q N v bits (placesIn four store) .answer
+      go true z = rw (number-is, z, places-are z, sized) refl
+      go false z = rw (number-is, z) refl
+
+  pub by-store : {store′ : List ℕ} → EachBelow 256 store → store′ ≡ storeBy four o (state .blocks) slot Q N v bits store
+      → store′ ≡ inForm four (receiveStore state slot terminal Q N v bits (placesIn four store))
+  unfolding storeBy
+  by-store below h = h ∙ go (eqb (receiveNumber state (length (placesIn four store)) slot terminal Q N v bits) 0) refl
+    where
+      go : (t : Bool) → eqb (receiveNumber state (length (placesIn four store)) slot terminal Q N v bits) 0 ≡ t
+          → storeBy four o (state .blocks) slot Q N v bits store ≡ inForm four (receiveStore state slot terminal Q N v bits (placesIn four store))
+      go true z = rw (number-is, z) (ap (inForm four) (places-are z))
+      go false z = rw (number-is, z) (sym (form-back four store below) ∙ ap (inForm four) (stays z))

@@ -24,7 +24,8 @@ fn bytes_a_row(four: bool) -> usize
     if four { 24 } else { 96 }
 }
 
-// Puts the bits of a code block of size k in `part`, the bytes of its circle, and counts its data places that then lack a bit.
+// Puts the bits of a code block of size k in `part`, the bytes of its circle, and counts its data places that then lack a bit. A circle with four places a byte
+// is unpacked into an array that is long enough.
 fn put_part(
     four: bool,
     k: usize,
@@ -39,10 +40,13 @@ fn put_part(
         ≡ partAfter (k + 4) filler (cutAt soft (rows (k + 4))) version (now (bits .entry)) (placesIn four (now (part .entry))) ⌝ }
     ensures count { λ r. ⌜ r ≡ lackingOn (placesIn four (now (part .exit))) k filler ⌝ }
 {
-    if four {
-        return packed::put_packed(k, filler, soft, version, bits, part);
+    if !four {
+        return parts::put_circle(k, filler, soft, version, bits, part);
     }
-    parts::put_circle(k, filler, soft, version, bits, part)
+    if 4 * part.len() <= packed::SHORT_CIRCLE {
+        return packed::put_short(k, filler, soft, version, bits, part);
+    }
+    packed::put_long(k, filler, soft, version, bits, part)
 }
 
 // Puts a reception's bits in a room, and counts the data places that then lack one.

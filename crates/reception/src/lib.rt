@@ -5,20 +5,22 @@ mod parts;
 mod turns;
 
 use codeword::Grant;
-pub use packed::receive_packed;
 use refusals::or_else;
+use slot_calls::Owner;
 use slot_calls::states;
 use slots::Answer;
 use slots::Outcome;
 use slots::State;
 ghost use mathlib.Core.Path.{_≡_};
+ghost use mathlib.Core.Bool.{true};
 ghost use lib.ListN.{length};
 ghost use Rattle.slots.specs.Room.{agreeing, roomAt, withRoom};
 ghost use Rattle.slots.specs.Reception.{received};
 ghost use Rattle.slots.specs.Reading.{lacking};
 ghost use Rattle.slots.specs.Calls.{receiveStore, receiveOutcome};
-ghost use Rattle.packing.specs.Store.{placesIn};
-ghost use Rattle.reception.specs.inner.Parts.{numberAfter, InSlot};
+ghost use Rattle.packing.specs.Store.{placesIn, inForm};
+ghost use Rattle.codeword.specs.Shares.{grant};
+ghost use Rattle.reception.specs.inner.Parts.{numberAfter, numberBy, answerBy, storeBy, InSlot};
 
 // Puts a reception's bits at the places the build would have taken them from, and tells how many data places then lack a bit.
 pub fn receive(
@@ -34,14 +36,54 @@ pub fn receive(
     ensures answer { λ r. ⌜ r ≡ receiveOutcome state slot terminal q n version (now (bits .entry)) (now (store .entry)) ⌝ }
     ensures stored { λ r. ⌜ now (store .exit) ≡ receiveStore state slot terminal q n version (now (bits .entry)) (now (store .entry)) ⌝ }
 {
-    let head = states::head_at(state, slot);
-    let owner = states::owner_number(state, store.len(), slot, terminal);
-    let number = receive_number(owner, head.size, q, n, version, bits);
+    let owner = states::owner(state, store.len(), slot, terminal);
+    let answer = receive_by(false, owner, state.blocks, slot, q, n, version, bits, store);
+    Outcome { answer, state }
+}
+
+// The same for a store with four places a byte: the answer and the places afterwards are those of the store as it is unpacked.
+pub fn receive_packed(
+    state: State,
+    slot: usize,
+    terminal: u16,
+    q: usize,
+    n: usize,
+    version: usize,
+    bits: &[u8],
+    store: &mut [u8],
+) -> Outcome
+    ensures answer { λ r. ⌜ r ≡ receiveOutcome state slot terminal q n version (now (bits .entry)) (placesIn true (now (store .entry))) ⌝ }
+    ensures stored { λ r. ⌜ now (store .exit)
+        ≡ inForm true (receiveStore state slot terminal q n version (now (bits .entry)) (placesIn true (now (store .entry)))) ⌝ }
+{
+    let asked = packing::places_asked(true, store.len());
+    let owner = states::owner(state, asked, slot, terminal);
+    let answer = receive_by(true, owner, state.blocks, slot, q, n, version, bits, store);
+    Outcome { answer, state }
+}
+
+// The answer by what the owner's rules gave, for a store of either form whose rooms have so many code blocks. The state itself is not handed on: all of it would
+// be copied.
+fn receive_by(
+    four: bool,
+    owner: Owner,
+    blocks: usize,
+    slot: usize,
+    q: usize,
+    n: usize,
+    version: usize,
+    bits: &[u8],
+    store: &mut [u8],
+) -> Answer
+    requires { ⌜ (numberBy owner q n version (now bits) ≡ 0
+        → InSlot blocks slot (owner .head .size) (owner .head .share) (grant q n version (length (now bits))) (now bits) (length (placesIn four (now store)))) ⌝ }
+    ensures answer { λ r. ⌜ r ≡ answerBy owner blocks slot q n version (now (bits .entry)) (placesIn four (now (store .entry))) ⌝ }
+    ensures stored { λ r. ⌜ now (store .exit) ≡ storeBy four owner blocks slot q n version (now (bits .entry)) (now (store .entry)) ⌝ }
+{
+    let head = owner.head;
+    let number = receive_number(owner.number, head.size, q, n, version, bits);
     if number != 0 {
-        return Outcome {
-            answer: Answer::Refused(number),
-            state,
-        };
+        return Answer::Refused(number);
     }
     let grant = Grant {
         modulation: q,
@@ -49,9 +91,8 @@ pub fn receive(
         version,
         bits: bits.len(),
     };
-    let blocks = state.blocks;
     let lacking = put_in_slot(
-        false,
+        four,
         blocks,
         slot,
         head.size,
@@ -60,21 +101,11 @@ pub fn receive(
         bits,
         store,
     );
-    Outcome {
-        answer: Answer::StillLacking(lacking),
-        state,
-    }
+    Answer::StillLacking(lacking)
 }
 
 // Receive's refusals in 01's order after those of the state, the store and the owner, for a block of `size` bits. All are looked for before a bit is put.
-pub(crate) fn receive_number(
-    owner: u8,
-    size: usize,
-    q: usize,
-    n: usize,
-    version: usize,
-    bits: &[u8],
-) -> u8
+fn receive_number(owner: u8, size: usize, q: usize, n: usize, version: usize, bits: &[u8]) -> u8
     ensures { λ r. ⌜ r ≡ numberAfter owner size q n version (now (bits .entry)) ⌝ }
 {
     let blocks = states::block_count(size);
@@ -85,7 +116,7 @@ pub(crate) fn receive_number(
 
 // Puts the bits in a slot's room for so many code blocks, in a store of either form, and counts the data places of its block of `size` bits that then lack one.
 // Each code block has a share `soft` of the soft buffer.
-pub(crate) fn put_in_slot(
+fn put_in_slot(
     four: bool,
     blocks: usize,
     slot: usize,

@@ -1,12 +1,5 @@
-// A code block's bits on a room with four places a byte (02): its circle is unpacked, takes them, is counted and packed again. And Receive on such a store.
+// A code block's bits on a room with four places a byte (02): its circle is unpacked, takes them, is counted and packed again.
 use crate::parts;
-use crate::put_in_slot;
-use crate::receive_number;
-use codeword::Grant;
-use slot_calls::states;
-use slots::Answer;
-use slots::Outcome;
-use slots::State;
 ghost use mathlib.Core.Path.{_≡_};
 ghost use mathlib.Core.Bool.{true};
 ghost use Prim.Native.Nat.{_+_, _*_, _≤_};
@@ -15,13 +8,12 @@ ghost use Rattle.laws.specs.Bits.{AreBits};
 ghost use Rattle.rate_matching.specs.SubBlocks.{rows};
 ghost use Rattle.rate_matching.specs.Circle.{cutAt};
 ghost use Rattle.slots.specs.Circle.{lackingOn};
-ghost use Rattle.slots.specs.Calls.{receiveStore, receiveOutcome};
-ghost use Rattle.packing.specs.Store.{placesIn, inForm};
+ghost use Rattle.packing.specs.Store.{placesIn};
 ghost use Rattle.bit_placement.specs.inner.Along.{Sends};
 ghost use Rattle.reception.specs.inner.Parts.{partAfter};
 
 // The places that a short and a long circle have room for.
-const SHORT_CIRCLE: usize = 3168;
+pub(crate) const SHORT_CIRCLE: usize = 3168;
 
 const LONG_CIRCLE: usize = 18528;
 
@@ -47,7 +39,7 @@ fn put_by(
 }
 
 // The same with the short circle.
-fn put_short(
+pub(crate) fn put_short(
     k: usize,
     filler: usize,
     soft: usize,
@@ -66,7 +58,7 @@ fn put_short(
 }
 
 // The same with the long circle.
-fn put_long(
+pub(crate) fn put_long(
     k: usize,
     filler: usize,
     soft: usize,
@@ -82,72 +74,4 @@ fn put_long(
     let places = 4 * part.len();
     let mut circle = [0u8; LONG_CIRCLE];
     put_by(k, filler, soft, version, bits, &mut circle[..places], part)
-}
-
-// The same with the circle that is long enough.
-pub(crate) fn put_packed(
-    k: usize,
-    filler: usize,
-    soft: usize,
-    version: usize,
-    bits: &[u8],
-    part: &mut [u8],
-) -> usize
-    requires { ⌜ Sends (k + 4) filler soft version (4 * length (now part)) × (filler ≤ k) × (4 * length (now part) ≤ 18528) × AreBits (now bits) ⌝ }
-    ensures stored { λ r. ⌜ placesIn true (now (part .exit))
-        ≡ partAfter (k + 4) filler (cutAt soft (rows (k + 4))) version (now (bits .entry)) (placesIn true (now (part .entry))) ⌝ }
-    ensures count { λ r. ⌜ r ≡ lackingOn (placesIn true (now (part .exit))) k filler ⌝ }
-{
-    if 4 * part.len() <= SHORT_CIRCLE {
-        return put_short(k, filler, soft, version, bits, part);
-    }
-    put_long(k, filler, soft, version, bits, part)
-}
-
-// Receive for a store with four places a byte: the answer and the places afterwards are those of the store as it is unpacked.
-pub fn receive_packed(
-    state: State,
-    slot: usize,
-    terminal: u16,
-    q: usize,
-    n: usize,
-    version: usize,
-    bits: &[u8],
-    store: &mut [u8],
-) -> Outcome
-    ensures answer { λ r. ⌜ r ≡ receiveOutcome state slot terminal q n version (now (bits .entry)) (placesIn true (now (store .entry))) ⌝ }
-    ensures stored { λ r. ⌜ now (store .exit)
-        ≡ inForm true (receiveStore state slot terminal q n version (now (bits .entry)) (placesIn true (now (store .entry)))) ⌝ }
-{
-    let head = states::head_at(state, slot);
-    let asked = packing::places_asked(true, store.len());
-    let owner = states::owner_number(state, asked, slot, terminal);
-    let number = receive_number(owner, head.size, q, n, version, bits);
-    if number != 0 {
-        return Outcome {
-            answer: Answer::Refused(number),
-            state,
-        };
-    }
-    let grant = Grant {
-        modulation: q,
-        layers: n,
-        version,
-        bits: bits.len(),
-    };
-    let blocks = state.blocks;
-    let lacking = put_in_slot(
-        true,
-        blocks,
-        slot,
-        head.size,
-        head.share,
-        grant,
-        bits,
-        store,
-    );
-    Outcome {
-        answer: Answer::StillLacking(lacking),
-        state,
-    }
 }

@@ -10,3 +10,10 @@ pub use opening::open;
 pub use opening::open_down;
 pub use opening::open_down_outcome;
 pub use opening::open_outcome;
+use slots::Head;
+
+// What a state and a store say to a call by a slot's owner: the first refusal of 13, 5 (store), 6, 8 and 9, and the slot's head.
+pub struct Owner {
+    pub number: u8,
+    pub head: Head,
+}

@@ -197,8 +197,9 @@ fn clear_room(answer: Answer, m: usize, slot: usize, store: &mut [u8])
 fn open_number(state: State, room: usize, slot: usize, size: usize) -> u8
     ensures { λ r. ⌜ r ≡ openNumber state room slot size ⌝ }
 {
-    let head = states::head_at(state, slot);
-    let store = states::store_number(state, room, slot);
+    let looked = states::look(state, slot);
+    let head = looked.head;
+    let store = states::store_number(looked.bad, state, room, slot);
     let opened = or_else(store, head.opened, 7);
     let sized = or_else(opened, states::bad_size(size), 1);
     or_else(sized, states::too_many(state.blocks, size), 10)
@@ -236,8 +237,9 @@ pub fn close(state: State, slot: usize, terminal: u16) -> Outcome
 fn close_number(state: State, slot: usize, terminal: u16) -> u8
     ensures { λ r. ⌜ r ≡ closeNumber state slot terminal ⌝ }
 {
-    let bad = or_else(0, states::bad_state(state), 13);
+    let looked = states::look(state, slot);
+    let bad = or_else(0, looked.bad, 13);
     let present = slot < state.slots;
     let absent = or_else(bad, !present, 6);
-    states::owner_after(absent, state, slot, terminal)
+    states::owner_after(absent, looked.head, terminal)
 }

@@ -1,18 +1,20 @@
 // What every call asks of a state and a store before anything else.
+use crate::Owner;
 use refusals::or_else;
 use slots::Head;
 use slots::State;
 ghost use mathlib.Core.Path.{_≡_};
-ghost use mathlib.Core.Bool.{false, cond, _||_};
-ghost use mathlib.Core.List.{_++_};
+ghost use mathlib.Core.Bool.{false, cond, not, _||_};
+ghost use mathlib.Core.List.{[], _∷_};
 ghost use Prim.Native.Nat.{_+_, _≤_, _<_};
 ghost use lib.Dec.{eqb, ltb};
-ghost use Rattle.refusals.specs.Refusals.{firstOf};
+ghost use Rattle.refusals.specs.Refusals.{rule, firstOf};
 ghost use Rattle.segmentation.specs.Segmentation.{blocks};
 ghost use Rattle.segmentation.specs.Sizes.{badSize};
 ghost use Rattle.codeword.specs.Downlink.{tooShort};
 ghost use Rattle.slots.specs.State.{roomLength, roomStart, closedHead, headAt, tooMany, broken, badShape, badState};
-ghost use Rattle.slots.specs.Calls.{storeRules, ownerRules, withHead};
+ghost use Rattle.slots.specs.Calls.{storeRules, withHead};
+ghost use Rattle.slot_calls.specs.Owner.{ownerOf};
 
 // The bytes that a room has for one code block, the largest circle.
 pub const PER_BLOCK: usize = 18528;
@@ -124,31 +126,49 @@ fn bad_head(m: usize, head: Head) -> bool
         && (bad_size(head.size) || (too_many(m, head.size) || too_short(head.share, head.size)))
 }
 
-// Number 13. The shape comes first, so that there are heads to look at.
-pub(crate) fn bad_state(state: State) -> bool
-    ensures { λ r. ⌜ r ≡ badState state ⌝ }
+// What a state says before a call on one of its slots: whether it is broken, number 13, and the slot's head, a closed one where there is no such slot.
+pub(crate) struct Looked {
+    pub bad: bool,
+    pub head: Head,
+}
+
+// A head, or a closed one.
+fn head_or_closed(there: bool, head: Head) -> Head
+    ensures { λ r. ⌜ r ≡ cond there head closedHead ⌝ }
+{
+    if there { head } else { closed_head() }
+}
+
+// Looks at the state once, since all of it is copied where it is handed on. The shape comes first, so that there are heads to look at.
+pub(crate) fn look(state: State, slot: usize) -> Looked
+    ensures { λ r. ⌜ r .bad ≡ badState state ⌝ }
+    ensures { λ r. ⌜ r .head ≡ headAt state slot ⌝ }
 {
     let s = state.slots;
     let m = state.blocks;
+    let there = state.heads[slot % 8];
+    let head = head_or_closed(slot < 8, there);
     if bad_shape(s, m) {
-        return true;
+        return Looked { bad: true, head };
     }
     let mut i: usize = 0;
     while i < s {
-        let head = state.heads[i];
-        if bad_head(m, head) {
-            return true;
+        let next = state.heads[i];
+        if bad_head(m, next) {
+            return Looked { bad: true, head };
         }
         i += 1;
     }
-    false
+    Looked { bad: false, head }
 }
 
-// 13, 5 (store), 6, for a store of `room` bytes. The store's length is computed for a good shape alone, so that it does not wrap.
-pub(crate) fn store_number(state: State, room: usize, slot: usize) -> u8
+// 13, 5 (store), 6, for a store of `room` bytes and a state that is broken or not. The store's length is computed for a good shape alone, so that it does
+// not wrap.
+pub(crate) fn store_number(bad: bool, state: State, room: usize, slot: usize) -> u8
+    requires { ⌜ bad ≡ badState state ⌝ }
     ensures { λ r. ⌜ r ≡ firstOf (storeRules state room slot) ⌝ }
 {
-    if bad_state(state) {
+    if bad {
         return 13;
     }
     let s = state.slots;
@@ -157,18 +177,21 @@ pub(crate) fn store_number(state: State, room: usize, slot: usize) -> u8
     or_else(short, !present, 6)
 }
 
-// 8, 9, where no rule applied before.
-pub(crate) fn owner_after(found: u8, state: State, slot: usize, terminal: u16) -> u8
-    ensures { λ r. ⌜ r ≡ cond (eqb found 0) (firstOf (ownerRules state slot terminal)) found ⌝ }
+// 8, 9, where no rule applied before, for a slot that has this head.
+pub(crate) fn owner_after(found: u8, head: Head, terminal: u16) -> u8
+    ensures { λ r. ⌜ r ≡ cond (eqb found 0) (firstOf (rule (not (head .opened)) 8 ∷ rule (not (eqb (head .terminal) terminal)) 9 ∷ [])) found ⌝ }
 {
-    let head = head_at(state, slot);
     let after = or_else(found, !head.opened, 8);
     or_else(after, head.terminal != terminal, 9)
 }
 
-// 13, 5 (store), 6, 8, 9: what Receive, Read and Streams ask first.
-pub fn owner_number(state: State, room: usize, slot: usize, terminal: u16) -> u8
-    ensures { λ r. ⌜ r ≡ firstOf (storeRules state room slot ++ ownerRules state slot terminal) ⌝ }
+// What Receive, Read and Streams ask first.
+pub fn owner(state: State, room: usize, slot: usize, terminal: u16) -> Owner
+    ensures { λ r. ⌜ r ≡ ownerOf state room slot terminal ⌝ }
 {
-    owner_after(store_number(state, room, slot), state, slot, terminal)
+    let looked = look(state, slot);
+    let head = looked.head;
+    let stored = store_number(looked.bad, state, room, slot);
+    let number = owner_after(stored, head, terminal);
+    Owner { number, head }
 }

@@ -4,13 +4,13 @@ use mathlib.Core.Path.{_≡_, _∙_, ap}
 use mathlib.Core.Bool.{cond, not}
 use mathlib.Core.List.{List, [], _∷_, _++_}
 use Prim.Native.Nat.{ℕ, _+_, _*_, _≤_, _<_}
-use native.Mathlib.Nat.{mul-le-mul-right}
+use native.Mathlib.Nat.{mul-le-mul-left, mul-le-mul-right}
 use native.Mathlib.Omega.{arith}
 use lib.Dec.{eqb, ltb}
 use lib.ListN.{length, drop}
 use borrow.Author.Tests.{ne-eqb, ltb-true, ltb-false, not-false}
-use Rattle.refusals.specs.Refusals.{Rule, rule, firstOf, orElse}
-use Rattle.refusals.proofs.Refusals.{Chain, done, next, chained-on, passed, listed}
+use Rattle.refusals.specs.Refusals.{Rule, rule, firstOf}
+use Rattle.refusals.proofs.Refusals.{Chain, chained-on, passed, listed}
 use Rattle.segmentation.specs.declared.Segments.{Segments}
 use Rattle.segmentation.specs.Segmentation.{blocks, sizeOf, fillerOf}
 use Rattle.segmentation.specs.Sizes.{segmentsFor}
@@ -61,9 +61,8 @@ module _ (state : State) (room slot terminal r size : ℕ) {owner : ℕ} (o : ow
       pub found-most : k ≤ 6144
       found-most = omega (arith, found-size, streams (sizeAtHead state slot) (fitting-good fits-owner) r .most)
 
-      pub streams-chained : {absent n : ℕ} → absent ≡ orElse 0 (not (ltb r (s .blocks))) 14 → n ≡ orElse absent (ltb size (3 * (k + 4))) 5
-          → n ≡ streamsNumber state room slot terminal r size
-      streams-chained a e = on (rw z (next (rw (blocks-told (sizeAtHead state slot) told-size (fitting-good fits-owner)) at a) (next (rw found-size at e) done)))
+      pub streams-chained : {n : ℕ} → n ≡ firstOf (streamRules (s .blocks) r size (k + 4)) → n ≡ streamsNumber state room slot terminal r size
+      streams-chained e = on (record { is = λ t. rw z (rw (blocks-told (sizeAtHead state slot) told-size (fitting-good fits-owner), found-size) at e) })
 
 -- a refused one
 pub streams-refused : (state : State) (store : List ℕ) (slot terminal r : ℕ) (out : List ℕ) {n : ℕ}
@@ -112,12 +111,15 @@ module _ {state : State} {store : List ℕ} {slot terminal r : ℕ} {out : List 
   unfolding roomStart roomLength
   circle-within = omega (arith, store-is .within, mul-le-mul-right perBlock below, mul-le-mul-right perBlock (fits .few))
 
+  -- there are few circles
+  pub index-few : slot * state .blocks + r ≤ 40
+  index-few =
+      let shape = store-is .state-good .shape in
+      omega (arith, store-is .present, shape .slots-most, shape .blocks-most, below, fits .few, mul-le-mul-left slot (shape .blocks-most))
+
   module _ {k : ℕ} (size : k ≡ cond (ltb r (s .shorts)) (s .short) (s .long)) where
     k-is : k ≡ sizeOf (A + 24) r
     k-is = size ∙ size-told A r told-is (fitting-good fits)
-
-    pub size-most : k ≤ 6144
-    size-most = omega (arith, k-is, streams A (fitting-good fits) r .most)
 
     module _ {f : ℕ} (filled : f ≡ cond (eqb r 0) (s .filler) 0) where
       f-is : f ≡ fillerOf (A + 24) r

@@ -6,38 +6,39 @@ use slots::Answer;
 use slots::Outcome;
 use slots::State;
 ghost use mathlib.Core.Path.{_≡_};
-ghost use mathlib.Core.Bool.{true};
-ghost use mathlib.Core.List.{_++_};
+ghost use mathlib.Core.Bool.{true, not};
+ghost use mathlib.Core.List.{[], _∷_, _++_};
 ghost use Prim.Native.Nat.{_*_, _≤_};
+ghost use lib.Dec.{ltb};
 ghost use lib.ListN.{length, drop};
+ghost use Rattle.refusals.specs.Refusals.{rule, firstOf};
+ghost use Rattle.slots.specs.declared.Answer.the-variants.{Refused};
 ghost use Rattle.slots.specs.State.{perBlock};
 ghost use Rattle.slots.specs.Room.{circleAt};
 ghost use Rattle.slots.specs.Circle.{streamsOn};
-ghost use Rattle.slots.specs.Calls.{streamsNumber, streamsOutcome, streamsOutput};
+ghost use Rattle.slots.specs.Calls.{streamsOutcome, streamsOutput};
 ghost use Rattle.packing.specs.Store.{placesIn};
 ghost use Rattle.kept_bits.specs.inner.Rows.{Stretch};
 ghost use Rattle.reading.specs.inner.Form.{Unpacks, Circles};
 
-// Streams' refusals. The size is found for an owner's slot alone, where A is in range.
-fn streams_number(
-    state: State,
-    room: usize,
-    slot: usize,
-    terminal: u16,
-    block: usize,
-    size: usize,
-) -> u8
-    ensures { λ r. ⌜ r ≡ streamsNumber state room slot terminal block size ⌝ }
+// Streams' last refusals, for an owner's block of so many code blocks, of which this one has streams of d places.
+fn block_number(blocks: usize, block: usize, d: usize, size: usize) -> u8
+    requires { ⌜ d ≤ 6148 ⌝ }
+    ensures { λ r. ⌜ r ≡ firstOf (rule (not (ltb block blocks)) 14 ∷ rule (ltb size (3 * d)) 5 ∷ []) ⌝ }
 {
-    let owner = states::owner_number(state, room, slot, terminal);
-    if owner != 0 {
-        return owner;
-    }
-    let head = states::head_at(state, slot);
-    let s = segmentation::segments_for(head.size);
-    let present = block < s.blocks;
+    let present = block < blocks;
     let absent = or_else(0, !present, 14);
-    or_else(absent, size < 3 * (block::size_of(s, block) + 4), 5)
+    or_else(absent, size < 3 * d, 5)
+}
+
+// A refusal: the state stays.
+fn refused(number: u8, state: State) -> Outcome
+    ensures { λ r. ⌜ r ≡ record { answer = Refused number; state = state } ⌝ }
+{
+    Outcome {
+        answer: Answer::Refused(number),
+        state,
+    }
 }
 
 // Writes the three runs of code block i of a store over the front of `out`, of streams of d places, the first f being filler: from the
@@ -113,24 +114,19 @@ fn streams_form(
     ensures { λ r. ⌜ r ≡ streamsOutcome state (length (placesIn four (now (store .entry)))) slot terminal block (length (now (out .entry))) ⌝ }
     ensures { λ r. ⌜ now (out .exit) ≡ streamsOutput state (placesIn four (now (store .entry))) slot terminal block (now (out .entry)) ⌝ }
 {
-    let number = streams_number(
-        state,
-        packing::places_asked(four, store.len()),
-        slot,
-        terminal,
-        block,
-        out.len(),
-    );
-    if number != 0 {
-        return Outcome {
-            answer: Answer::Refused(number),
-            state,
-        };
+    let asked = packing::places_asked(four, store.len());
+    let owner = states::owner(state, asked, slot, terminal);
+    if owner.number != 0 {
+        return refused(owner.number, state);
     }
-    let head = states::head_at(state, slot);
+    let head = owner.head;
     let s = segmentation::segments_for(head.size);
-    let i = slot * state.blocks + block;
     let d = block::size_of(s, block) + 4;
+    let number = block_number(s.blocks, block, d, out.len());
+    if number != 0 {
+        return refused(number, state);
+    }
+    let i = slot * state.blocks + block;
     runs_of(four, i, d, block::filler_of(s, block), store, circle, out);
     Outcome {
         answer: Answer::Done,

@@ -15,12 +15,19 @@ use Rattle.rate_matching.specs.Circle.{startIn}
 use Rattle.rate_matching.specs.Walk.{sentPlaces}
 use Rattle.rate_matching.specs.Shape.{shape}
 use Rattle.codeword.specs.declared.Grant.{Grant}
+use Rattle.codeword.specs.Shares.{grant}
 use Rattle.codeword.specs.Build.{badAllocation, versionRule, bitsRule}
 use Rattle.codeword.specs.Codeword.{blockRows}
 use Rattle.slots.specs.State.{perBlock, roomLength, roomStart}
 use Rattle.slots.specs.Putting.{putAlong}
-use Rattle.slots.specs.Room.{agreeing}
+use Rattle.slots.specs.declared.Answer.{Answer}
+use Rattle.slots.specs.declared.Answer.the-variants.{StillLacking, Refused}
+use Rattle.slots.specs.Room.{agreeing, roomAt, withRoom}
+use Rattle.slots.specs.Reception.{received}
+use Rattle.slots.specs.Reading.{lacking}
 use Rattle.slots.specs.Calls.{allocationRule}
+use Rattle.slot_calls.specs.declared.Owner.{Owner}
+use Rattle.packing.specs.Store.{placesIn, inForm}
 
 -- 3, 4, 2: what is asked of the bits for a block of A bits
 unfoldable pub bitsRules : ℕ → ℕ → ℕ → ℕ → List ℕ → List Rule
@@ -29,6 +36,26 @@ bitsRules A Q N v bits = allocationRule (blocks (A + 24)) Q N (length bits) ∷ 
 -- their number, where no rule applied before
 unfoldable pub numberAfter : ℕ → ℕ → ℕ → ℕ → ℕ → List ℕ → ℕ
 numberAfter found A Q N v bits = cond (eqb found 0) (firstOf (bitsRules A Q N v bits)) found
+
+-- Receive by what the owner's rules gave and the slot's head, for a slot with room for M code blocks: its number
+unfoldable pub numberBy : Owner → ℕ → ℕ → ℕ → List ℕ → ℕ
+numberBy o Q N v bits = numberAfter (o .number) (o .head .size) Q N v bits
+
+-- the places that a store keeps afterwards, where the number is 0
+unfoldable pub placesBy : Owner → ℕ → ℕ → ℕ → ℕ → ℕ → List ℕ → List ℕ → List ℕ
+placesBy o M slot Q N v bits places =
+    withRoom M slot (received agreeing (o .head .share) (o .head .size) (grant Q N v (length bits)) bits (roomAt M slot places)) places
+
+-- the answer, and the bytes of the store in its form
+unfoldable pub answerBy : Owner → ℕ → ℕ → ℕ → ℕ → ℕ → List ℕ → List ℕ → Answer
+answerBy o M slot Q N v bits places =
+    cond (eqb (numberBy o Q N v bits) 0)
+    (StillLacking (lacking (o .head .size) (roomAt M slot (placesBy o M slot Q N v bits places))))
+    (Refused (numberBy o Q N v bits))
+
+unfoldable pub storeBy : Bool → Owner → ℕ → ℕ → ℕ → ℕ → ℕ → List ℕ → List ℕ → List ℕ
+storeBy four o M slot Q N v bits store =
+    cond (eqb (numberBy o Q N v bits) 0) (inForm four (placesBy o M slot Q N v bits (placesIn four store))) store
 
 -- how many bytes a row of a circle has, one place a byte or four
 unfoldable pub bytesARow : Bool → ℕ

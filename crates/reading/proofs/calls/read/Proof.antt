@@ -2,8 +2,10 @@
 -- Assumes nothing.
 use mathlib.Core.Path.{sym}
 use mathlib.Core.Bool.{true≢false}
+use denote.Ref.{now}
 use borrow.Author.Needs.{needs}
 use Rattle.packing.specs.Store.{placesIn}
+use Rattle.reading.proofs.Kept.{read-kept}
 use Rattle.reading.proofs.calls.read.Statement.{statement}
 use Rattle.reading.proofs.calls.read.Tie as tie
 
@@ -18,7 +20,10 @@ same-length c = search needs
 
 returns : tie.Need-returns
 unfolding placesIn
-returns c = c .before .before .before .read-form .ensures
+returns c =
+    let made = c .before .before .before in
+    let e = made .before .before .before .before .before .args in
+    (read-kept (e .state) (now (e .store)) (e .slot) (e .terminal) _ (made .read-form .ensures .0), made .read-form .ensures .1)
 
 pub read-spec : {M : Type 1} → statement M
 read-spec = tie.close (tie.spec slice-aggregate-read-form read-form-requires same-length returns)

@@ -6,8 +6,8 @@ use Rattle.slots.specs.Calls.{ownerRules, closeNumber}
 use Rattle.slot_calls.proofs.opening.close_number.Statement.{statement}
 use Rattle.slot_calls.proofs.opening.close_number.Tie as tie
 
-bad-state-requires : tie.Need-bad-state-requires
-bad-state-requires c κs = search needs
+look-requires : tie.Need-look-requires
+look-requires c κs = search needs
 
 or-else-requires : tie.Need-or-else-requires
 or-else-requires c κs = search needs
@@ -22,10 +22,13 @@ returns : tie.Need-returns
 unfolding closeNumber ownerRules
 returns c =
     let or-else2 = c .before in
-    let bad = rw (or-else2 .before .before .before .bad-state .ensures) at (or-else2 .before .before .or-else .ensures) in
-    chained (next bad (next (or-else2 .or-else2 .ensures) (record { is = λ t. c .owner-after .ensures }))) tt
+    let or-else = or-else2 .before .before in
+    let looked = or-else .before .look .ensures in
+    let bad = rw (looked .0) at (or-else .or-else .ensures) in
+    let owned = rw (looked .1) at (c .owner-after .ensures) in
+    chained (next bad (next (or-else2 .or-else2 .ensures) (record { is = λ t. owned }))) tt
 
 pub close-number-spec : {M : Type 1} → statement M
 close-number-spec =
     tie.close
-    (tie.spec bad-state-requires or-else-requires or-else-requires-2 owner-after-requires returns)
+    (tie.spec look-requires or-else-requires or-else-requires-2 owner-after-requires returns)

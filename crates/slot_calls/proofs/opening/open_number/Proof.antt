@@ -6,8 +6,8 @@ use Rattle.slots.specs.Calls.{storeRules, openRules, openNumber}
 use Rattle.slot_calls.proofs.opening.open_number.Statement.{statement}
 use Rattle.slot_calls.proofs.opening.open_number.Tie as tie
 
-head-at-requires : tie.Need-head-at-requires
-head-at-requires c κs = search needs
+look-requires : tie.Need-look-requires
+look-requires c κs = search needs
 
 store-number-requires : tie.Need-store-number-requires
 store-number-requires c κs = search needs
@@ -35,9 +35,9 @@ returns c =
     let bad-size = or-else2 .before in
     let or-else = bad-size .before in
     let store-number = or-else .before in
-    let head-at = store-number .before in
-    let entry = head-at .before .args in
-    let opened = rw (head-at .head-at .ensures) at (or-else .or-else .ensures) in
+    let looked = store-number .before .before in
+    let entry = looked .before .args in
+    let opened = rw (looked .look .ensures .1) at (or-else .or-else .ensures) in
     let sized = rw (bad-size .bad-size .ensures) at (or-else2 .or-else2 .ensures) in
     let many = rw (too-many .too-many .ensures) at (c .or-else3 .ensures) in
     chained-on (storeRules (entry .state) (entry .room) (entry .slot)) (store-number .store-number .ensures) (next opened (next sized (next many done))) tt tt
@@ -46,7 +46,7 @@ pub open-number-spec : {M : Type 1} → statement M
 open-number-spec =
     tie.close
     (tie.spec
-    head-at-requires
+    look-requires
     store-number-requires
     or-else-requires
     bad-size-requires

@@ -10,20 +10,13 @@ use Rattle.slots.proofs.Accepted.{good}
 use Rattle.slot_calls.proofs.states.store_number.Statement.{statement}
 use Rattle.slot_calls.proofs.states.store_number.Tie as tie
 
--- the ways back
-abbrev at-start : tie.After-bad-state → tie.Start
-at-start c = c .before
-
-bad-state-requires : tie.Need-bad-state-requires
-bad-state-requires c κs = search needs
-
 returns : tie.Need-returns
 unfolding storeRules firstOf
-returns c = rw (← (c .before .bad-state .ensures), c .if1 .taken)
+returns c = rw (← (c .before .pre), c .if1 .taken)
 
 room-start-requires : tie.Need-room-start-requires
 room-start-requires c κs =
-    let shape = good (at-start (c .before) .args .state) (sym (c .before .bad-state .ensures) ∙ c .if1 .left) .shape in
+    let shape = good (c .before .args .state) (sym (c .before .pre) ∙ c .if1 .left) .shape in
     (shape .blocks-most, shape .slots-most)
 
 or-else-requires : tie.Need-or-else-requires
@@ -38,16 +31,9 @@ returns-2 c =
     let or-else = c .before in
     let room-start = or-else .before in
     let asked = room-start .before in
-    let sound : 0 ≡ orElse 0 (badState (at-start (asked .before) .args .state)) 13 = rw (← (asked .before .bad-state .ensures), asked .if1 .left) in
+    let sound : 0 ≡ orElse 0 (badState (asked .before .args .state)) 13 = rw (← (asked .before .pre), asked .if1 .left) in
     chained (next sound (next (rw (room-start .room-start .ensures) at (or-else .or-else .ensures)) (next (c .or-else2 .ensures) done))) tt
 
 pub store-number-spec : {M : Type 1} → statement M
 store-number-spec =
-    tie.close
-    (tie.spec
-    bad-state-requires
-    returns
-    room-start-requires
-    or-else-requires
-    or-else-requires-2
-    returns-2)
+    tie.close (tie.spec returns room-start-requires or-else-requires or-else-requires-2 returns-2)

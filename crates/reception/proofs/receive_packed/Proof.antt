@@ -1,0 +1,52 @@
+-- `receive_packed` meets its contract: the owner's rules and the head are those of the state, on the form with four places a byte.
+-- Assumes nothing.
+use mathlib.Core.Bool.{true}
+use native.Mathlib.Omega.{arith}
+use denote.Ref.{now}
+use borrow.Author.Needs.{needs}
+use Rattle.packing.specs.Store.{placesIn}
+use Rattle.reading.proofs.Kept.{receive-kept}
+use Rattle.reception.proofs.Accepts.{by-ready, by-answer, by-store}
+use Rattle.reception.proofs.receive_packed.Statement.{statement}
+use Rattle.reception.proofs.receive_packed.Tie as tie
+
+-- the ways back
+abbrev at-slice-known : tie.After-owner → tie.After-slice-known
+at-slice-known c = c .before .before
+
+abbrev at-owner : tie.After-receive-by-arg → tie.After-owner
+at-owner c = c .before
+
+-- the function's entry
+abbrev entry : tie.After-owner → tie.Start
+entry c = at-slice-known c .before .before
+
+places-asked-requires : tie.Need-places-asked-requires
+places-asked-requires c κs = search needs
+
+owner-requires : tie.Need-owner-requires
+owner-requires c κs = search needs
+
+receive-by-requires : tie.Need-receive-by-requires
+receive-by-requires c κs =
+    let o = at-owner c in
+    let e = entry o .args in
+    by-ready true (e .state) (e .slot) (e .terminal) (e .q) (e .n) (e .version) (now (e .bits)) (now (e .store)) (o .before .places-asked .ensures) (o .owner .ensures)
+
+same-length : tie.Need-same-length
+same-length c = search needs
+
+returns : tie.Need-returns
+returns c =
+    let made = c .before .before in
+    let o = at-owner (made .before) in
+    let e = entry o .args in
+    let told = made .receive-by .ensures in (
+      receive-kept (e .state) (e .slot) (e .terminal) (e .q) (e .n) (e .version) (now (e .bits)) (placesIn true (now (e .store)))
+          (by-answer true (e .state) (e .slot) (e .terminal) (e .q) (e .n) (e .version) (now (e .bits)) (now (e .store)) (o .before .places-asked .ensures) (o .owner .ensures) (told .0)),
+      by-store true (e .state) (e .slot) (e .terminal) (e .q) (e .n) (e .version) (now (e .bits)) (now (e .store)) (o .before .places-asked .ensures) (o .owner .ensures)
+          (λ i. omega (arith, at-slice-known o .slice-known .given i)) (told .1),
+    )
+
+pub receive-packed-spec : {M : Type 1} → statement M
+receive-packed-spec = tie.close (tie.spec places-asked-requires owner-requires receive-by-requires same-length returns)
