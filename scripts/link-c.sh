@@ -1,6 +1,6 @@
-# Sourced after needs.sh: link_c NAME compiles face/NAME.c and links it with the proved library into target/face/NAME;
+# Sourced after needs.sh: link_c NAME compiles face/NAME.c and links it with the proved libraries into target/face/NAME;
 # link_c NAME c++ compiles it as C++ and links it into target/face/NAME-c++. Either puts the path into $linked.
-# The kit's own compiler and linker are used on either machine, since the library is for x86-64.
+# The kit's own compiler and linker are used on either machine, since the libraries are for x86-64.
 need gcc gcc
 
 link_c() {
@@ -13,12 +13,14 @@ link_c() {
         linked=$linked-$2
     fi
     mkdir -p target/face || return 1
-    if [ -z "${face_built:-}" ]; then
-        rt staticlib face || return 1
-        face_built=1
-    fi
+    local name libraries=()
+    for name in "${exports[@]}"; do
+        [ -n "${face_built:-}" ] || rt staticlib "$name" || return 1
+        libraries+=("target/staticlib/lib$name.a")
+    done
+    face_built=1
     "$toolchain/bin/clang" --target=x86_64-unknown-linux-gnu -O2 -fPIC "${alone[@]}" -Wall -Wextra \
         -isystem "$(gcc -print-file-name=include)" -Iinclude -x "${2:-c}" -c "face/$1.c" -o "$linked.o" || return 1
     "$kit/on/$(uname -m)/bin/rattle-link" --target x86_64-unknown-linux-gnu --toolchain "$toolchain" \
-        -o "$linked" "$linked.o" target/staticlib/libface.a
+        -o "$linked" "$linked.o" "${libraries[@]}"
 }

@@ -26,3 +26,6 @@ kit=${RATTLE_HOME:-$(dirname "$(dirname "$(readlink -f "$(command -v rt)")")")}
 toolchain=$kit/on/$(uname -m)/toolchain
 x86=("$toolchain/lib/ld-linux-x86-64.so.2" --library-path "$toolchain/lib")
 [ "$(uname -m)" = x86_64 ] || x86=("$toolchain/bin/qemu-x86_64" "${x86[@]}")
+
+# The crates whose exports are the library for C: each is made by itself, and one archive or one call of the linker brings them together.
+exports=(face slot_face)

@@ -1,7 +1,5 @@
-// The face to C: what include/zemrukste.h declares, thin over the proved libraries.
-mod calls;
+// The face to C: what include/zemrukste.h declares beside the slots, thin over the proved libraries.
 mod control;
-mod packed;
 
 use codeword::Grant;
 ghost use mathlib.Core.List.{_++_};

@@ -1,9 +1,9 @@
 -- `calls::zemrukste_read` meets its contract: Read on the state that the bytes stand for, and its answer in two numbers.
 -- Assumes nothing.
-use Rattle.face.proofs.Told.{numbered, valued}
+use Rattle.slot_face.proofs.Told.{numbered, valued}
 use borrow.Author.Needs.{needs}
-use Rattle.face.proofs.calls.zemrukste_read.Statement.{statement}
-use Rattle.face.proofs.calls.zemrukste_read.Tie as tie
+use Rattle.slot_face.proofs.calls.zemrukste_read.Statement.{statement}
+use Rattle.slot_face.proofs.calls.zemrukste_read.Tie as tie
 
 state-in-requires : tie.Need-state-in-requires
 state-in-requires c κs = tt

@@ -1,9 +1,9 @@
 -- `calls::zemrukste_streams` meets its contract: Streams on the state that the bytes stand for.
 -- Assumes nothing.
-use Rattle.face.proofs.Told.{numbered}
+use Rattle.slot_face.proofs.Told.{numbered}
 use borrow.Author.Needs.{needs}
-use Rattle.face.proofs.calls.zemrukste_streams.Statement.{statement}
-use Rattle.face.proofs.calls.zemrukste_streams.Tie as tie
+use Rattle.slot_face.proofs.calls.zemrukste_streams.Statement.{statement}
+use Rattle.slot_face.proofs.calls.zemrukste_streams.Tie as tie
 
 state-in-requires : tie.Need-state-in-requires
 state-in-requires c κs = tt
