@@ -1,2 +1,3 @@
+mod ChangeLine
 pub mod Changed
 pub mod Moved

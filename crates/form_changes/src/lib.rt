@@ -1,4 +1,8 @@
-// Every room of a state changes its form, from one of two stores into the other (02, E7).
+// Every room of a state changes its form, from one of two stores into the other (02, E7), and the line of the yard's log that asks for it is answered.
+mod line;
+
+pub use line::change_line;
+pub use line::change_of;
 use packing::PACKED_PER_BLOCK;
 use slot_calls::states::PER_BLOCK;
 use slots::State;
@@ -9,9 +13,21 @@ ghost use lib.ListN.{length};
 ghost use Rattle.forms.specs.Change.{roomIn, roomChanged, roomsChanged};
 ghost use Rattle.form_changes.specs.Change.{formNumber, plainChanged, packedChanged};
 
+// What a line asks of the form of the rooms: whether it changes it, and whether to four places a byte.
+pub struct Change {
+    pub changes: bool,
+    pub packs: bool,
+}
+
+// The form of the rooms after such a line, and the length of the row that answers it.
+pub struct FormStep {
+    pub four: bool,
+    pub written: usize,
+}
+
 // Brings the rooms, in the packed store where they have `four` places a byte and else in the plain one, into the form `to`: 0, or the number of the refusal,
 // which writes nothing.
-pub fn change_form(state: State, four: bool, to: bool, plain: &mut [u8], packed: &mut [u8]) -> u8
+fn change_form(state: State, four: bool, to: bool, plain: &mut [u8], packed: &mut [u8]) -> u8
     ensures { λ r. ⌜ r ≡ formNumber state (length (now (plain .entry))) (length (now (packed .entry))) ⌝ }
     ensures { λ r. ⌜ now (plain .exit) ≡ plainChanged state four to (now (plain .entry)) (now (packed .entry)) ⌝ }
     ensures { λ r. ⌜ now (packed .exit) ≡ packedChanged state four to (now (plain .entry)) (now (packed .entry)) ⌝ }

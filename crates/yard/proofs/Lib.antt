@@ -1,4 +1,3 @@
 mod Given
 mod Calls
-mod ChangeLine
 pub mod Lines

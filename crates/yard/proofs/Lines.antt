@@ -13,10 +13,11 @@ use Rattle.lines.specs.Put.{putAt, endAt}
 use Rattle.lines.proofs.Putting.{end-within}
 use Rattle.requests.specs.declared.Request.{Request}
 use Rattle.requests.specs.Request.{requestOf}
-use Rattle.yard.specs.declared.Change.{Change}
 use Rattle.yard.specs.declared.Step.{Step}
-use Rattle.yard.specs.Change.{changeOf, changeRow}
+use Rattle.form_changes.specs.declared.Change.{Change}
+use Rattle.form_changes.specs.declared.FormStep.{FormStep}
 use Rattle.form_changes.specs.Change.{plainChanged, packedChanged}
+use Rattle.form_changes.specs.Line.{changeOf, changeRow, changeMade}
 use Rattle.yard.specs.Step.{stepMade, callRow, callStep, callStore, rowOfLine, changeStep, stepOf, plainAfter, packedAfter, outAfter, longestRow, stepWithin, plainWithin, packedWithin, outWithin}
 
 module _ (state : State) (four : Bool) (plain packed line out : List ℕ) {request : Request} (read : request ≡ requestOf line) {change : Change} (asks : change ≡ changeOf (request .verb)) where
@@ -30,13 +31,14 @@ module _ (state : State) (four : Bool) (plain packed line out : List ℕ) {reque
   verb-is : requestOf line .verb ≡ request .verb
   verb-is = ap (λ (r : Request). r .verb) (sym read)
 
-  pub by-change : change .changes ≡ true → (step : Step) (plain′ packed′ out′ : List ℕ)
-      → (step ≡ changeStep state four (change .packs) (length plain) (length packed) out)
+  pub by-change : change .changes ≡ true → {changed : FormStep} (plain′ packed′ out′ : List ℕ)
+      → (changed ≡ changeMade state four (change .packs) (length plain) (length packed) out)
       × ((plain′ ≡ plainChanged state four (change .packs) plain packed)
       × ((packed′ ≡ packedChanged state four (change .packs) plain packed) × (out′ ≡ putAt 0 (changeRow state (length plain) (length packed)) out)))
-      → Told step plain′ packed′ out′
-  unfolding stepOf plainAfter packedAfter outAfter rowOfLine
-  by-change does step plain′ packed′ out′ made = rw (verb-is, ← asks, does) made
+      → Told (record { state = state; four = changed .four; written = changed .written }) plain′ packed′ out′
+  unfolding stepOf plainAfter packedAfter outAfter rowOfLine changeStep changeMade
+  by-change does plain′ packed′ out′ made = rw (verb-is, ← asks, does)
+      (ap (λ (x : FormStep). record { state = state; four = x .four; written = x .written }) (made .0), made .1)
 
   pub by-packed-call : change .changes ≡ false → four ≡ true → (step : Step) (packed′ out′ : List ℕ)
       → (step ≡ callStep state true packed line out) × ((packed′ ≡ callStore state true packed line) × (out′ ≡ putAt 0 (callRow state true packed line) out))

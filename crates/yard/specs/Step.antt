@@ -15,8 +15,8 @@ use Rattle.call_rows.specs.Rows.{at}
 use Rattle.line_calls.specs.Call.{outcomeBy, storeBy}
 use Rattle.line_rows.specs.Row.{rowBy}
 use Rattle.form_changes.specs.Change.{plainChanged, packedChanged}
+use Rattle.form_changes.specs.Line.{changeOf, changeRow, formAfter}
 use Rattle.yard.specs.declared.Step.{Step}
-use Rattle.yard.specs.Change.{changeOf, changeRow, formAfter}
 
 -- ---- a call by its verb, numbers n, terminal and bits, on the store that has the rooms, in its form
 

@@ -1,28 +1,18 @@
 // A line of the yard's log made one call of 01, or a change of form, and its answer a row.
 use requests::Request;
-use requests::Verb;
-use slots::Answer;
 use slots::State;
 ghost use mathlib.Core.Path.{_≡_};
 ghost use lib.ListN.{length, replicate};
 ghost use Rattle.lines.specs.Put.{putAt};
 ghost use Rattle.requests.specs.Request.{requestOf, longestLine};
-ghost use Rattle.form_changes.specs.Change.{plainChanged, packedChanged};
 ghost use Rattle.line_calls.specs.Call.{storeBy};
-ghost use Rattle.yard.specs.Change.{changeOf, changeRow};
-ghost use Rattle.yard.specs.Step.{rowMade, stepMade, callRow, callStep, callStore, changeStep, stepOf, plainAfter, packedAfter, outAfter, stepWithin, plainWithin, packedWithin, outWithin};
+ghost use Rattle.yard.specs.Step.{rowMade, stepMade, callRow, callStep, callStore, stepOf, plainAfter, packedAfter, outAfter, stepWithin, plainWithin, packedWithin, outWithin};
 
 // The state and the form of the rooms to hand to the next line, and the length of the row that answers this one.
 pub struct Step {
     pub state: State,
     pub four: bool,
     pub written: usize,
-}
-
-// What a line asks of the form of the rooms: whether it changes it, and whether to four places a byte.
-pub struct Change {
-    pub changes: bool,
-    pub packs: bool,
 }
 
 // No row is longer: `ok`, a tab, a codeword of 172,800 bits and a newline.
@@ -72,78 +62,19 @@ fn line_on(
 {
     let request = requests::read_request(line);
     let verb = request.verb;
-    let change = change_of(verb);
+    let change = form_changes::change_of(verb);
     if change.changes {
-        return change_line(state, four, change.packs, plain, packed, out);
+        let changed = form_changes::change_line(state, four, change.packs, plain, packed, out);
+        return Step {
+            state,
+            four: changed.four,
+            written: changed.written,
+        };
     }
     if four {
         return call_line(state, true, request, line, packed, out);
     }
     call_line(state, false, request, line, plain, out)
-}
-
-// What a line with this verb asks of the form.
-fn change_of(verb: Verb) -> Change
-    ensures { λ r. ⌜ r ≡ changeOf verb ⌝ }
-{
-    let none = Change {
-        changes: false,
-        packs: false,
-    };
-    match verb {
-        Verb::New => none,
-        Verb::Open => none,
-        Verb::OpenDown => none,
-        Verb::Close => none,
-        Verb::Receive => none,
-        Verb::Read => none,
-        Verb::Streams => none,
-        Verb::Build => none,
-        Verb::BuildDown => none,
-        Verb::Sizes => none,
-        Verb::Worst => none,
-        Verb::Pack => Change {
-            changes: true,
-            packs: true,
-        },
-        Verb::Unpack => Change {
-            changes: true,
-            packs: false,
-        },
-        Verb::Nothing => none,
-        Verb::Unreadable => none,
-    }
-}
-
-// Changes the form of every room.
-fn change_line(
-    state: State,
-    four: bool,
-    to: bool,
-    plain: &mut [u8],
-    packed: &mut [u8],
-    out: &mut [u8],
-) -> Step
-    ensures { λ r. ⌜ r ≡ changeStep state four to (length (now (plain .entry))) (length (now (packed .entry))) (now (out .entry)) ⌝ }
-    ensures { λ r. ⌜ now (plain .exit) ≡ plainChanged state four to (now (plain .entry)) (now (packed .entry)) ⌝ }
-    ensures { λ r. ⌜ now (packed .exit) ≡ packedChanged state four to (now (plain .entry)) (now (packed .entry)) ⌝ }
-    ensures { λ r. ⌜ now (out .exit) ≡ putAt 0 (changeRow state (length (now (plain .entry))) (length (now (packed .entry)))) (now (out .entry)) ⌝ }
-{
-    let number = form_changes::change_form(state, four, to, plain, packed);
-    if number != 0 {
-        let refused = answers::put_refusal(number as usize, out);
-        return Step {
-            state,
-            four,
-            written: refused,
-        };
-    }
-    let written = answers::put_answer(Answer::Done, out);
-    Step {
-        state,
-        four: to,
-        written,
-    }
 }
 
 // Makes a call on the store that has the rooms, in its form, with the line's BITS where it has them. A line's terminal has no more than 16 bits, and of

@@ -43,7 +43,7 @@ returns c =
     let then1 = change-line .before .before .before .before in
     let args = at-start (at-read-request (then1 .before)) .args in
     by-change (args .state) (args .four) (now (args .plain)) (now (args .packed)) (now (args .line)) (now (args .out)) (at-read-request (then1 .before) .read-request .ensures) (then1 .before .change-of .ensures)
-    (then1 .if1 .taken) _ _ _ _ (change-line .change-line .ensures)
+    (then1 .if1 .taken) _ _ _ (change-line .change-line .ensures)
 
 call-line-requires : tie.Need-call-line-requires
 call-line-requires c κs = at-read-request (at-then2 c .before .before) .read-request .ensures

@@ -1,9 +1,9 @@
--- `yard::change_of` meets its contract: each verb by itself.
+-- `line::change_of` meets its contract: each verb by itself.
 -- Assumes nothing.
-use Rattle.yard.specs.Change.{changeOf}
+use Rattle.form_changes.specs.Line.{changeOf}
 use borrow.Author.Needs.{needs}
-use Rattle.yard.proofs.change_of.Statement.{statement}
-use Rattle.yard.proofs.change_of.Tie as tie
+use Rattle.form_changes.proofs.line.change_of.Statement.{statement}
+use Rattle.form_changes.proofs.line.change_of.Tie as tie
 
 enum-told : tie.Need-enum-told
 enum-told c = search needs

@@ -1,9 +1,9 @@
--- `yard::change_line` meets its contract: the number decides, by the laws of `ChangeLine`.
+-- `line::change_line` meets its contract: the number decides, by the laws of `ChangeLine`.
 -- Assumes nothing.
-use Rattle.yard.proofs.ChangeLine.{change-refused, change-accepted}
+use Rattle.form_changes.proofs.ChangeLine.{change-refused, change-accepted}
 use borrow.Author.Needs.{needs}
-use Rattle.yard.proofs.change_line.Statement.{statement}
-use Rattle.yard.proofs.change_line.Tie as tie
+use Rattle.form_changes.proofs.line.change_line.Statement.{statement}
+use Rattle.form_changes.proofs.line.change_line.Tie as tie
 
 -- the ways back
 abbrev at-change-form : tie.After-slice-known5 → tie.After-change-form

@@ -6,11 +6,13 @@ use Prim.Native.Nat.{ℕ}
 use lib.Dec.{eqb}
 use Rattle.slots.specs.declared.State.{State}
 use Rattle.slots.specs.declared.Answer.the-variants.{Done}
+use Rattle.lines.specs.Put.{endAt}
 use Rattle.requests.specs.declared.Verb.{Verb}
 use Rattle.requests.specs.declared.Verb.the-variants.{New, Open, OpenDown, Close, Receive, Read, Streams, Build, BuildDown, Sizes, Worst, Pack, Unpack, Nothing, Unreadable}
 use Rattle.answers.specs.Rows.{answerRow, refusalRow}
 use Rattle.form_changes.specs.Change.{formNumber}
-use Rattle.yard.specs.declared.Change.{Change}
+use Rattle.form_changes.specs.declared.Change.{Change}
+use Rattle.form_changes.specs.declared.FormStep.{FormStep}
 
 -- a line that leaves the form as it is
 abbrev pub noChange : Change
@@ -41,3 +43,8 @@ changeRow state plain packed =
 -- the form afterwards, where `to` is asked for
 unfoldable pub formAfter : State → Bool → Bool → ℕ → ℕ → Bool
 formAfter state four to plain packed = cond (eqb (formNumber state plain packed) 0) to four
+
+-- what such a line gives: the form, and the length of the row where that fits into the output, else 0
+unfoldable pub changeMade : State → Bool → Bool → ℕ → ℕ → List ℕ → FormStep
+changeMade state four to plain packed out =
+    record { four = formAfter state four to plain packed; written = endAt 0 (changeRow state plain packed) out }
