@@ -2,12 +2,11 @@
 use libc::STDERR_FILENO;
 use libc::STDIN_FILENO;
 use libc::STDOUT_FILENO;
+use log_input::Line;
 use slots::State;
-ghost use mathlib.Core.Path.{_≡_};
 ghost use Prim.Native.Nat.{_+_, _≤_, _<_};
-ghost use lib.ListN.{length, replicate};
-ghost use Rattle.log_text.specs.Unfinished.{mostKept};
-ghost use Rattle.replay.specs.inner.Line.{Stands};
+ghost use lib.ListN.{length};
+ghost use Rattle.log_input.specs.Line.{Stands};
 
 // The state and the form of the rooms after the lines that are answered; `going` until an answer can't be written.
 struct Log {
@@ -15,18 +14,6 @@ struct Log {
     four: bool,
     going: bool,
 }
-
-// A line of the text, from `from` up to `to`, where the text is read up to `end`: unfinished where `to` is `end`, and nothing is left where `end` is 0.
-// `over` once the input is.
-struct Line {
-    from: usize,
-    to: usize,
-    end: usize,
-    over: bool,
-}
-
-// The byte `\n`.
-const NEWLINE: u8 = 10;
 
 fn main() {
     let mut text = text_room();
@@ -37,9 +24,7 @@ fn main() {
 }
 
 // Room for the longest line that is read, and for what comes behind it.
-fn text_room() -> [u8; 262144]
-    ensures { λ r. ⌜ r ≡ replicate 262144 0 ⌝ }
-{
+fn text_room() -> [u8; 262144] {
     [0; 262144]
 }
 
@@ -60,9 +45,7 @@ fn answer_room() -> [u8; 172804] {
 
 // Answers the log's lines. A proved loop has to end, and nothing says that an input does: so it counts its turns down, from a number that no run uses
 // up.
-fn replay_log(text: &mut [u8], plain: &mut [u8], packed: &mut [u8], out: &mut [u8])
-    requires { ⌜ mostKept < length (now text) ⌝ }
-{
+fn replay_log(text: &mut [u8], plain: &mut [u8], packed: &mut [u8], out: &mut [u8]) {
     let mut log = begun();
     let mut line = first_line(text);
     let mut turns = turns_left(u64::MAX, log.going, line.end);
@@ -102,9 +85,11 @@ fn turns_left(turns: u64, going: bool, end: usize) -> u64
 fn first_line(text: &mut [u8]) -> Line
     ensures { λ r. ⌜ Stands r (length (now (text .exit))) ⌝ }
 {
-    let got = read_more(text, 0);
-    tell_line_ends(&text[..got]);
-    line_in(text, 0, 0, got, false)
+    let unread = log_input::unread();
+    let line = next_line(unread, text);
+    let end = line.end;
+    tell_line_ends(&text[..end]);
+    line
 }
 
 fn tell_line_ends(text: &[u8]) {
@@ -125,75 +110,17 @@ fn read_more(text: &mut [u8], have: usize) -> usize
     io::count(got, &text[have..])
 }
 
-// The line from `from` on. In the bytes before `seen` it does not end: an unfinished line is not looked through again.
-fn line_in(text: &[u8], from: usize, seen: usize, end: usize, over: bool) -> Line
-    requires { ⌜ (from ≤ seen) × (seen ≤ end) × (end ≤ length (now text)) ⌝ }
-    ensures { λ r. ⌜ Stands r (length (now (text .entry))) ⌝ }
-{
-    let to = lines::line_end(&text[..end], seen);
-    Line {
-        from,
-        to,
-        end,
-        over,
-    }
-}
-
 // The line after this one, or this one, if it is unfinished, gone on with.
 fn next_line(line: Line, text: &mut [u8]) -> Line
-    requires { ⌜ Stands line (length (now text)) × (mostKept < length (now text)) ⌝ }
     ensures { λ r. ⌜ Stands r (length (now (text .exit))) ⌝ }
 {
-    if line.to < line.end {
-        let from = line.to + 1;
-        return line_in(text, from, from, line.end, line.over);
+    let next = log_input::line_after(line, text);
+    if !log_input::goes_on(next) {
+        return next;
     }
-    if line.over {
-        return nothing_left();
-    }
-    read_on(line.from, line.end, text)
-}
-
-// No line is left.
-fn nothing_left() -> Line
-    ensures { λ r. ⌜ (r .from ≡ 0) × (r .to ≡ 0) × (r .end ≡ 0) ⌝ }
-{
-    Line {
-        from: 0,
-        to: 0,
-        end: 0,
-        over: true,
-    }
-}
-
-// Keeps an unfinished line, and reads on.
-fn read_on(from: usize, end: usize, text: &mut [u8]) -> Line
-    requires { ⌜ mostKept < length (now text) ⌝ }
-    ensures { λ r. ⌜ Stands r (length (now (text .exit))) ⌝ }
-{
-    let kept = log_text::keep(text, from, end);
-    let got = read_more(text, kept);
-    if got == 0 {
-        return last_line(text, kept);
-    }
-    line_in(text, 0, kept, kept + got, false)
-}
-
-// The last line of the input, of so many bytes, which no newline ended: it is ended here.
-fn last_line(text: &mut [u8], kept: usize) -> Line
-    requires { ⌜ kept < length (now text) ⌝ }
-    ensures { λ r. ⌜ Stands r (length (now (text .exit))) ⌝ }
-{
-    if kept == 0 {
-        return nothing_left();
-    }
-    text[kept] = NEWLINE;
-    Line {
-        from: 0,
-        to: kept,
-        end: kept + 1,
-        over: true,
-    }
+    let kept = next.end;
+    let count = read_more(text, kept);
+    log_input::line_read(kept, count, text)
 }
 
 // Makes the call or the change that a line asks for and writes its answer; an unfinished line waits.

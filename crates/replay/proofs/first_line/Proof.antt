@@ -5,8 +5,11 @@ use borrow.Author.Needs.{needs}
 use Rattle.replay.proofs.first_line.Statement.{statement}
 use Rattle.replay.proofs.first_line.Tie as tie
 
-read-more-requires : tie.Need-read-more-requires
-read-more-requires c κs = search needs
+unread-requires : tie.Need-unread-requires
+unread-requires c κs = search needs
+
+next-line-requires : tie.Need-next-line-requires
+next-line-requires c κs = search needs
 
 slice-reshare-prefix-tell-line-ends : tie.Need-slice-reshare-prefix-tell-line-ends
 slice-reshare-prefix-tell-line-ends c = search needs
@@ -16,9 +19,6 @@ slice-aggregate-tell-line-ends c = front-count _ _ (slice-reshare-prefix-tell-li
 
 tell-line-ends-requires : tie.Need-tell-line-ends-requires
 tell-line-ends-requires c κs = search needs
-
-line-in-requires : tie.Need-line-in-requires
-line-in-requires c κs = search needs
 
 same-length : tie.Need-same-length
 same-length c = search needs
@@ -30,10 +30,10 @@ pub first-line-spec : {M : Type 1} → statement M
 first-line-spec =
     tie.close
     (tie.spec
-    read-more-requires
+    unread-requires
+    next-line-requires
     slice-reshare-prefix-tell-line-ends
     slice-aggregate-tell-line-ends
     tell-line-ends-requires
-    line-in-requires
     same-length
     returns)

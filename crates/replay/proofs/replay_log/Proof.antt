@@ -1,17 +1,15 @@
 -- `replay::replay_log` is safe and ends: it counts its turns down, and a line stands within the text.
 -- Assumes nothing.
 use mathlib.Core.Path.{_≡_, refl, _∙_}
-use Prim.Native.Nat.{_<_}
 use native.Mathlib.Omega.{arith}
 use lib.ListN.{length}
-use Rattle.log_text.specs.Unfinished.{mostKept}
-use Rattle.replay.specs.inner.Line.{Stands}
+use Rattle.log_input.specs.Line.{Stands}
 use Rattle.replay.proofs.replay_log.Statement.{statement}
 use Rattle.replay.proofs.replay_log.Tie as tie
 
 abbrev Inv-loop : tie.InvT-loop
 Inv-loop text₀ plain₀ packed₀ out₀ log₀ line₀ turns₀ text plain packed out log line turns =
-    Stands line (length text) × (mostKept < length text) × (length text ≡ length text₀) × (length plain ≡ length plain₀) × (length packed ≡ length packed₀) × (length out ≡ length out₀)
+    Stands line (length text) × (length text ≡ length text₀) × (length plain ≡ length plain₀) × (length packed ≡ length packed₀) × (length out ≡ length out₀)
 
 abbrev μ-loop : tie.MeasureT-loop
 μ-loop text₀ plain₀ packed₀ out₀ log₀ line₀ turns₀ text plain packed out log line turns = turns
@@ -39,17 +37,13 @@ turns-left-requires : tie.Need-turns-left-requires Inv-loop μ-loop
 turns-left-requires c κs = omega arith
 
 loop-holds : tie.Need-loop-holds Inv-loop μ-loop
-loop-holds c =
-    let first-line = at-first-line c in
-    let start = first-line .before .before .before .before .before .before .before in
-    let line = first-line .first-line in
-    (line .ensures, omega (arith, line .kept .0, start .pre), refl, refl, refl, refl)
+loop-holds c = (at-first-line c .first-line .ensures, refl, refl, refl, refl)
 
 answer-requires : tie.Need-answer-requires Inv-loop μ-loop
 answer-requires c κs = at-loop-from-answer-arg4 c .loop .inv .0
 
 next-line-requires : tie.Need-next-line-requires Inv-loop μ-loop
-next-line-requires c κs = let inv = at-loop (at-answer c) .loop .inv in (inv .0, inv .1)
+next-line-requires c κs = tt
 
 turns-left-requires-2 : tie.Need-turns-left-requires-2 Inv-loop μ-loop
 turns-left-requires-2 c κs = omega arith
@@ -64,19 +58,19 @@ loop-again c =
     let inv = at-loop answer .loop .inv in
     let line = next-line .next-line in
     let kept = answer .answer .kept in
-    (line .ensures, omega (arith, line .kept .1 .0, inv .1), line .kept .1 .0 ∙ inv .2, kept .1 .1 .1 .0 ∙ inv .3, kept .1 .1 .1 .1 .0 ∙ inv .4, kept .1 .1 .1 .1 .1 .0 ∙ inv .5)
+    (line .ensures, line .kept .1 .0 ∙ inv .1, kept .1 .1 .1 .0 ∙ inv .2, kept .1 .1 .1 .1 .0 ∙ inv .3, kept .1 .1 .1 .1 .1 .0 ∙ inv .4)
 
 same-length : tie.Need-same-length Inv-loop μ-loop
-same-length c = c .before .loop .inv .2 ∙ at-first-line (c .before .before) .first-line .kept .0
+same-length c = c .before .loop .inv .1 ∙ at-first-line (c .before .before) .first-line .kept .0
 
 same-length-2 : tie.Need-same-length-2 Inv-loop μ-loop
-same-length-2 c = c .before .loop .inv .3
+same-length-2 c = c .before .loop .inv .2
 
 same-length-3 : tie.Need-same-length-3 Inv-loop μ-loop
-same-length-3 c = c .before .loop .inv .4
+same-length-3 c = c .before .loop .inv .3
 
 same-length-4 : tie.Need-same-length-4 Inv-loop μ-loop
-same-length-4 c = c .before .loop .inv .5
+same-length-4 c = c .before .loop .inv .4
 
 returns : tie.Need-returns Inv-loop μ-loop
 returns c = tt
