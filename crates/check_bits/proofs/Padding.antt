@@ -1,12 +1,11 @@
 -- The first bits, fewer than the register has, in one stride: its highest bits go with them, as the lowest of a full stride, and its other bits only move up.
 -- Assumes nothing.
-use mathlib.Core.Path.{_≡_, refl, sym, _∙_, ap, ap₂, subst}
+use mathlib.Core.Path.{_≡_, refl, sym, _∙_, ap, ap₂}
 use mathlib.Core.List.{List}
 use Prim.Native.Nat.{ℕ, zero, suc, _+_, _-_, _*_, _/_, _%_, _^_, _≤_, _<_}
 use native.Mathlib.Nat.{zero-mul, mul-one, mul-assoc, zero-div, zero-mod, div-eq-of-lt, mod-eq-of-lt, mod-lt, lt-of-lt-of-le, pow-suc, pow-succ', add-zero}
 use native.Mathlib.Omega.{arith}
-use lib.Bits.{bitAnd, bitXor, and-mask, xor-comm, xor-zero-l, xor-zero-r, xor-shifted, xor-shr, xor-lt}
-use lib.Dec.{lit<}
+use lib.Bits.{bitAnd, bitXor, and-mask, xor-comm, xor-zero-l, xor-zero-r, xor-shifted, xor-lt}
 use lib.ListN.{length, take, drop, replicate, length-replicate, replicate-append-replicate, take-append-drop}
 use lib.Pow.{low, mod-mod-pow, mod-pow-add, pow-mono, pow-pos, shl-lt, shl-shr, shr-lt, split}
 use lib.Seq.{take-at, take-take}

@@ -1,6 +1,6 @@
 -- The columns of table 5.1.4-2: the rule gives the numbers as printed, permutes the 32 columns, and every place past the dummies is read once.
 -- Assumes nothing.
-use mathlib.Core.Path.{_≡_, sym, _∙_, ap}
+use mathlib.Core.Path.{_≡_, _∙_, ap}
 use mathlib.Core.Bool.{Bool}
 use Prim.Native.Nat.{ℕ, _+_, _%_, _<_}
 use native.Mathlib.Nat.{mod-lt}

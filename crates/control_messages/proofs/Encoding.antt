@@ -14,7 +14,7 @@ use Rattle.laws.proofs.Tab.{tab-ext}
 use Rattle.laws.proofs.AreBits.{append-bits, drop-below}
 use Rattle.laws.proofs.Writing.{drop-next}
 use Rattle.control_messages.specs.TailBiting.{generator0, generator1, generator2, tapped, fromTheEnd, initial, shiftedIn, encoded, registerAfter, parityStream}
-use Rattle.control_messages.specs.Working.{withLead, first, second, third, three, bitAt}
+use Rattle.control_messages.specs.Working.{withLead, first, second, third, three}
 
 -- the bit at place k + 6 and the six before it, the newest first
 abbrev window : List ℕ → ℕ → List ℕ

@@ -1,6 +1,6 @@
 -- The sub-block interleaver of clause 5.1.4.2.1 as it is worked out: the entries go out in the order of the columns, dummies left out, as many as went in.
 -- Assumes nothing.
-use mathlib.Core.Path.{_≡_, refl, sym, _∙_, ap, ap₂}
+use mathlib.Core.Path.{_≡_, sym, _∙_, ap}
 use mathlib.Core.Logic.{_⊎_, inl, inr}
 use mathlib.Core.Bool.{Bool}
 use mathlib.Core.List.{List, [], _∷_, _++_, map}
@@ -8,7 +8,7 @@ use Prim.Native.Nat.{ℕ, _+_, _-_, _*_, _%_, _≤_, _<_}
 use native.Mathlib.Nat.{add-assoc, mod-lt, mul-le-mul-right}
 use native.Mathlib.Omega.{arith}
 use lib.Arith.{digits-lt, digits-div, digits-mod}
-use lib.Dec.{T, eqb, eqb→eq, lit<}
+use lib.Dec.{eqb, eqb→eq, lit<}
 use lib.ListN.{length, getD, drop, set, length-map}
 use borrow.Author.Tests.{le-leb, lt-leb}
 use Rattle.laws.specs.Bits.{bitsOf}

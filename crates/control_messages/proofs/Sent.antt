@@ -1,18 +1,15 @@
 -- Which coded bits a message sends, clause 5.1.4.2.2: every bit of the three streams lies on the circle once, and 3·D bits or more send each of them.
 -- Assumes nothing.
-use mathlib.Core.Path.{_≡_, refl, sym, _∙_, ap, ap₂}
-use mathlib.Core.Bool.{true}
-use mathlib.Core.List.{List, _++_, map}
-use Prim.Native.Nat.{ℕ, zero, suc, _+_, _-_, _*_, _≤_, _<_}
+use mathlib.Core.Path.{_≡_, sym, _∙_, ap}
+use mathlib.Core.List.{List, _++_}
+use Prim.Native.Nat.{ℕ, zero, suc, _+_, _*_, _≤_, _<_}
 use native.Mathlib.Nat.{mod-eq-of-lt}
 use native.Mathlib.Omega.{arith}
 use lib.ListN.{length, getD, length-append, length-map, List·getD-append}
 use lib.Seq.{getD-append-add}
 use borrow.Author.Tests.{lt-ltb}
 use Rattle.laws.specs.Bits.{AreBits}
-use Rattle.laws.specs.Lists.{tab, keep}
 use Rattle.laws.proofs.Tab.{length-tab, getD-tab}
-use Rattle.rate_matching.specs.Columns.{column}
 use Rattle.rate_matching.specs.SubBlocks.{rows, dummies, padded, yAt}
 use Rattle.rate_matching.specs.Places.{streamOf}
 use Rattle.rate_matching.specs.Walk.{onCircle, isBit, holdsBit, turn, turnAfterTurn, sentPlaces, Among}

@@ -1,21 +1,19 @@
 -- What the search by planes finds is the nearest message of the definition.
 -- Assumes nothing.
-use mathlib.Core.Path.{_≡_, refl, sym, _∙_, ap, ap₂}
-use mathlib.Core.Bool.{Bool, true, false}
+use mathlib.Core.Path.{_≡_, _∙_, ap}
+use mathlib.Core.Bool.{false}
 use mathlib.Core.List.{List, _++_}
-use Prim.Native.Nat.{ℕ, suc, _+_, _-_, _/_, _^_, _≤_, _<_}
+use Prim.Native.Nat.{ℕ, _+_, _-_, _/_, _^_, _≤_, _<_}
 use native.Mathlib.Omega.{arith}
-use lib.Dec.{ltb}
 use lib.Pow.{pow-pos}
 use lib.ListN.{length, getD, replicate}
 use borrow.Author.Tests.{ltb-false}
-use Rattle.laws.specs.Bits.{AreBits, EachBelow}
+use Rattle.laws.specs.Bits.{AreBits}
 use Rattle.laws.specs.Lists.{tab}
-use Rattle.codeword.specs.Build.{badBits}
 use Rattle.codeword.proofs.Accepted.{or-false, given-bits}
 use Rattle.report_code.specs.Code.{block, repeated, controlBits}
 use Rattle.report_code.specs.Words.{messageBits, wordOf}
-use Rattle.report_code.specs.inner.Counts.{plane, planeDistance}
+use Rattle.report_code.specs.inner.Counts.{plane}
 use Rattle.report_code.specs.Nearest.{differences, distance, distanceOf, nearestUpTo, nearestMessage, unfit, nearestOf}
 use Rattle.report_code.specs.inner.Counted.{Counted}
 use Rattle.report_code.specs.inner.Search.{wordDistance}

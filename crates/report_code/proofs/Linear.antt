@@ -1,12 +1,12 @@
 -- The code is linear: the coded block of two reports added is their blocks added, also as words; a report's word is that of its number.
 -- Assumes nothing.
-use mathlib.Core.Path.{_≡_, refl, sym, _∙_, ap, ap₂}
+use mathlib.Core.Path.{_≡_, refl, sym, _∙_, ap}
 use mathlib.Core.List.{List, [], _∷_}
 use Prim.Native.Nat.{ℕ, zero, suc, _+_, _*_, _%_, _^_, _≤_, _<_}
 use native.Mathlib.Omega.{arith}
 use lib.Dec.{lit<}
 use lib.Bits.{bitAnd, bitXor, xor-add-and}
-use lib.ListN.{length, getD}
+use lib.ListN.{length}
 use Rattle.laws.specs.Bits.{AreBits}
 use Rattle.laws.specs.Lists.{tab, tabFrom}
 use Rattle.laws.proofs.Bits.{xor-parity, xor-bit-lt}
@@ -14,7 +14,7 @@ use Rattle.laws.proofs.Tab.{length-tab, tab-ext}
 use Rattle.report_code.specs.Basis.{row}
 use Rattle.report_code.specs.Code.{shared, codedBit, block}
 use Rattle.report_code.specs.Words.{numberOf, messageBits, wordOf}
-use Rattle.report_code.proofs.Words.{added, number-added, number-lt, length-message, message-bits, message-number, message-added, message-shared}
+use Rattle.report_code.proofs.Words.{added, number-added, number-lt, length-message, message-number, message-added, message-shared}
 
 -- ---- one coded bit
 

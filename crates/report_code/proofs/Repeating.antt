@@ -1,13 +1,13 @@
 -- The control bits written turn after turn, each turn a copy of the coded block or, at the end, of its front.
 -- Assumes nothing.
 use mathlib.Core.Path.{_≡_, refl, sym, _∙_, ap}
-use mathlib.Core.List.{List, [], _∷_, _++_}
+use mathlib.Core.List.{List, _++_}
 use Prim.Native.Nat.{ℕ, _+_, _-_, _%_, _≤_, _<_}
 use native.Mathlib.Omega.{arith}
 use lib.ListN.{length, take, drop}
 use lib.Seq.{length-take-le}
-use borrow.Rule.Slice.PartMut.{midOf, putMid}
-use Rattle.laws.specs.Lists.{tab, tabFrom}
+use borrow.Rule.Slice.PartMut.{putMid}
+use Rattle.laws.specs.Lists.{tabFrom}
 use Rattle.laws.proofs.Copied.{all-copied}
 use Rattle.laws.proofs.Parts.{length-mid}
 use Rattle.laws.proofs.Tab.{tabFrom-split, tab-rest, rest-none}

@@ -1,11 +1,11 @@
 -- The rows of the basis as masks: by one computed test each row has at most 11 entries, all bits, so that the ones which a message shares
 -- with a mask give the coded bit of clause 5.2.2.6.4.
 -- Assumes nothing.
-use mathlib.Core.Path.{_≡_, refl, sym, _∙_, ap}
-use mathlib.Core.Bool.{Bool, true, false, _&&_, and-eq-true-iff}
+use mathlib.Core.Path.{_≡_, refl, _∙_, ap}
+use mathlib.Core.Bool.{Bool, true, _&&_, and-eq-true-iff}
 use mathlib.Core.List.{List, [], _∷_, map}
 use Prim.Native.Nat.{ℕ, zero, suc, _%_, _≤_, _<_}
-use lib.Dec.{T, ltb, leb, lit<, leb→le}
+use lib.Dec.{ltb, leb, lit<}
 use lib.Bits.{bitAnd}
 use lib.Count.{ones}
 use lib.ListN.{length, getD}
@@ -14,7 +14,7 @@ use Rattle.laws.specs.Bits.{AreBits}
 use Rattle.laws.specs.inner.Computed.{all-below}
 use Rattle.laws.proofs.Computed.{all-below-at, T-true}
 use Rattle.report_code.specs.Basis.{basis, row}
-use Rattle.report_code.specs.Code.{shared, codedBit}
+use Rattle.report_code.specs.Code.{codedBit}
 use Rattle.report_code.specs.Words.{numberOf, messageBits, rowMasks}
 use Rattle.report_code.proofs.Words.{ones-message}
 

@@ -1,24 +1,24 @@
 -- The control bits of two reports of one length differ in as many places as the sum of the reports weighs, so in at least those of the tables.
 -- Assumes nothing.
-use mathlib.Core.Path.{_≡_, refl, sym, _∙_, ap, ap₂}
+use mathlib.Core.Path.{_≡_, refl, sym, _∙_, ap}
 use mathlib.Core.Bool.{Bool, true, false}
 use mathlib.Core.List.{List}
-use Prim.Native.Nat.{ℕ, suc, _+_, _-_, _*_, _/_, _%_, _^_, _≤_, _<_}
+use Prim.Native.Nat.{ℕ, _*_, _/_, _%_, _^_, _≤_, _<_}
 use native.Mathlib.Nat.{mul-le-mul-left}
 use native.Mathlib.Omega.{arith}
-use lib.Dec.{T, eqb, leb}
+use lib.Dec.{eqb, leb}
 use lib.Bits.{bitXor, xor-lt, xor-zero-r}
-use lib.ListN.{length, getD, take}
+use lib.ListN.{take}
 use borrow.Author.Tests.{eqb-true, eqb-false, leb-true}
 use Rattle.laws.specs.Bits.{AreBits}
 use Rattle.laws.specs.inner.Computed.{all-below}
-use Rattle.laws.specs.Lists.{tab, tabFrom}
+use Rattle.laws.specs.Lists.{tab}
 use Rattle.laws.proofs.Bits.{xor-cancel}
 use Rattle.laws.proofs.Computed.{all-below-at, T-true}
 use Rattle.report_code.specs.Code.{block, circular, repeated, controlBits}
 use Rattle.report_code.specs.Words.{messageBits}
 use Rattle.report_code.specs.Nearest.{differences}
-use Rattle.report_code.proofs.Words.{added, length-message, message-added}
+use Rattle.report_code.proofs.Words.{length-message, message-added}
 use Rattle.report_code.proofs.Linear.{length-block, block-bits, block-added, tab-bits}
 use Rattle.report_code.proofs.Folding.{length-repeated}
 use Rattle.report_strength.specs.Strength.{weight, leastWeight, fewest, fewestTable}

@@ -4,7 +4,7 @@
 use mathlib.Core.Path.{_≡_, refl, sym, _∙_, ap, ap₂}
 use mathlib.Core.Bool.{Bool, true, false}
 use mathlib.Core.List.{List}
-use Prim.Native.Nat.{ℕ, suc, _+_, _-_, _*_, _/_, _^_, _≤_, _<_}
+use Prim.Native.Nat.{ℕ, _+_, _-_, _*_, _/_, _^_, _≤_, _<_}
 use native.Mathlib.Omega.{arith}
 use lib.Pow.{pow-pos}
 use lib.Bits.{xor-zero-l}
@@ -14,9 +14,9 @@ use Rattle.laws.specs.Bits.{AreBits}
 use Rattle.laws.specs.Lists.{tab}
 use Rattle.codeword.specs.declared.Grant.{Grant}
 use Rattle.codeword.specs.Codeword.{codeword}
-use Rattle.report_code.specs.Code.{block, circular, repeated, controlBits}
+use Rattle.report_code.specs.Code.{block, repeated, controlBits}
 use Rattle.report_code.specs.Words.{numberOf, messageBits}
-use Rattle.report_code.specs.Nearest.{differences, distance, distanceOf, nearestUpTo, nearestMessage}
+use Rattle.report_code.specs.Nearest.{differences, distance, distanceOf, nearestMessage}
 use Rattle.report_code.proofs.Words.{number-lt, number-message, message-number, length-message, message-bits}
 use Rattle.report_code.proofs.Linear.{length-block}
 use Rattle.report_code.proofs.Folding.{length-repeated, turn-is}

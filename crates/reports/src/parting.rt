@@ -2,7 +2,7 @@
 use super::refused::bad_data;
 use super::refused::shape_number;
 ghost use mathlib.Core.Path.{_≡_};
-ghost use Prim.Native.Nat.{_-_, _≤_};
+ghost use Prim.Native.Nat.{_-_};
 ghost use lib.ListN.{length};
 ghost use Rattle.report_code.specs.Words.{messageBits};
 ghost use Rattle.refusals.specs.Refusals.{firstOf};

@@ -10,8 +10,6 @@ use lib.ListN.{length, getD}
 use borrow.Author.Tests.{leb-true, ltb-false}
 use Rattle.requests.specs.declared.Verb.{Verb}
 use Rattle.requests.specs.declared.Verb.the-variants.{Nothing, Unreadable}
-use Rattle.requests.specs.declared.Form.{Form}
-use Rattle.requests.specs.declared.Request.{Request}
 use Rattle.requests.specs.Words.{wordAt}
 use Rattle.requests.specs.Verbs.{formOf, verbOf}
 use Rattle.requests.specs.Numbers.{field, fields, numberAt}

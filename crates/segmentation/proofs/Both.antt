@@ -1,8 +1,8 @@
 -- A block that lies in two slices: a part of the joined list is what each slice has of it, and a block with a slice that is too long is too long.
 -- Assumes nothing.
-use mathlib.Core.Path.{_≡_, refl, sym, _∙_, ap, ap₂}
+use mathlib.Core.Path.{_≡_, sym, _∙_, ap}
 use mathlib.Core.Bool.{true}
-use mathlib.Core.List.{List, [], _++_, append-nil, append-assoc}
+use mathlib.Core.List.{List, _++_, append-nil, append-assoc}
 use Prim.Native.Nat.{ℕ, min, _+_, _-_, _≤_, _<_}
 use native.Mathlib.Nat.{sub-zero}
 use native.Mathlib.Decide.{decLe}
@@ -11,7 +11,7 @@ use lib.ListN.{length, take, drop, replicate, length-append, length-drop, length
 use lib.Seq.{take-append-le, take-append-add, drop-append-le, drop-append-add, drop-at, drop-drop}
 use borrow.Author.Tests.{lt-ltb, ne-eqb}
 use borrow.Rule.Slice.PartMut.{midOf, putMid}
-use Rattle.laws.proofs.Parts.{length-mid, rest-back}
+use Rattle.laws.proofs.Parts.{rest-back}
 use Rattle.segmentation.specs.declared.Segments.{Segments}
 use Rattle.segmentation.specs.Into.{filledWith}
 use Rattle.segmentation.specs.Sizes.{badSize, segmentsFor}

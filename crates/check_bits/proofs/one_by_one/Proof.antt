@@ -1,6 +1,6 @@
 -- `check_bits::one_by_one` meets its contract. The loop's invariant: the register, gone on with the bits from `i` on, gives the remainder of all.
 -- Assumes nothing.
-use Prim.Native.Nat.{_≤_, _-_, _^_}
+use Prim.Native.Nat.{_≤_, _-_}
 use native.Mathlib.Omega.{arith}
 use lib.ListN.{length}
 use lib.Pow.{pow-pos}

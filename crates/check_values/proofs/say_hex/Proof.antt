@@ -1,7 +1,7 @@
 -- `say_hex` is safe and ends.
 -- Assumes nothing.
 use borrow.Author.Needs.{needs}
-use Prim.Native.Nat.{_≤_, _-_}
+use Prim.Native.Nat.{_≤_}
 use native.Mathlib.Omega.{arith}
 use Rattle.check_values.proofs.say_hex.Statement.{statement}
 use Rattle.check_values.proofs.say_hex.Tie as tie

@@ -1,11 +1,10 @@
 -- How often each of the 32 coded bits came as a 1 and as a 0, the counts' binary digits as words (bit planes), and the distance that the planes give.
 -- Assumes nothing.
-use mathlib.Core.List.{List, [], _∷_, map}
+use mathlib.Core.List.{List, [], _∷_}
 use Prim.Native.Nat.{ℕ, zero, suc, _+_, _-_, _*_, _/_, _%_, _^_}
 use lib.Bits.{bitAnd, bitXor}
 use lib.Count.{ones}
 use lib.ListN.{getD}
-use Rattle.laws.specs.Lists.{tab}
 use Rattle.report_code.specs.Code.{shared}
 use Rattle.report_code.specs.Words.{numberOf}
 

@@ -1,6 +1,5 @@
 -- `several` meets its contract: the numbers are those of the segmentation, and no sum wraps (`Worked`).
 -- Assumes nothing.
-use Prim.Native.Nat.{_-_}
 use native.Mathlib.Nat.{mul-le-mul}
 use native.Mathlib.Omega.{arith}
 use Rattle.segmentation.proofs.Worked.{Sums, blocksBy, needBy, shortsBy, row-positive, sums, worked}

@@ -1,6 +1,6 @@
 -- `turbo::is_encodable` meets its contract: no room for the tail, or the same tests from the size of the room.
 -- Assumes nothing.
-use mathlib.Core.Path.{sym, _∙_}
+use mathlib.Core.Path.{sym}
 use borrow.Author.Needs.{needs}
 use Rattle.turbo.proofs.Encodable.{by-size, no-tail}
 use Rattle.turbo.proofs.is_encodable.Statement.{statement}

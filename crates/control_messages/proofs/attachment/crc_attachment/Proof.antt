@@ -1,6 +1,6 @@
 -- `attachment::crc_attachment` meets its contract: the payload is copied to the front, and the mixed check put behind it.
 -- Assumes nothing.
-use mathlib.Core.Path.{_∙_, sym, ap}
+use mathlib.Core.Path.{ap}
 use native.Mathlib.Omega.{arith}
 use lib.ListN.{length}
 use lib.Seq.{length-take-le}

@@ -1,7 +1,6 @@
 -- `attachment::number_of` meets its contract: each bit doubles the number and is added.
 -- Assumes nothing.
-use Prim.Native.Nat.{_≤_, _<_, _-_, _^_}
-use mathlib.Core.Path.{_≡_}
+use Prim.Native.Nat.{_≤_, _<_, _-_}
 use native.Mathlib.Omega.{arith}
 use lib.ListN.{length}
 use Rattle.rate_matching.specs.Columns.{numberOf}

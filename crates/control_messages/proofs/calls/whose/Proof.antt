@@ -9,9 +9,7 @@ use borrow.Author.Needs.{needs}
 use Rattle.laws.specs.Bits.{AreBits}
 use Rattle.laws.proofs.Parts.{front-count}
 use Rattle.control_messages.specs.declared.Owner.the-variants.{Refused}
-use Rattle.control_messages.specs.Ownership.{ownerOf}
 use Rattle.control_messages.specs.Calls.{whoseNumber}
-use Rattle.control_messages.specs.Working.{Sized}
 use Rattle.control_messages.proofs.Numbers.{whose-sized, whose-bits, refused-answer, named-answer}
 use Rattle.control_messages.proofs.Owners.{fits-owner, part-long, part-bits, owner-worked}
 use Rattle.control_messages.proofs.calls.whose.Statement.{statement}

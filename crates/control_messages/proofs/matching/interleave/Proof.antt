@@ -1,7 +1,7 @@
 -- `matching::interleave` meets its contract: row after row of column after column, dummies passed over.
 -- Assumes nothing.
-use mathlib.Core.Path.{_≡_, refl, sym, _∙_, ap, subst}
-use mathlib.Core.Logic.{_⊎_, inl, inr, ⊎-elim}
+use mathlib.Core.Path.{_≡_}
+use mathlib.Core.Logic.{inl, inr, ⊎-elim}
 use Prim.Native.Nat.{_+_, _-_, _*_, _%_, _≤_, _<_}
 use native.Mathlib.Nat.{zero-mul}
 use native.Mathlib.Omega.{arith}
@@ -9,7 +9,6 @@ use borrow.Author.Needs.{needs}
 use Rattle.rate_matching.specs.Columns.{columnTable}
 use Rattle.rate_matching.specs.SubBlocks.{rows, dummies}
 use Rattle.rate_matching.proofs.Columns.{table-below}
-use Rattle.control_messages.specs.Working.{Sized}
 use Rattle.control_messages.proofs.Interleaving.{Taking, taking-start, taking-ends, index-lt, room-lt, met, next-row, next-column, fewer-row, fewer-column, all-passed}
 use Rattle.control_messages.proofs.matching.interleave.Statement.{statement}
 use Rattle.control_messages.proofs.matching.interleave.Tie as tie

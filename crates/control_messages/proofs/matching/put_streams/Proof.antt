@@ -1,8 +1,7 @@
 -- `matching::put_streams` meets its contract: three parts are lent, each behind the bits of the one before.
 -- Assumes nothing.
-use Prim.Native.Nat.{_+_, _-_, _≤_}
+use Prim.Native.Nat.{_+_, _-_}
 use native.Mathlib.Omega.{arith}
-use lib.ListN.{length}
 use lib.Seq.{length-take-le}
 use borrow.Author.Needs.{needs}
 use Rattle.laws.proofs.Parts.{front-count}

@@ -1,8 +1,6 @@
 -- `matching::rate_matching` meets its contract: the columns, the turn, the turn over and over.
 -- Assumes nothing.
 use mathlib.Core.Path.{_∙_, ap}
-use Prim.Native.Nat.{_+_}
-use native.Mathlib.Omega.{arith}
 use borrow.Author.Needs.{needs}
 use Rattle.laws.proofs.Parts.{front-count}
 use Rattle.control_messages.specs.Working.{inColumns, oneTurn}

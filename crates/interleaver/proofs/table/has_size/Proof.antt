@@ -1,7 +1,7 @@
 -- `table::has_size` meets its contract: a short size is that of the row that is found for it.
 -- Assumes nothing.
 use borrow.Author.Needs.{needs}
-use mathlib.Core.Path.{_∙_, ap}
+use mathlib.Core.Path.{_∙_}
 use Rattle.interleaver.specs.Table.{sizeTable, hasSize}
 use Rattle.interleaver.proofs.Search.{in-short, short-size}
 use Rattle.interleaver.proofs.table.has_size.Statement.{statement}

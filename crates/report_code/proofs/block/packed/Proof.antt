@@ -2,8 +2,8 @@
 -- Assumes nothing.
 use Prim.Native.Nat.{ℕ, _+_, _-_, _*_, _≤_, _<_}
 use native.Mathlib.Omega.{arith}
-use mathlib.Core.Path.{_≡_, refl, sym, _∙_, ap}
-use lib.ListN.{length, getD, drop, drop-of-length-le}
+use mathlib.Core.Path.{_≡_, sym, _∙_, ap}
+use lib.ListN.{getD, drop, drop-of-length-le}
 use Rattle.report_code.specs.Words.{numberOf}
 use Rattle.report_code.proofs.Words.{packed-more}
 use Rattle.report_code.proofs.block.packed.Statement.{statement}

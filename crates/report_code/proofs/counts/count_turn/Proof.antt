@@ -1,9 +1,7 @@
 -- `counts::count_turn` meets its contract: the turn's bits are added place by place.
 -- Assumes nothing.
-use mathlib.Core.Path.{_≡_, refl, sym, _∙_, ap}
-use Prim.Native.Nat.{ℕ, _+_, _-_, _≤_, _<_}
+use Prim.Native.Nat.{_-_}
 use native.Mathlib.Omega.{arith}
-use borrow.Author.Needs.{needs}
 use lib.ListN.{length}
 use Rattle.report_code.proofs.Folding.{Counting, counting-start, ones-fit, zeros-fit, counting-next, counting-finish}
 use Rattle.report_code.proofs.counts.count_turn.Statement.{statement}

@@ -4,7 +4,6 @@ use mathlib.Core.Path.{_≡_, refl, sym, _∙_, ap}
 use Prim.Native.Nat.{ℕ, _+_, _-_, _*_, _^_, _≤_, _<_}
 use native.Mathlib.Omega.{arith}
 use borrow.Author.Needs.{needs}
-use lib.ListN.{length}
 use Rattle.report_code.proofs.Planes.{above-small, heard-zeros, heard-ones, above-more, plane-step}
 use Rattle.report_code.specs.inner.Counts.{planeDistance}
 use Rattle.report_code.proofs.counts.plane_distance.Statement.{statement}

@@ -1,10 +1,8 @@
 -- `search::search` meets its contract: the words count up with the messages, and the nearest so far is that of the definition.
 -- Assumes nothing.
-use mathlib.Core.Path.{_≡_, refl, sym, _∙_, ap}
-use Prim.Native.Nat.{ℕ, suc, _+_, _-_, _^_, _≤_, _<_}
+use Prim.Native.Nat.{_-_, _^_}
 use native.Mathlib.Omega.{arith}
 use borrow.Author.Needs.{needs}
-use lib.ListN.{length}
 use Rattle.report_code.proofs.CountingUp.{Searching, start, below, step-lt, small, next, finish}
 use Rattle.report_code.proofs.search.search.Statement.{statement}
 use Rattle.report_code.proofs.search.search.Tie as tie

@@ -1,16 +1,15 @@
 -- `search::steps_for` meets its contract: the words of 1, 3, 7, .. one after another, the others left 0.
 -- Assumes nothing.
 use mathlib.Core.Path.{_≡_, refl, sym, _∙_, ap}
-use mathlib.Core.List.{List, _∷_, _++_}
-use Prim.Native.Nat.{ℕ, suc, _+_, _-_, _^_, _≤_}
+use Prim.Native.Nat.{suc, _-_, _^_, _≤_}
 use native.Mathlib.Omega.{arith}
 use borrow.Author.Needs.{needs}
 use lib.ListN.{length, length-set}
 use Rattle.report_code.proofs.CountingUp.{last-more, last-small}
 use Rattle.report_code.proofs.Entries.{entry-next, entries-kept}
 use Rattle.laws.specs.Lists.{tab, tabFrom}
-use Rattle.laws.proofs.Tab.{tab-rest, rest-more, rest-none}
-use Rattle.laws.proofs.Writing.{Writing, start, same, push, finish}
+use Rattle.laws.proofs.Tab.{tab-rest}
+use Rattle.laws.proofs.Writing.{Writing, start, same}
 use Rattle.report_code.specs.Words.{wordOf}
 use Rattle.report_code.specs.inner.Search.{stepWord}
 use Rattle.report_code.proofs.search.steps_for.Statement.{statement}
