@@ -17,7 +17,7 @@ import sys
 
 CRATES = pathlib.Path("crates")
 PAGES = ["*/proofs/Promises.antt", "statements/proofs/*.antt", "sums/proofs/*.antt"] + [
-    f"demands/proofs/{page}.antt" for page in "Answers Accepted PastRooms Exports Codeword Wordings Matrix Filling Encoder Release".split()
+    f"demands/proofs/{page}.antt" for page in "Numbers Answers Accepted Slots PastRooms Exports Codeword Wordings Matrix Filling Encoder Release".split()
 ]
 WORD = re.compile(r"[^\s(){}\[\],;.⌜⌝→λ]+")
 IMPORT = re.compile(r"^(?:ghost )?use Rattle·(\w+)(?:·specs)?\.specs\.([\w.]+?)(?:\.the-variants)?\.\{([^}]*)\}", re.M)

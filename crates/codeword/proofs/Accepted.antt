@@ -7,7 +7,7 @@ use Prim.Native.Nat.{ℕ, zero, suc, _*_, _%_, _≤_, _<_}
 use native.Mathlib.Nat.{mul-le-mul}
 use native.Mathlib.Omega.{arith}
 use lib.Dec.{eqb, ltb, lit<}
-use borrow.Author.Tests.{eqb-true, eqb-false, ltb-false, lt-ltb, not-false}
+use borrow.Author.Tests.{eqb-true, eqb-false, ltb-false, lt-ltb, le-ltb, not-false}
 use Rattle.laws.specs.Bits.{AreBits}
 use Rattle.codeword.specs.Shares.{symbols, share}
 use Rattle.codeword.specs.Build.{badModulation, badLayers, badSymbol, badLength, badAllocation, shareOf, badBits}
@@ -85,6 +85,11 @@ unfolding shareOf
 share-told C Q N G r h e = simp (lt-ltb r C h, e)
 
 -- ---- given bits
+
+pub bits-good : (a : List ℕ) → AreBits a → badBits a ≡ false
+unfolding badBits
+bits-good [] h = refl
+bits-good (x ∷ a) h = rw (le-ltb 1 x (omega (arith, h 0)), bits-good a (λ i. h (suc i)))
 
 pub given-bits : (a : List ℕ) → badBits a ≡ false → AreBits a
 unfolding badBits

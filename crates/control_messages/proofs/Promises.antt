@@ -1,14 +1,13 @@
 -- The promises of 02, E5, in its words, with their premises in full.
 -- Assumes nothing.
 use mathlib.Core.Path.{_≡_, refl, sym}
-use mathlib.Core.Bool.{false}
-use mathlib.Core.List.{List, [], _∷_}
-use Prim.Native.Nat.{ℕ, suc, _+_, _*_, _≤_, _<_}
+use mathlib.Core.List.{List}
+use Prim.Native.Nat.{ℕ, _+_, _*_, _≤_, _<_}
 use native.Mathlib.Omega.{arith}
 use lib.ListN.{length, getD}
 use borrow.Author.Tests.{le-ltb, lt-ltb}
 use Rattle.laws.specs.Bits.{AreBits}
-use Rattle.codeword.specs.Build.{badBits}
+use Rattle.codeword.proofs.Accepted.{bits-good}
 use Rattle.rate_matching.specs.Places.{streamOf}
 use Rattle.rate_matching.specs.Walk.{loop, onCircle, sentPlaces, isBit, holdsBit, Among}
 use Rattle.rate_matching.proofs.Walk.{loop-is-selected}
@@ -35,17 +34,12 @@ use Rattle.control_messages.proofs.Sent.{lies-there, lies-lt, sent-once
 pub columns-printed : (c : ℕ) → c < 32 → controlColumn c ≡ getD printedControlColumns c 0
 columns-printed = control-column-printed
 
--- ---- bits are accepted
-
-no-bad : (l : List ℕ) → AreBits l → badBits l ≡ false
-unfolding badBits
-no-bad [] h = refl
-no-bad (x ∷ l) h = rw (le-ltb 1 x (omega (arith, h 0)), no-bad l (λ i. h (suc i)))
+-- ---- whose a run is
 
 module _ (run : List ℕ) (z : Sized (length run)) (h : AreBits run) where
   accepted : whoseNumber run ≡ 0
   unfolding badRun
-  accepted = sym (whose-is run (rw (le-ltb (length run) 17 (z .least), le-ltb 80 (length run) (z .most))) (no-bad run h))
+  accepted = sym (whose-is run (rw (le-ltb (length run) 17 (z .least), le-ltb 80 (length run) (z .most))) (bits-good run h))
 
   -- exactly one terminal number fits any such word, and it is the one answered
   pub one-terminal-fits : (t : ℕ) × Fits run t × ((u : ℕ) → Fits run u → u ≡ t) × (whoseAnswer run ≡ Terminal t)

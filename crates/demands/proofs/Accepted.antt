@@ -9,7 +9,6 @@ use Prim.Native.Nat.{ℕ, _+_, _*_, _≤_, _<_}
 use native.Mathlib.Omega.{arith}
 use lib.Dec.{eqb}
 use lib.ListN.{length}
-use borrow.Author.Tests.{le-ltb, ne-eqb}
 use Rattle.laws.specs.Bits.{AreBits}
 use Rattle.refusals.specs.Refusals.{firstOf}
 use Rattle.segmentation.specs.Segmentation.{blocks, sizeOf}
@@ -17,7 +16,7 @@ use Rattle.codeword.specs.Shares.{grant}
 use Rattle.slots.specs.declared.Answer.the-variants.{Done, Refused}
 use Rattle.slots.specs.declared.State.{State}
 use Rattle.slots.specs.declared.Outcome.{Outcome}
-use Rattle.slots.specs.State.{roomLength, headAt, badShape}
+use Rattle.slots.specs.State.{roomLength, headAt}
 use Rattle.slots.specs.Room.{roomAt}
 use Rattle.slots.specs.Reading.{lacking, firstWrong, someWrong, wrongCheck, heardAnswer}
 use Rattle.slots.specs.Answers.{numberOf, Lacking, WrongBlock, unlessRefused}
@@ -27,23 +26,17 @@ use Rattle.history.specs.Calls.{History}
 use Rattle.history.specs.After.{stateAfter, storeAfter}
 use Rattle.demands.specs.Ranges.{Size, Allowed, Receiver}
 use Rattle.demands.specs.Lent.{New, OpenFor}
-use Rattle.demands.proofs.Ranges.{size-good, bits-good, version-good, allocation-good, buffer-good}
+use Rattle.demands.proofs.Ranges.{shape-test, size-test, allocation-test, version-test, bits-test, buffer-test}
 use Rattle.demands.proofs.Opened.{Ready, new-ready}
-
--- S and M in range are accepted
-shape-good : {S M : ℕ} {store : List ℕ} → New S M store → badShape S M ≡ false
-unfolding badShape
-shape-good {S} {M} n =
-    rw (ne-eqb S 0 (λ e. omega (arith, n .slots-some)), le-ltb 8 S (n .slots-most), ne-eqb M 0 (λ e. omega (arith, n .blocks-some)), le-ltb 5 M (n .blocks-most))
 
 -- New itself
 pub new-accepted : (S M : ℕ) (store : List ℕ) → New S M store → numberOf (newOutcome S M .answer) ≡ 0
 unfolding newOutcome unlessRefused firstOf numberOf
-new-accepted S M store n = rw (shape-good n)
+new-accepted S M store n = rw (shape-test S M .where-holds (n .shape))
 
 begun : (S M : ℕ) (store₀ : List ℕ) (h : History) → New S M store₀ → Ready S M store₀ h
 unfolding roomLength
-begun S M store₀ h n = new-ready S M store₀ h (shape-good n) (n .long)
+begun S M store₀ h n = new-ready S M store₀ h (shape-test S M .where-holds (n .shape)) (n .long)
 
 -- a number 0 is an acceptance
 accepting : (number : ℕ) (state : State) (accepted : Outcome) → number ≡ 0 → unlessRefused number state accepted ≡ accepted
@@ -85,7 +78,7 @@ module _ (S M : ℕ) (store₀ : List ℕ) (new : New S M store₀) (h : History
     unfolding openOutcome numberOf
     open-accepted =
         ap (λ (o : Outcome). numberOf (o .answer))
-        (accepting _ state _ (open-admitted state (length store) slot (ok .sound) (ok .long past) here A (size-good A size) closed fits))
+        (accepting _ state _ (open-admitted state (length store) slot (ok .sound) (ok .long past) here A (size-test A .where-holds size) closed fits))
 
     -- and for a downlink to a receiver in range
     pub open-down-accepted : (release kMIMO processes Nsoft layers : ℕ) → Receiver (A + 24) release kMIMO processes Nsoft layers
@@ -94,7 +87,7 @@ module _ (S M : ℕ) (store₀ : List ℕ) (new : New S M store₀) (h : History
     open-down-accepted release kMIMO processes Nsoft layers receiver =
         ap (λ (o : Outcome). numberOf (o .answer))
         (accepting _ state _
-        (open-down-admitted state (length store) slot (ok .sound) (ok .long past) here A (size-good A size) closed fits release kMIMO processes Nsoft layers (buffer-good receiver)))
+        (open-down-admitted state (length store) slot (ok .sound) (ok .long past) here A (size-test A .where-holds size) closed fits release kMIMO processes Nsoft layers (buffer-test (A + 24) release kMIMO processes Nsoft layers .where-holds receiver)))
 
   -- the other calls, by the owner
   module _ (A : ℕ) (owner : OpenFor state slot terminal A) where
@@ -109,7 +102,7 @@ module _ (S M : ℕ) (store₀ : List ℕ) (new : New S M store₀) (h : History
     receive-accepted Q N v bits allowed given = ap (λ (o : Outcome). numberOf (o .answer))
         (accepting _ state _
         (receive-admitted state (length store) slot (ok .sound) (ok .long past) here terminal (owner .opened) (owner .terminal-is) Q N v bits
-        (rw size-at (allocation-good allowed)) (version-good allowed) (bits-good bits given)))
+        (rw size-at (allocation-test (blocks (A + 24)) Q N (length bits) .where-holds (allowed .symbol, allowed .carried))) (version-test v .where-holds (allowed .version)) (bits-test bits .where-holds given)))
 
     -- a Close
     pub close-accepted : numberOf (closeOutcome state slot terminal .answer) ≡ 0

@@ -1,8 +1,9 @@
--- Demand 1: every call answers on every input; a refused call gives its number, returns the state as it came and writes no lent byte; and no call is refused where no rule of 01 applies.
+-- Demand 1: every call answers on every input; a refused call returns the state as it came and writes no lent byte; and Build and Sizes are accepted in 01's ranges.
+-- Which number is given when is page Numbers.
 -- That every call answers is that its code is proved to return, with no duty on the caller: no public function has a premise.
 -- Assumes nothing.
-use mathlib.Core.Path.{_≡_, sym}
-use mathlib.Core.List.{List}
+use mathlib.Core.Path.{_≡_, refl, sym}
+use mathlib.Core.List.{List, []}
 use Prim.Native.Nat.{ℕ, _+_, _≤_}
 use lib.ListN.{length}
 use borrow.Author.Tests.{ne-eqb}
@@ -14,13 +15,18 @@ use Rattle.codeword.specs.declared.Grant.{Grant}
 use Rattle.codeword.specs.Build.{buildNumber, buildOutput}
 use Rattle.codeword.specs.Downlink.{buildDownNumber, buildDownOutput}
 use Rattle.build_calls.proofs.Numbers.{accepted-is}
+use Rattle.reports.specs.Calls.{reportBuildNumber, reportBuildOutput, partNumber, partOutput, dataPart}
+use Rattle.control_messages.specs.declared.Owner.{Owner}
+use Rattle.control_messages.specs.declared.Owner.the-variants.{Terminal, Refused}
+use Rattle.control_messages.specs.Calls as control
+use Rattle.packing.specs.Change.{packNumber, packOutput, unpackNumber, unpackOutput}
 use Rattle.slots.specs.declared.State.{State}
 use Rattle.slots.specs.State.{newState}
 use Rattle.slots.specs.Answers.{numberOf}
 use Rattle.slots.specs.Calls.{newOutcome, openOutcome, openStore, openDownOutcome, openDownStore, receiveOutcome, receiveStore, readOutcome, readOutput, streamsOutcome, streamsOutput, closeOutcome}
 use Rattle.slots.proofs.Refused as refusing
 use Rattle.demands.specs.Ranges.{Size, Allowed}
-use Rattle.demands.proofs.Ranges.{size-good, bits-good, allocation-good}
+use Rattle.demands.proofs.Ranges.{size-test, allocation-test, bits-test}
 
 -- ---- Build and Sizes
 
@@ -37,12 +43,13 @@ build-down-refused a release kMIMO processes Nsoft layers g out h = rw (ne-eqb (
 
 -- A Build in range, of bits, into an output of at least G bytes, is accepted.
 pub build-accepted : (a : List ℕ) (g : Grant) (room : ℕ) → Size (length a) → Allowed (blocks (length a + 24)) g → AreBits a → g .bits ≤ room → buildNumber a g room ≡ 0
-build-accepted a g room size allowed bits fits = sym (accepted-is a g room (size-good (length a) size) (allocation-good allowed) (allowed .version) fits (bits-good a bits))
+build-accepted a g room size allowed bits fits = sym (accepted-is a g room (size-test (length a) .where-holds size)
+    (allocation-test (blocks (length a + 24)) (g .modulation) (g .layers) (g .bits) .where-holds (allowed .symbol, allowed .carried)) (allowed .version) fits (bits-test a .where-holds bits))
 
 -- A Sizes in range is answered with the six numbers.
 pub sizes-accepted : (A : ℕ) → Size A → sizesAnswer A ≡ Given (sizesOf A)
 unfolding sizesAnswer
-sizes-accepted A size = rw (size-good A size)
+sizes-accepted A size = rw (size-test A .where-holds size)
 
 -- ---- the slots: where the number given back is not 0, 11, 16 and 12 among them, the state is the one given and no byte is written
 
@@ -76,3 +83,42 @@ streams-refused = refusing.streams-refused
 -- Close is lent nothing.
 pub close-refused : (state : State) (slot terminal : ℕ) → (numberOf (closeOutcome state slot terminal .answer) ≡ 0 → ⊥) → closeOutcome state slot terminal .state ≡ state
 close-refused = refusing.close-refused
+
+-- ---- the other requests
+
+-- Build with a report (02, E3), and the way back, which parts nothing where it is refused, 19 among the refusals.
+pub report-build-refused : (o : List ℕ) (control : ℕ) (a : List ℕ) (g : Grant) (out : List ℕ) → (reportBuildNumber o control a g (length out) ≡ 0 → ⊥)
+    → reportBuildOutput o control a g out ≡ out
+unfolding reportBuildOutput
+report-build-refused o control a g out h = rw (ne-eqb (reportBuildNumber o control a g (length out)) 0 h)
+
+pub report-part-refused : (A Q N O control : ℕ) (received out : List ℕ) → (partNumber A Q N O control received (length out) ≡ 0 → ⊥)
+    → partOutput A Q N O control received out ≡ out
+unfolding partOutput
+report-part-refused A Q N O control received out h = rw (ne-eqb (partNumber A Q N O control received (length out)) 0 h)
+
+pub data-part-refused : (A Q N O control : ℕ) (received : List ℕ) → (partNumber A Q N O control received O ≡ 0 → ⊥) → dataPart A Q N O control received ≡ []
+unfolding dataPart
+data-part-refused A Q N O control received h = rw (ne-eqb (partNumber A Q N O control received O) 0 h)
+
+-- A downlink control message (02, E5), and whose one is: the terminal number that C lends stays.
+pub control-refused : (a : List ℕ) (t E : ℕ) (out : List ℕ) → (control.controlNumber a E (length out) ≡ 0 → ⊥) → control.controlOutput a t E out ≡ out
+unfolding control.controlOutput
+control-refused a t E out h = rw (ne-eqb (control.controlNumber a E (length out)) 0 h)
+
+pub whose-refused : (run : List ℕ) (before : ℕ) → (control.numberOf (control.whoseAnswer run) ≡ 0 → ⊥) → control.terminalOf (control.whoseAnswer run) before ≡ before
+unfolding control.numberOf control.terminalOf
+whose-refused run before h = go (control.whoseAnswer run) h
+  where
+    go : (w : Owner) → (control.numberOf w ≡ 0 → ⊥) → control.terminalOf w before ≡ before
+    go (Terminal t) h = absurd (h refl)
+    go (Refused n) h = refl
+
+-- The change of form of a room (02, E7).
+pub pack-refused : (M : ℕ) (from to : List ℕ) → (packNumber M (length from) (length to) ≡ 0 → ⊥) → packOutput M from to ≡ to
+unfolding packOutput
+pack-refused M from to h = rw (ne-eqb (packNumber M (length from) (length to)) 0 h)
+
+pub unpack-refused : (M : ℕ) (from to : List ℕ) → (unpackNumber M (length from) (length to) ≡ 0 → ⊥) → unpackOutput M from to ≡ to
+unfolding unpackOutput
+unpack-refused M from to h = rw (ne-eqb (unpackNumber M (length from) (length to)) 0 h)

@@ -20,6 +20,7 @@ use Rattle.history.specs.Calls.{Call, opening, receiving, reading, streaming, c
 use Rattle.history.specs.Run.{outcomeOf, storeAfterCall}
 use Rattle.forms.specs.Calls.{outcomeIn, storeAfterIn}
 use Rattle.forms.proofs.Calls.{left-alone}
+use Rattle.face.specs.Face.{sizesNumber, sizesBytes}
 use Rattle.state_bytes.specs.StateBytes.{stateBytes, bytesAfter, newNumber, newBytes, valueOf}
 
 -- ---- the state's bytes and the count
@@ -40,6 +41,11 @@ unfolding newNumber newBytes
 new-bytes-refused S M bytes long h =
     let n = refusing.new-refused S M (rw (le-ltb (length bytes) 272 long) at h) in
     rw (le-ltb (length bytes) 272 long) (ap (λ (s : State). stateBytes s ++ drop 272 bytes) n)
+
+-- Sizes, refused, leaves the output as it was.
+pub sizes-bytes-refused : (A : ℕ) (out : List ℕ) → (sizesNumber A (length out) ≡ 0 → ⊥) → sizesBytes A out ≡ out
+unfolding sizesBytes
+sizes-bytes-refused A out h = rw (ne-eqb (sizesNumber A (length out)) 0 h)
 
 -- The count is written for an answer that brings a number alone.
 pub count-kept : (answer : Answer) (before : ℕ) → valuesOf answer ≡ [] → valueOf answer before ≡ before

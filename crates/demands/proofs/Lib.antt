@@ -5,7 +5,9 @@ pub mod Encoder
 pub mod Stretch
 pub mod Codeword
 pub mod Ranges
+pub mod Numbers
 pub mod Answers
+pub mod Slots
 pub mod PastRooms
 pub mod Exports
 pub mod Opened

@@ -3,3 +3,4 @@ pub mod Filling
 pub mod Encoder
 pub mod Ranges
 pub mod Lent
+pub mod Numbers

@@ -1,12 +1,13 @@
 -- Demand 3 in either form and across changes of form, 02 E7, in one place: each promise with all its premises.
 -- four, S, M, store₀ and es are any form, any numbers, any bytes and any history with changes of every room strewn in; what these are, specs/ says.
 -- Assumes nothing.
-use mathlib.Core.Path.{_≡_, sym, _∙_, ap, ap₂, subst}
-use mathlib.Core.Bool.{Bool, true, cond}
+use mathlib.Core.Path.{_≡_, refl, sym, _∙_, ap, ap₂, subst}
+use mathlib.Core.Bool.{Bool, true, false, cond}
 use mathlib.Core.List.{List, _++_}
 use Prim.Native.Nat.{ℕ, _*_, _<_}
 use lib.Dec.{eqb}
 use lib.ListN.{length, drop}
+use borrow.Author.Tests.{ne-eqb}
 use Rattle.laws.specs.Bits.{AreBits}
 use Rattle.slots.specs.declared.Answer.the-variants.{Done}
 use Rattle.slots.specs.declared.State.{State}
@@ -23,7 +24,8 @@ use Rattle.history.specs.After.{stateAfter, storeAfter, roomsLong}
 use Rattle.history.proofs.Arrived.{since-bits}
 use Rattle.history.proofs.Promises as demand
 use Rattle.forms.specs.Calls.{outcomeIn, storeAfterIn, readOutputIn, streamsOutputIn}
-use Rattle.forms.specs.Run.{Event, withoutChanges}
+use Rattle.forms.specs.Change.{roomsNumber}
+use Rattle.forms.specs.Run.{Event, changing, FormWorld, changed, same, stepIn, withoutChanges}
 use Rattle.forms.specs.After.{stateThen, formThen, placesThen, storeThen, acceptedThen}
 use Rattle.forms.proofs.Calls as calls
 use Rattle.forms.proofs.Held.{held-carried}
@@ -44,6 +46,33 @@ pub packed-outputs : (state : State) (n : ℕ) (store : List ℕ) → length sto
     × (streamsOutputIn true state (packed n store) slot terminal r out ≡ streamsOutput state store slot terminal r out)
 packed-outputs state n store whole slot terminal r out =
     (calls.packed-read state n store whole slot terminal out, calls.packed-streams state n store whole slot terminal r out)
+
+-- ---- a change of form
+
+module _ (four : Bool) (w : FormWorld) (to : List ℕ) where
+  -- that it is refused, for 13 and then for 5
+  abbrev number : ℕ
+  number = roomsNumber four (w .state .blocks) (w .state .slots) (length (w .rooms)) (length to)
+
+  -- A change that is not refused leaves the store in that form.
+  pub form-after : number ≡ 0 → stepIn w (changing four to) .four ≡ four
+  unfolding stepIn changed same
+  form-after none = go four (w .four) refl refl
+    where
+      go : (t u : Bool) → four ≡ t → w .four ≡ u → cond (same t u) w (changed four w to) .four ≡ t
+      go true true e f = f
+      go false false e f = f
+      go true false e f = rw none e
+      go false true e f = rw none e
+
+  -- A refused one leaves everything.
+  pub form-kept : (number ≡ 0 → ⊥) → stepIn w (changing four to) ≡ w
+  unfolding stepIn changed
+  form-kept h = go (same four (w .four))
+    where
+      go : (b : Bool) → cond b w (changed four w to) ≡ w
+      go true = refl
+      go false = rw (ne-eqb number 0 h)
 
 -- ---- histories
 

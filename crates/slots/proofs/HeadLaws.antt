@@ -49,7 +49,7 @@ open-size state e slot l o =
     let f = good state e .fits slot l o in
     (good-size (sizeAtHead state slot) (f .size-some) (f .size-most), f .few)
 
-good-state : (state : State) → badShape (state .slots) (state .blocks) ≡ false
+pub good-state : (state : State) → badShape (state .slots) (state .blocks) ≡ false
     → ((slot : ℕ) → slot < state .slots → broken (state .blocks) (headAt state slot) ≡ false) → badState state ≡ false
 unfolding badState headAt
 good-state state e f = ap₂ (λ (a b : Bool). a || b) e (all-unbroken (state .blocks) (state .slots) (state .heads) f)
