@@ -3,21 +3,27 @@
 -- That every call answers is that its code is proved to return, with no duty on the caller: no public function has a premise.
 -- Assumes nothing.
 use mathlib.Core.Path.{_≡_, refl, sym}
-use mathlib.Core.List.{List, []}
-use Prim.Native.Nat.{ℕ, _+_, _≤_}
-use lib.ListN.{length}
+use mathlib.Core.List.{List, [], _++_}
+use Prim.Native.Nat.{ℕ, _+_, _*_, _≤_}
+use lib.ListN.{length, take, drop}
 use borrow.Author.Tests.{ne-eqb}
 use Rattle.laws.specs.Bits.{AreBits}
 use Rattle.segmentation.specs.declared.SizesAnswer.the-variants.{Given}
 use Rattle.segmentation.specs.Segmentation.{blocks}
 use Rattle.segmentation.specs.Sizes.{sizesOf, sizesAnswer}
 use Rattle.codeword.specs.declared.Grant.{Grant}
+use Rattle.rate_matching.specs.SoftBuffer.{softShare}
+use Rattle.codeword.specs.Codeword.{codeword, codewordIn}
 use Rattle.codeword.specs.Build.{buildNumber, buildOutput}
 use Rattle.codeword.specs.Downlink.{buildDownNumber, buildDownOutput}
 use Rattle.build_calls.proofs.Numbers.{accepted-is}
-use Rattle.reports.specs.Calls.{reportBuildNumber, reportBuildOutput, partNumber, partOutput, dataPart}
+use Rattle.report_code.specs.Code.{controlBits}
+use Rattle.report_code.specs.Words.{messageBits}
+use Rattle.report_code.specs.Nearest.{nearestMessage}
+use Rattle.reports.specs.Calls.{reportBuildNumber, multiplexed, reportBuildOutput, controlPart, pastControl, partNumber, nearestReport, partOutput, dataPart}
 use Rattle.control_messages.specs.declared.Owner.{Owner}
 use Rattle.control_messages.specs.declared.Owner.the-variants.{Terminal, Refused}
+use Rattle.control_messages.specs.Message.{message}
 use Rattle.control_messages.specs.Calls as control
 use Rattle.packing.specs.Change.{packNumber, packOutput, unpackNumber, unpackOutput}
 use Rattle.slots.specs.declared.State.{State}
@@ -40,6 +46,18 @@ pub build-down-refused : (a : List ℕ) (release kMIMO processes Nsoft layers : 
     → buildDownOutput a release kMIMO processes Nsoft layers g out ≡ out
 unfolding buildDownOutput
 build-down-refused a release kMIMO processes Nsoft layers g out h = rw (ne-eqb (buildDownNumber a release kMIMO processes Nsoft layers g (length out)) 0 h)
+
+-- An accepted one writes the codeword over the first G bytes of the output, and all others stay.
+pub build-written : (a : List ℕ) (g : Grant) (out : List ℕ) → buildNumber a g (length out) ≡ 0 → buildOutput a g out ≡ codeword a g ++ drop (g .bits) out
+unfolding buildOutput
+build-written a g out e = rw e
+
+pub build-down-written : (a : List ℕ) (release kMIMO processes Nsoft layers : ℕ) (g : Grant) (out : List ℕ)
+    → buildDownNumber a release kMIMO processes Nsoft layers g (length out) ≡ 0
+    → buildDownOutput a release kMIMO processes Nsoft layers g out
+    ≡ codewordIn (softShare (blocks (length a + 24)) release kMIMO processes Nsoft layers) a g ++ drop (g .bits) out
+unfolding buildDownOutput
+build-down-written a release kMIMO processes Nsoft layers g out e = rw e
 
 -- A Build in range, of bits, into an output of at least G bytes, is accepted.
 pub build-accepted : (a : List ℕ) (g : Grant) (room : ℕ) → Size (length a) → Allowed (blocks (length a + 24)) g → AreBits a → g .bits ≤ room → buildNumber a g room ≡ 0
@@ -92,6 +110,11 @@ pub report-build-refused : (o : List ℕ) (control : ℕ) (a : List ℕ) (g : Gr
 unfolding reportBuildOutput
 report-build-refused o control a g out h = rw (ne-eqb (reportBuildNumber o control a g (length out)) 0 h)
 
+pub report-build-written : (o : List ℕ) (control : ℕ) (a : List ℕ) (g : Grant) (out : List ℕ) → reportBuildNumber o control a g (length out) ≡ 0
+    → reportBuildOutput o control a g out ≡ (controlBits o (g .layers * control) ++ codeword a g) ++ drop (g .layers * control + g .bits) out
+unfolding reportBuildOutput multiplexed
+report-build-written o control a g out e = rw e
+
 pub report-part-refused : (A Q N O control : ℕ) (received out : List ℕ) → (partNumber A Q N O control received (length out) ≡ 0 → ⊥)
     → partOutput A Q N O control received out ≡ out
 unfolding partOutput
@@ -101,10 +124,24 @@ pub data-part-refused : (A Q N O control : ℕ) (received : List ℕ) → (partN
 unfolding dataPart
 data-part-refused A Q N O control received h = rw (ne-eqb (partNumber A Q N O control received O) 0 h)
 
+-- Accepted, it gives the report that is nearest, and the data that follow the N·control control bits.
+pub report-part-written : (A Q N O control : ℕ) (received out : List ℕ) → partNumber A Q N O control received (length out) ≡ 0
+    → partOutput A Q N O control received out ≡ messageBits O (nearestMessage O (take (N * control) received) .message) ++ drop O out
+unfolding partOutput nearestReport controlPart
+report-part-written A Q N O control received out e = rw e
+
+pub data-part-given : (A Q N O control : ℕ) (received : List ℕ) → partNumber A Q N O control received O ≡ 0 → dataPart A Q N O control received ≡ drop (N * control) received
+unfolding dataPart pastControl
+data-part-given A Q N O control received e = rw e
+
 -- A downlink control message (02, E5), and whose one is: the terminal number that C lends stays.
 pub control-refused : (a : List ℕ) (t E : ℕ) (out : List ℕ) → (control.controlNumber a E (length out) ≡ 0 → ⊥) → control.controlOutput a t E out ≡ out
 unfolding control.controlOutput
 control-refused a t E out h = rw (ne-eqb (control.controlNumber a E (length out)) 0 h)
+
+pub control-written : (a : List ℕ) (t E : ℕ) (out : List ℕ) → control.controlNumber a E (length out) ≡ 0 → control.controlOutput a t E out ≡ message a t E ++ drop E out
+unfolding control.controlOutput
+control-written a t E out e = rw e
 
 pub whose-refused : (run : List ℕ) (before : ℕ) → (control.numberOf (control.whoseAnswer run) ≡ 0 → ⊥) → control.terminalOf (control.whoseAnswer run) before ≡ before
 unfolding control.numberOf control.terminalOf

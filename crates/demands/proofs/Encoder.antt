@@ -1,17 +1,17 @@
--- The constituent encoder has the transfer function of clause 5.1.3.2.1: its output times g0(D) is its input times g1(D).
+-- The constituent encoder has the transfer function of clause 5.1.3.2.1: its output times g0(D) is its input times g1(D). Its tail is what clause 5.1.3.2.2 is for.
 -- Assumes nothing.
 use mathlib.Core.Path.{_≡_, refl, sym, _∙_, ap, ap₂}
 use mathlib.Core.List.{List, [], _∷_}
 use Prim.Native.Nat.{ℕ, zero, suc, _+_, _-_, _≤_, _<_}
 use native.Mathlib.Decide.{decLt}
 use native.Mathlib.Omega.{arith}
-use lib.Bits.{xor-comm}
+use lib.Bits.{xor-comm, xor-self}
 use lib.ListN.{length, getD}
 use borrow.Author.Tests.{le-leb, lt-leb}
 use Rattle.laws.specs.Bits.{_⊕_}
 use Rattle.laws.proofs.Bits.{xor-assoc, xor-cancel, xor-medial}
 use Rattle.turbo.specs.declared.Registers.{Registers}
-use Rattle.turbo.specs.Encoder.{start, feedback, entering, parity, next, parities}
+use Rattle.turbo.specs.Encoder.{start, feedback, entering, parity, next, parities, after, tailed, xTail, zTail}
 use Rattle.demands.specs.Encoder.{delayed, timesG0, timesG1}
 
 -- ---- what enters the register, with what it held at first before it
@@ -140,3 +140,14 @@ module _ (c : List ℕ) where
 
       given : (n : ℕ) → delayed n c k ≡ delayed (n + 0) a k ⊕ delayed (n + 2) a k ⊕ delayed (n + 3) a k
       given n = delayed-sum c 2 3 (λ i l. input-is i l) n k h
+
+-- ---- trellis termination, clause 5.1.3.2.2
+
+-- The three tail bits x of an encoder, fed to it after the K bits, bring its registers back to zero, and z are its outputs for them.
+pub tail-ends : (s : Registers) → after s (xTail 0 s ∷ xTail 1 s ∷ xTail 2 s ∷ []) ≡ start
+unfolding after xTail tailed next entering start
+tail-ends s = simp xor-self
+
+pub tail-outputs : (s : Registers) → parities s (xTail 0 s ∷ xTail 1 s ∷ xTail 2 s ∷ []) ≡ zTail 0 s ∷ zTail 1 s ∷ zTail 2 s ∷ []
+unfolding parities xTail zTail tailed
+tail-outputs s = refl

@@ -20,6 +20,8 @@ use Rattle.history.specs.Calls.{Call, opening, receiving, reading, streaming, c
 use Rattle.history.specs.Run.{outcomeOf, storeAfterCall}
 use Rattle.forms.specs.Calls.{outcomeIn, storeAfterIn}
 use Rattle.forms.proofs.Calls.{left-alone}
+use Rattle.segmentation.specs.Sizes as sizes
+use Rattle.state_bytes.specs.Numbers.{inBytes}
 use Rattle.face.specs.Face.{sizesNumber, sizesBytes}
 use Rattle.state_bytes.specs.StateBytes.{stateBytes, bytesAfter, newNumber, newBytes, valueOf}
 
@@ -46,6 +48,11 @@ new-bytes-refused S M bytes long h =
 pub sizes-bytes-refused : (A : ℕ) (out : List ℕ) → (sizesNumber A (length out) ≡ 0 → ⊥) → sizesBytes A out ≡ out
 unfolding sizesBytes
 sizes-bytes-refused A out h = rw (ne-eqb (sizesNumber A (length out)) 0 h)
+
+-- Accepted, it writes the six numbers, four bytes each.
+pub sizes-bytes-written : (A : ℕ) (out : List ℕ) → sizesNumber A (length out) ≡ 0 → sizesBytes A out ≡ inBytes 4 (sizes.valuesOf (sizes.sizesAnswer A)) ++ drop 24 out
+unfolding sizesBytes
+sizes-bytes-written A out e = rw e
 
 -- The count is written for an answer that brings a number alone.
 pub count-kept : (answer : Answer) (before : ℕ) → valuesOf answer ≡ [] → valueOf answer before ≡ before
