@@ -2,14 +2,15 @@
 -- Which number is given when is page Numbers.
 -- That every call answers is that its code is proved to return, with no duty on the caller: no public function has a premise.
 -- Assumes nothing.
-use mathlib.Core.Path.{_≡_, refl, sym}
-use mathlib.Core.List.{List, [], _++_}
+use mathlib.Core.Path.{_≡_, refl, sym, ap}
+use mathlib.Core.List.{List, [], _∷_, _++_}
 use Prim.Native.Nat.{ℕ, _+_, _*_, _≤_}
 use lib.ListN.{length, take, drop}
 use borrow.Author.Tests.{ne-eqb}
 use Rattle.laws.specs.Bits.{AreBits}
 use Rattle.segmentation.specs.declared.SizesAnswer.the-variants.{Given}
-use Rattle.segmentation.specs.Segmentation.{blocks}
+use Rattle.segmentation.specs.Segmentation.{blocks, longs, long, shorts, short, filler}
+use Rattle.segmentation.specs.Sizes as sizes
 use Rattle.segmentation.specs.Sizes.{sizesOf, sizesAnswer}
 use Rattle.codeword.specs.declared.Grant.{Grant}
 use Rattle.rate_matching.specs.SoftBuffer.{softShare}
@@ -68,6 +69,12 @@ build-accepted a g room size allowed bits fits = sym (accepted-is a g room (size
 pub sizes-accepted : (A : ℕ) → Size A → sizesAnswer A ≡ Given (sizesOf A)
 unfolding sizesAnswer
 sizes-accepted A size = rw (size-test A .where-holds size)
+
+-- They are C, the long blocks and their size, the short blocks and theirs, and the filler, of B = A + 24 bits.
+pub sizes-values : (A : ℕ) → Size A
+    → sizes.valuesOf (sizesAnswer A) ≡ blocks (A + 24) ∷ longs (A + 24) ∷ long (A + 24) ∷ shorts (A + 24) ∷ short (A + 24) ∷ filler (A + 24) ∷ []
+unfolding sizes.valuesOf sizesOf
+sizes-values A size = ap sizes.valuesOf (sizes-accepted A size)
 
 -- ---- the slots: where the number given back is not 0, 11, 16 and 12 among them, the state is the one given and no byte is written
 
