@@ -19,10 +19,12 @@ ghost use Rattle.slots.specs.Reception.{received};
 ghost use Rattle.slots.specs.Reading.{lacking};
 ghost use Rattle.slots.specs.Calls.{receiveStore, receiveOutcome};
 ghost use Rattle.packing.specs.Store.{placesIn, inForm};
+ghost use Rattle.codeword.specs.Build.{badBits};
 ghost use Rattle.codeword.specs.Shares.{grant};
 ghost use Rattle.reception.specs.inner.Parts.{numberAfter, numberBy, answerBy, storeBy, InSlot};
 
-// Puts a reception's bits at the places the build would have taken them from, and tells how many data places then lack a bit.
+// Puts a reception's bits at the places the build would have taken them from, and tells how many data places then lack a bit. The bits are looked through before
+// the state: a state that was just put together from a caller's bytes has settled by then, and is read without a wait.
 pub fn receive(
     state: State,
     slot: usize,
@@ -36,8 +38,20 @@ pub fn receive(
     ensures answer { λ r. ⌜ r ≡ receiveOutcome state slot terminal q n version (now (bits .entry)) (now (store .entry)) ⌝ }
     ensures stored { λ r. ⌜ now (store .exit) ≡ receiveStore state slot terminal q n version (now (bits .entry)) (now (store .entry)) ⌝ }
 {
+    let bad = codeword::bad_bits(bits);
     let owner = states::owner(state, store.len(), slot, terminal);
-    let answer = receive_by(false, owner, state.blocks, slot, q, n, version, bits, store);
+    let answer = receive_by(
+        false,
+        owner,
+        bad,
+        state.blocks,
+        slot,
+        q,
+        n,
+        version,
+        bits,
+        store,
+    );
     Outcome { answer, state }
 }
 
@@ -56,17 +70,30 @@ pub fn receive_packed(
     ensures stored { λ r. ⌜ now (store .exit)
         ≡ inForm true (receiveStore state slot terminal q n version (now (bits .entry)) (placesIn true (now (store .entry)))) ⌝ }
 {
+    let bad = codeword::bad_bits(bits);
     let asked = packing::places_asked(true, store.len());
     let owner = states::owner(state, asked, slot, terminal);
-    let answer = receive_by(true, owner, state.blocks, slot, q, n, version, bits, store);
+    let answer = receive_by(
+        true,
+        owner,
+        bad,
+        state.blocks,
+        slot,
+        q,
+        n,
+        version,
+        bits,
+        store,
+    );
     Outcome { answer, state }
 }
 
-// The answer by what the owner's rules gave, for a store of either form whose rooms have so many code blocks. The state itself is not handed on: all of it would
+// The answer by what the owner's rules gave and whether a byte among the bits is no bit, for a store of either form whose rooms have so many code blocks. The state itself is not handed on: all of it would
 // be copied.
 fn receive_by(
     four: bool,
     owner: Owner,
+    bad: bool,
     blocks: usize,
     slot: usize,
     q: usize,
@@ -75,13 +102,13 @@ fn receive_by(
     bits: &[u8],
     store: &mut [u8],
 ) -> Answer
-    requires { ⌜ (numberBy owner q n version (now bits) ≡ 0
+    requires { ⌜ (bad ≡ badBits (now bits)) × (numberBy owner q n version (now bits) ≡ 0
         → InSlot blocks slot (owner .head .size) (owner .head .share) (grant q n version (length (now bits))) (now bits) (length (placesIn four (now store)))) ⌝ }
     ensures answer { λ r. ⌜ r ≡ answerBy owner blocks slot q n version (now (bits .entry)) (placesIn four (now (store .entry))) ⌝ }
     ensures stored { λ r. ⌜ now (store .exit) ≡ storeBy four owner blocks slot q n version (now (bits .entry)) (now (store .entry)) ⌝ }
 {
     let head = owner.head;
-    let number = receive_number(owner.number, head.size, q, n, version, bits);
+    let number = receive_number(owner.number, head.size, q, n, version, bits, bad);
     if number != 0 {
         return Answer::Refused(number);
     }
@@ -105,13 +132,22 @@ fn receive_by(
 }
 
 // Receive's refusals in 01's order after those of the state, the store and the owner, for a block of `size` bits. All are looked for before a bit is put.
-fn receive_number(owner: u8, size: usize, q: usize, n: usize, version: usize, bits: &[u8]) -> u8
+fn receive_number(
+    owner: u8,
+    size: usize,
+    q: usize,
+    n: usize,
+    version: usize,
+    bits: &[u8],
+    bad: bool,
+) -> u8
+    requires { ⌜ bad ≡ badBits (now bits) ⌝ }
     ensures { λ r. ⌜ r ≡ numberAfter owner size q n version (now (bits .entry)) ⌝ }
 {
     let blocks = states::block_count(size);
     let allocated = or_else(owner, codeword::bad_allocation(blocks, q, n, bits.len()), 3);
     let versioned = or_else(allocated, version > 3, 4);
-    or_else(versioned, codeword::bad_bits(bits), 2)
+    or_else(versioned, bad, 2)
 }
 
 // Puts the bits in a slot's room for so many code blocks, in a store of either form, and counts the data places of its block of `size` bits that then lack one.

@@ -50,14 +50,20 @@ pub(crate) fn closed_head() -> Head
     }
 }
 
-// The head of a slot; a closed one where there is no such slot.
+// The head of a slot; a closed one where there is no such slot. Each is read where it stands: for one at a computed place all eight would be copied first.
 pub fn head_at(state: State, slot: usize) -> Head
     ensures { λ r. ⌜ r ≡ headAt state slot ⌝ }
 {
-    if slot < 8 {
-        state.heads[slot]
-    } else {
-        closed_head()
+    match slot {
+        0 => state.heads[0],
+        1 => state.heads[1],
+        2 => state.heads[2],
+        3 => state.heads[3],
+        4 => state.heads[4],
+        5 => state.heads[5],
+        6 => state.heads[6],
+        7 => state.heads[7],
+        _ => closed_head(),
     }
 }
 
@@ -132,13 +138,6 @@ pub(crate) struct Looked {
     pub head: Head,
 }
 
-// A head, or a closed one.
-fn head_or_closed(there: bool, head: Head) -> Head
-    ensures { λ r. ⌜ r ≡ cond there head closedHead ⌝ }
-{
-    if there { head } else { closed_head() }
-}
-
 // Looks at the state once, since all of it is copied where it is handed on. The shape comes first, so that there are heads to look at.
 pub(crate) fn look(state: State, slot: usize) -> Looked
     ensures { λ r. ⌜ r .bad ≡ badState state ⌝ }
@@ -146,8 +145,7 @@ pub(crate) fn look(state: State, slot: usize) -> Looked
 {
     let s = state.slots;
     let m = state.blocks;
-    let there = state.heads[slot % 8];
-    let head = head_or_closed(slot < 8, there);
+    let head = head_at(state, slot);
     if bad_shape(s, m) {
         return Looked { bad: true, head };
     }

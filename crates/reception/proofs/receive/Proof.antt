@@ -12,8 +12,11 @@ use Rattle.reception.proofs.receive.Statement.{statement}
 use Rattle.reception.proofs.receive.Tie as tie
 
 -- the ways back
+abbrev at-bad-bits : tie.After-owner → tie.After-bad-bits
+at-bad-bits c = c .before
+
 abbrev at-slice-known : tie.After-owner → tie.After-slice-known
-at-slice-known c = c .before
+at-slice-known c = at-bad-bits c .before
 
 abbrev at-owner : tie.After-receive-by-arg → tie.After-owner
 at-owner c = c .before
@@ -21,6 +24,9 @@ at-owner c = c .before
 -- the function's entry
 abbrev entry : tie.After-owner → tie.Start
 entry c = at-slice-known c .before .before
+
+bad-bits-requires : tie.Need-bad-bits-requires
+bad-bits-requires c κs = search needs
 
 owner-requires : tie.Need-owner-requires
 owner-requires c κs = search needs
@@ -30,7 +36,7 @@ unfolding placesIn placesAsked
 receive-by-requires c κs =
     let o = at-owner c in
     let e = entry o .args in
-    by-ready false (e .state) (e .slot) (e .terminal) (e .q) (e .n) (e .version) (now (e .bits)) (now (e .store)) refl (o .owner .ensures)
+    (at-bad-bits o .bad-bits .ensures, by-ready false (e .state) (e .slot) (e .terminal) (e .q) (e .n) (e .version) (now (e .bits)) (now (e .store)) refl (o .owner .ensures))
 
 same-length : tie.Need-same-length
 same-length c = search needs
@@ -49,4 +55,4 @@ returns c =
     )
 
 pub receive-spec : {M : Type 1} → statement M
-receive-spec = tie.close (tie.spec owner-requires receive-by-requires same-length returns)
+receive-spec = tie.close (tie.spec bad-bits-requires owner-requires receive-by-requires same-length returns)

@@ -22,7 +22,7 @@ unfolding numberBy
 told c = c .receive-number .ensures
 
 receive-number-requires : tie.Need-receive-number-requires
-receive-number-requires c κs = search needs
+receive-number-requires c κs = c .before .before .before .pre .0
 
 returns : tie.Need-returns
 returns c =
@@ -32,7 +32,7 @@ returns c =
 put-in-slot-requires : tie.Need-put-in-slot-requires
 put-in-slot-requires c κs =
     let arm = at-else1 c in
-    at-start (arm .before) .pre (sym (told (arm .before)) ∙ arm .if1 .left)
+    at-start (arm .before) .pre .1 (sym (told (arm .before)) ∙ arm .if1 .left)
 
 same-length : tie.Need-same-length
 same-length c = search needs

@@ -19,22 +19,19 @@ or-else-requires c κs = search needs
 or-else-requires-2 : tie.Need-or-else-requires-2
 or-else-requires-2 c κs = search needs
 
-bad-bits-requires : tie.Need-bad-bits-requires
-bad-bits-requires c κs = search needs
-
 or-else-requires-3 : tie.Need-or-else-requires-3
 or-else-requires-3 c κs = search needs
 
 returns : tie.Need-returns
 unfolding numberAfter bitsRules badVersion
 returns c =
-    let two = c .before in
-    let four = two .before in
+    let four = c .before in
     let three = four .before in
     let allocation = three .before in
     let count = allocation .before in
+    let start = count .before .before in
     let allocated = rw (allocation .bad-allocation .ensures, count .block-count .ensures) at (three .or-else .ensures) in
-    let bits = rw (two .bad-bits .ensures) at (c .or-else3 .ensures) in
+    let bits = rw (start .pre) at (c .or-else3 .ensures) in
     next allocated (next (four .or-else2 .ensures) (next bits done)) .is tt
 
 pub receive-number-spec : {M : Type 1} → statement M
@@ -45,6 +42,5 @@ receive-number-spec =
     bad-allocation-requires
     or-else-requires
     or-else-requires-2
-    bad-bits-requires
     or-else-requires-3
     returns)

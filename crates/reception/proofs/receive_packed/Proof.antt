@@ -11,8 +11,11 @@ use Rattle.reception.proofs.receive_packed.Statement.{statement}
 use Rattle.reception.proofs.receive_packed.Tie as tie
 
 -- the ways back
+abbrev at-bad-bits : tie.After-owner → tie.After-bad-bits
+at-bad-bits c = c .before .before
+
 abbrev at-slice-known : tie.After-owner → tie.After-slice-known
-at-slice-known c = c .before .before
+at-slice-known c = at-bad-bits c .before
 
 abbrev at-owner : tie.After-receive-by-arg → tie.After-owner
 at-owner c = c .before
@@ -20,6 +23,9 @@ at-owner c = c .before
 -- the function's entry
 abbrev entry : tie.After-owner → tie.Start
 entry c = at-slice-known c .before .before
+
+bad-bits-requires : tie.Need-bad-bits-requires
+bad-bits-requires c κs = search needs
 
 places-asked-requires : tie.Need-places-asked-requires
 places-asked-requires c κs = search needs
@@ -31,7 +37,7 @@ receive-by-requires : tie.Need-receive-by-requires
 receive-by-requires c κs =
     let o = at-owner c in
     let e = entry o .args in
-    by-ready true (e .state) (e .slot) (e .terminal) (e .q) (e .n) (e .version) (now (e .bits)) (now (e .store)) (o .before .places-asked .ensures) (o .owner .ensures)
+    (at-bad-bits o .bad-bits .ensures, by-ready true (e .state) (e .slot) (e .terminal) (e .q) (e .n) (e .version) (now (e .bits)) (now (e .store)) (o .before .places-asked .ensures) (o .owner .ensures))
 
 same-length : tie.Need-same-length
 same-length c = search needs
@@ -49,4 +55,4 @@ returns c =
     )
 
 pub receive-packed-spec : {M : Type 1} → statement M
-receive-packed-spec = tie.close (tie.spec places-asked-requires owner-requires receive-by-requires same-length returns)
+receive-packed-spec = tie.close (tie.spec bad-bits-requires places-asked-requires owner-requires receive-by-requires same-length returns)

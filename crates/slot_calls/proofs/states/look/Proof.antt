@@ -1,17 +1,8 @@
--- `states::look` meets its contract: the loop keeps `Looking`, over the heads below S, and past the eight heads `getD` gives the closed one.
+-- `states::look` meets its contract: the loop keeps `Looking`, over the heads below S.
 -- Assumes nothing.
 use mathlib.Core.Path.{_≡_, refl, sym, _∙_}
-use mathlib.Core.Bool.{cond}
-use mathlib.Core.List.{List}
-use Prim.Native.Nat.{ℕ, _-_, _%_, _≤_}
-use native.Mathlib.Decide.{decLt}
-use native.Mathlib.Nat.{mod-eq-of-lt}
+use Prim.Native.Nat.{_-_, _≤_}
 use native.Mathlib.Omega.{arith}
-use lib.Dec.{ltb}
-use lib.ListN.{length, length-map, getD, List·getD-eq-default}
-use borrow.Author.Needs.{needs}
-use borrow.Author.Tests.{lt-ltb, le-ltb}
-use Rattle.slots.specs.declared.Head.{Head}
 use Rattle.slots.specs.State.{closedHead, headAt, badState}
 use Rattle.slots.proofs.Accepted.{good-shape}
 use Rattle.slots.proofs.Heads as heads
@@ -29,41 +20,21 @@ abbrev μ-loop : tie.MeasureT-loop
 abbrev at-else : tie.At-loop Inv-loop μ-loop → tie.Else1 Inv-loop μ-loop
 at-else c = c .before
 
-abbrev at-head : tie.After-bad-shape Inv-loop μ-loop → tie.After-head-or-closed Inv-loop μ-loop
+abbrev at-head : tie.After-bad-shape Inv-loop μ-loop → tie.After-head-at Inv-loop μ-loop
 at-head c = c .before
 
 abbrev at-turn : tie.After-bad-head Inv-loop μ-loop → tie.In-loop Inv-loop μ-loop
 at-turn c = c .before .before
 
-mul-there : tie.Need-mul-there Inv-loop μ-loop
-mul-there c = search needs
-
-element-copy-out-there : tie.Need-element-copy-out-there Inv-loop μ-loop
-element-copy-out-there c = search needs
-
-head-or-closed-requires : tie.Need-head-or-closed-requires Inv-loop μ-loop
-head-or-closed-requires c κs = tt
+head-at-requires : tie.Need-head-at-requires Inv-loop μ-loop
+head-at-requires c κs = tt
 
 bad-shape-requires : tie.Need-bad-shape-requires Inv-loop μ-loop
 bad-shape-requires c κs = tt
 
--- the state that a function is given has eight heads
-eight : (c : tie.Start Inv-loop μ-loop) → length (c .args .t1 .heads) ≡ 8
-eight c = simp length-map at (c .good .0 .1 .1 .1 .1 .0 .1 .0 .1)
-
--- the head of a slot by its remainder, or a closed one
-head-of : (hs : List Head) (slot : ℕ) → length hs ≡ 8 → cond (ltb slot 8) (getD hs (slot % 8) closedHead) closedHead ≡ getD hs slot closedHead
-head-of hs slot e = elim (decLt slot 8) [
-  | yes h ↦ rw (lt-ltb slot 8 h, mod-eq-of-lt h) refl
-  | no h ↦
-      let past : 8 ≤ slot = omega arith in
-      rw (le-ltb slot 8 past) (sym (List·getD-eq-default hs closedHead (omega (arith, e))))
-]
-
 -- the head is that of the slot
-found : (c : tie.After-head-or-closed Inv-loop μ-loop) → c .head-or-closed .result ≡ headAt (c .before .before .args .t1) (c .before .before .args .slot)
-unfolding headAt closedHead
-found c = c .head-or-closed .ensures ∙ head-of (c .before .before .args .t1 .heads) (c .before .before .args .slot) (eight (c .before .before))
+found : (c : tie.After-head-at Inv-loop μ-loop) → c .head-at .result ≡ headAt (c .before .args .t1) (c .before .args .slot)
+found c = c .head-at .ensures
 
 returns : tie.Need-returns Inv-loop μ-loop
 unfolding badState
@@ -117,9 +88,7 @@ look-spec =
     (tie.spec
     Inv-loop
     μ-loop
-    mul-there
-    element-copy-out-there
-    head-or-closed-requires
+    head-at-requires
     bad-shape-requires
     returns
     loop-holds
