@@ -104,6 +104,11 @@ new-closes S M shape = (ap (λ (s : State). s .slots) is, ap (λ (s : State). s 
 
 -- ---- Open, for either link
 
+-- the share of an uplink (02, E6)
+pub uplink-share : (A : ℕ) → shareIn uplink A ≡ 18528
+unfolding shareIn
+uplink-share A = refl
+
 module _ (link : Link) (state : State) (slot terminal A : ℕ) (store : List ℕ) where
   abbrev opening : Outcome
   opening = openingOutcome link state (length store) slot terminal A
