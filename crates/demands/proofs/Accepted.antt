@@ -27,6 +27,7 @@ use Rattle.history.specs.After.{stateAfter, storeAfter}
 use Rattle.demands.specs.Ranges.{Size, Allowed, Receiver}
 use Rattle.demands.specs.Lent.{New, OpenFor}
 use Rattle.demands.proofs.Ranges.{shape-test, size-test, allocation-test, version-test, bits-test, buffer-test}
+use Rattle.demands.proofs.Outcomes.{accepting}
 use Rattle.demands.proofs.Opened.{Ready, new-ready}
 
 -- New itself
@@ -37,11 +38,6 @@ new-accepted S M store n = rw (shape-test S M .where-holds (n .shape))
 begun : (S M : ℕ) (store₀ : List ℕ) (h : History) → New S M store₀ → Ready S M store₀ h
 unfolding roomLength
 begun S M store₀ h n = new-ready S M store₀ h (shape-test S M .where-holds (n .shape)) (n .long)
-
--- a number 0 is an acceptance
-accepting : (number : ℕ) (state : State) (accepted : Outcome) → number ≡ 0 → unlessRefused number state accepted ≡ accepted
-unfolding unlessRefused
-accepting number state accepted e = rw e
 
 -- the numbers that a room can give
 heard-numbers : (A : ℕ) (room : List ℕ)

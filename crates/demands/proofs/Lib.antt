@@ -6,6 +6,7 @@ pub mod Stretch
 pub mod Codeword
 pub mod Ranges
 pub mod Numbers
+mod Outcomes
 pub mod Answers
 pub mod Slots
 pub mod PastRooms

@@ -10,7 +10,7 @@ use native.Mathlib.Omega.{arith}
 use lib.Dec.{eqb, ltb}
 use lib.ListN.{length, getD, drop, List·getD-append, length-append}
 use lib.Seq.{getD-append-add, getD-drop}
-use borrow.Author.Tests.{lt-ltb, le-ltb, ne-eqb, ltb-true, eqb-true, eqb-false}
+use borrow.Author.Tests.{lt-ltb, le-ltb, ne-eqb, ltb-true, eqb-true}
 use Rattle.laws.specs.Lists.{tab}
 use Rattle.laws.proofs.Tab.{length-tab, getD-tab}
 use Rattle.refusals.specs.Refusals.{firstOf}
@@ -19,7 +19,6 @@ use Rattle.segmentation.proofs.Segmentation.{good-size}
 use Rattle.rate_matching.specs.SoftBuffer.{softShare, wholeShare}
 use Rattle.rate_matching.specs.Places.{placeNumber}
 use Rattle.codeword.specs.Shares.{grant}
-use Rattle.slots.specs.declared.Answer.the-variants.{Refused}
 use Rattle.slots.specs.declared.State.{State}
 use Rattle.slots.specs.declared.Outcome.{Outcome}
 use Rattle.slots.specs.State.{perBlock, roomLength, roomStart, closedHead, openHead, newState, headAt}
@@ -39,27 +38,9 @@ use Rattle.history.proofs.Links.{opening-fits}
 use Rattle.demands.specs.Ranges.{Shape}
 use Rattle.demands.specs.Lent.{InRoom}
 use Rattle.demands.proofs.Ranges.{shape-test}
+use Rattle.demands.proofs.Outcomes.{accepting, accepted, same-state}
 
--- ---- an accepted call is not refused
-
--- a number 0 is an acceptance
-passed : (n : ℕ) (state : State) (o : Outcome) → numberOf (unlessRefused n state o .answer) ≡ 0 → (n ≡ 0) × (unlessRefused n state o ≡ o)
-unfolding unlessRefused numberOf
-passed n state o = go (eqb n 0) refl
-  where
-    go : (b : Bool) → eqb n 0 ≡ b → numberOf (cond {A = Outcome} b o (record { answer = Refused n; state = state }) .answer) ≡ 0
-        → (n ≡ 0) × (cond {A = Outcome} b o (record { answer = Refused n; state = state }) ≡ o)
-    go true e h = (eqb-true n 0 e, refl)
-    go false e h = absurd (eqb-false n 0 e h)
-
--- a call that gives back the state that it was given does so in either case
-same-state : (n : ℕ) (state : State) (o : Outcome) → o .state ≡ state → unlessRefused n state o .state ≡ state
-unfolding unlessRefused
-same-state n state o e = go (eqb n 0)
-  where
-    go : (b : Bool) → cond {A = Outcome} b o (record { answer = Refused n; state = state }) .state ≡ state
-    go true = e
-    go false = refl
+-- ---- the outcomes of accepted calls
 
 new-is : (S M : ℕ) → Shape S M → newOutcome S M .state ≡ newState S M
 unfolding newOutcome unlessRefused firstOf
@@ -68,7 +49,7 @@ new-is S M shape = rw (shape-test S M .where-holds shape)
 open-is : (state : State) (lent slot terminal A : ℕ) → numberOf (openOutcome state lent slot terminal A .answer) ≡ 0
     → (openNumber state lent slot A ≡ 0) × (openOutcome state lent slot terminal A .state ≡ withHead state slot (openHead terminal A wholeShare))
 unfolding openOutcome
-open-is state lent slot terminal A ok = let p = passed _ state _ ok in (p .0, ap (λ (o : Outcome). o .state) (p .1))
+open-is state lent slot terminal A ok = let e = accepted _ state _ ok in (e, ap (λ (o : Outcome). o .state) (accepting _ state _ e))
 
 open-down-is : (state : State) (lent slot terminal A release kMIMO processes Nsoft layers : ℕ)
     → numberOf (openDownOutcome state lent slot terminal A release kMIMO processes Nsoft layers .answer) ≡ 0
@@ -76,7 +57,7 @@ open-down-is : (state : State) (lent slot terminal A release kMIMO processes Nso
     × (openDownOutcome state lent slot terminal A release kMIMO processes Nsoft layers .state
     ≡ withHead state slot (openHead terminal A (softShare (blocks (A + 24)) release kMIMO processes Nsoft layers)))
 unfolding openDownOutcome
-open-down-is state lent slot terminal A release kMIMO processes Nsoft layers ok = let p = passed _ state _ ok in (p .0, ap (λ (o : Outcome). o .state) (p .1))
+open-down-is state lent slot terminal A release kMIMO processes Nsoft layers ok = let e = accepted _ state _ ok in (e, ap (λ (o : Outcome). o .state) (accepting _ state _ e))
 
 -- the store after an opening that is accepted, and after one that is not
 opening-clears : (link : Link) (state : State) (slot A : ℕ) (store : List ℕ) → openingNumber link state (length store) slot A ≡ 0
@@ -220,7 +201,7 @@ module _ (state : State) (slot terminal r : ℕ) (store out : List ℕ) (ok : nu
 
   is : given ≡ streamsOn circle D F ++ drop (3 * D) out
   unfolding streamsOutput streamsOutcome threeStreams sizeAtHead
-  is = let e = passed _ state _ ok .0 in rw (e)
+  is = let e = accepted _ state _ ok in rw e
 
   three-long : length (streamsOn circle D F) ≡ 3 * D
   unfolding streamsOn
@@ -304,7 +285,7 @@ pub close-closes : (state : State) (slot terminal : ℕ) → numberOf (closeOutc
     × (after .slots ≡ state .slots) × (after .blocks ≡ state .blocks) × ((i : ℕ) → (i ≡ slot → ⊥) → headAt after i ≡ headAt state i)
 unfolding closeOutcome withHead closedHead
 close-closes state slot terminal ok =
-    let is = ap (λ (o : Outcome). o .state) (passed _ state _ ok .1) in (
+    let is = ap (λ (o : Outcome). o .state) (accepting _ state _ (accepted _ state _ ok)) in (
       ap (λ (s : State). headAt s slot) is ∙ closed-head state slot,
       ap (λ (s : State). s .slots) is,
       ap (λ (s : State). s .blocks) is,
