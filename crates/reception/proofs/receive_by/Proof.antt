@@ -10,8 +10,11 @@ use Rattle.reception.proofs.receive_by.Statement.{statement}
 use Rattle.reception.proofs.receive_by.Tie as tie
 
 -- the ways back
+abbrev at-start-from-head : tie.After-head → tie.Start
+at-start-from-head c = c .before .before .before
+
 abbrev at-start : tie.After-receive-number → tie.Start
-at-start c = c .before .before .before .before
+at-start c = at-start-from-head (c .before)
 
 abbrev at-else1 : tie.After-put-in-slot-arg → tie.Else1
 at-else1 c = c .before
@@ -22,7 +25,7 @@ unfolding numberBy
 told c = c .receive-number .ensures
 
 receive-number-requires : tie.Need-receive-number-requires
-receive-number-requires c κs = c .before .before .before .pre .0
+receive-number-requires c κs = at-start-from-head c .pre .0
 
 returns : tie.Need-returns
 returns c =
