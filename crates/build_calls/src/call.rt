@@ -68,9 +68,9 @@ pub fn build_down(
 }
 
 // Its refusals in 02's order: after the size and the share, those of Build. The longest code block has the most rows.
-fn down_number(block: &[u8], s: Segments, share: usize, grant: Grant, room: usize) -> u8
+fn down_number(block: &[u8], s: Segments, share: usize, grant: Grant, lent: usize) -> u8
     requires { ⌜ s ≡ segmentsFor (length (now block)) ⌝ }
-    ensures { λ r. ⌜ r ≡ numberWith (now (block .entry)) share grant room ⌝ }
+    ensures { λ r. ⌜ r ≡ numberWith (now (block .entry)) share grant lent ⌝ }
 {
     if s.blocks == 0 {
         return 1;
@@ -78,13 +78,13 @@ fn down_number(block: &[u8], s: Segments, share: usize, grant: Grant, room: usiz
     if share < 32 * ((s.long + 35) / 32) {
         return 21;
     }
-    build_number(block, &block[..0], s, grant, room)
+    build_number(block, &block[..0], s, grant, lent)
 }
 
 // Build's refusals in 01's order.
-fn build_number(header: &[u8], payload: &[u8], s: Segments, grant: Grant, room: usize) -> u8
+fn build_number(header: &[u8], payload: &[u8], s: Segments, grant: Grant, lent: usize) -> u8
     requires { ⌜ s ≡ segmentsFor (length (now header ++ now payload)) ⌝ }
-    ensures { λ r. ⌜ r ≡ buildNumber (now (header .entry) ++ now (payload .entry)) grant room ⌝ }
+    ensures { λ r. ⌜ r ≡ buildNumber (now (header .entry) ++ now (payload .entry)) grant lent ⌝ }
 {
     if s.blocks == 0 {
         return 1;
@@ -95,7 +95,7 @@ fn build_number(header: &[u8], payload: &[u8], s: Segments, grant: Grant, room: 
     if grant.version > 3 {
         return 4;
     }
-    if room < grant.bits {
+    if lent < grant.bits {
         return 5;
     }
     if codeword::bad_bits(header) {

@@ -61,8 +61,8 @@ unfolding buildDownOutput
 build-down-written a release kMIMO processes Nsoft layers g out e = rw e
 
 -- A Build in range, of bits, into an output of at least G bytes, is accepted.
-pub build-accepted : (a : List ℕ) (g : Grant) (room : ℕ) → Size (length a) → Allowed (blocks (length a + 24)) g → AreBits a → g .bits ≤ room → buildNumber a g room ≡ 0
-build-accepted a g room size allowed bits fits = sym (accepted-is a g room (size-test (length a) .where-holds size)
+pub build-accepted : (a : List ℕ) (g : Grant) (lent : ℕ) → Size (length a) → Allowed (blocks (length a + 24)) g → AreBits a → g .bits ≤ lent → buildNumber a g lent ≡ 0
+build-accepted a g lent size allowed bits fits = sym (accepted-is a g lent (size-test (length a) .where-holds size)
     (allocation-test (blocks (length a + 24)) (g .modulation) (g .layers) (g .bits) .where-holds (allowed .symbol, allowed .carried)) (allowed .version) fits (bits-test a .where-holds bits))
 
 -- A Sizes in range is answered with the six numbers.

@@ -53,6 +53,13 @@ below-test x n = record { where-holds = λ l. rw (lt-ltb x n l); holds = λ e. l
 pub enough-test : (needed there : ℕ) → Passes (ltb there needed) (needed ≤ there)
 enough-test needed there = record { where-holds = le-ltb there needed; holds = ltb-false there needed }
 
+-- from 1 on
+pub within-test : (most n : ℕ) → Passes (eqb n 0 || ltb most n) (Within 1 most n)
+within-test most n = record {
+  where-holds = λ w. rw (ne-eqb n 0 (λ e. omega (arith, w .low)), le-ltb most n (w .high));
+  holds = λ e. let n = inside n most e in record { low = n .0; high = n .1 };
+}
+
 -- both of two
 pub both : {s t : Bool} {P Q : Type 0} → Passes s P → Passes t Q → Passes (s || t) (P × Q)
 both {s} {t} a b = record {
@@ -80,10 +87,7 @@ either-test x a b = record {
 
 pub size-test : (A : ℕ) → Passes (badSize A) (Size A)
 unfolding badSize
-size-test A = record {
-  where-holds = λ s. rw (ne-eqb A 0 (λ e. omega (arith, s .least)), le-ltb 30576 A (s .most));
-  holds = λ e. let a = inside A 30576 e in record { least = a .0; most = a .1 };
-}
+size-test A = within-test 30576 A
 
 -- one of three numbers
 modulation-test : (Q : ℕ) → Passes (badModulation Q) ((Q ≡ 2) ⊎ ((Q ≡ 4) ⊎ (Q ≡ 6)))
@@ -102,12 +106,8 @@ modulation-test Q = record {
 pub symbol-test : (Q N : ℕ) → Passes (badSymbol Q N) (Symbol Q N)
 unfolding badSymbol badLayers
 symbol-test Q N = record {
-  where-holds = λ s. rw (modulation-test Q .where-holds (s .modulation), ne-eqb N 0 (λ e. omega (arith, s .some)), le-ltb 4 N (s .few));
-  holds = λ e. let n = inside N 4 (or-right (badModulation Q) _ e) in record {
-    modulation = modulation-test Q .holds (or-left (badModulation Q) _ e);
-    some = n .0;
-    few = n .1;
-  };
+  where-holds = λ s. both (modulation-test Q) (within-test 4 N) .where-holds (s .modulation, s .layers);
+  holds = λ e. let s = both (modulation-test Q) (within-test 4 N) .holds e in record { modulation = s .0; layers = s .1 };
 }
 
 pub length-test : (C Q N G : ℕ) → Passes (badLength C Q N G) (Length C Q N G)
@@ -167,13 +167,6 @@ buffer-test B release kMIMO processes Nsoft layers = record {
 
 -- ---- a report and a control message
 
--- from 1 on
-pub within-test : (most n : ℕ) → Passes (eqb n 0 || ltb most n) (Within 1 most n)
-within-test most n = record {
-  where-holds = λ w. rw (ne-eqb n 0 (λ e. omega (arith, w .low)), le-ltb most n (w .high));
-  holds = λ e. let n = inside n most e in record { low = n .0; high = n .1 };
-}
-
 pub between-test : (least most n : ℕ) → Passes (ltb n least || ltb most n) (Within least most n)
 between-test least most n = record {
   where-holds = λ w. rw (le-ltb n least (w .low), le-ltb most n (w .high));
@@ -197,14 +190,8 @@ control-test Q control = record {
 pub shape-test : (S M : ℕ) → Passes (badShape S M) (Shape S M)
 unfolding badShape
 shape-test S M = record {
-  where-holds = λ k. rw (ne-eqb S 0 (λ e. omega (arith, k .slots-some)), le-ltb 8 S (k .slots-most), ne-eqb M 0 (λ e. omega (arith, k .blocks-some)), le-ltb 5 M (k .blocks-most));
-  holds = λ e. let s = inside S 8 (or-left (eqb S 0 || ltb 8 S) _ e) in
-      let m = inside M 5 (or-right (eqb S 0 || ltb 8 S) _ e) in record {
-        slots-some = s .0;
-        slots-most = s .1;
-        blocks-some = m .0;
-        blocks-most = m .1;
-      };
+  where-holds = λ k. both (within-test 8 S) (within-test 5 M) .where-holds (k .slots, k .blocks);
+  holds = λ e. let k = both (within-test 8 S) (within-test 5 M) .holds e in record { slots = k .0; blocks = k .1 };
 }
 
 pub blocks-test : (M A : ℕ) → Passes (tooMany M A) (blocks (A + 24) ≤ M)
@@ -232,7 +219,7 @@ state-test state = record {
   holds = λ e. let g = good state e in record {
     shape = shape-test (state .slots) (state .blocks) .holds (or-left (badShape (state .slots) (state .blocks)) _ e);
     heads = λ i l o. record {
-      size = record { least = g .fits i l o .size-some; most = g .fits i l o .size-most };
+      size = record { low = g .fits i l o .size-some; high = g .fits i l o .size-most };
       few = g .fits i l o .few;
       wide = λ r b. g .wide i l o r;
     };

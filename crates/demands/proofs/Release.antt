@@ -32,7 +32,7 @@ use Rattle.demands.proofs.Opened.{open-ready}
 -- ---- reading
 
 module _ (S M : ℕ) (store₀ : List ℕ) (h : History) (past : List ℕ) (slot terminal A : ℕ) (below : slot < S)
-    (owner : OpenFor (stateAfter S M store₀ h) slot terminal A) (out : List ℕ) (room : A ≤ length out) where
+    (owner : OpenFor (stateAfter S M store₀ h) slot terminal A) (out : List ℕ) (enough : A ≤ length out) where
   abbrev state : State
   state = stateAfter S M store₀ h
 
@@ -56,7 +56,7 @@ module _ (S M : ℕ) (store₀ : List ℕ) (h : History) (past : List ℕ) (slot
   comes : readNumber state (length store) slot terminal (length out) ≡ 0
   comes =
       let ok = open-ready S M store₀ h slot (owner .opened) in
-      read-admitted state (length store) slot (ok .sound) (ok .long past) (omega (arith, below, ok .slots)) terminal (owner .opened) (owner .terminal-is) (length out) (rw size-at room)
+      read-admitted state (length store) slot (ok .sound) (ok .long past) (omega (arith, below, ok .slots)) terminal (owner .opened) (owner .terminal-is) (length out) (rw size-at enough)
 
   -- true transmissions of one block of the opened size, in any order and any redundancy versions
   module _ (a : List ℕ) (bits : AreBits a) (long : length a ≡ A) (true-all : AllTrue soft a accepted) where

@@ -13,18 +13,21 @@ use Rattle.slots.specs.declared.Head.{Head}
 use Rattle.slots.specs.declared.State.{State}
 use Rattle.slots.specs.State.{headAt}
 
+-- a number from `least` to `most`
+pub record Within (least most n : ℕ) : Type 0 where
+  pub low : least ≤ n
+  pub high : n ≤ most
+
 -- ---- a block and a grant
 
 -- A: 1 to 30,576
-pub record Size (A : ℕ) : Type 0 where
-  pub least : 1 ≤ A
-  pub most : A ≤ 30576
+abbrev pub Size : ℕ → Type 0
+Size A = Within 1 30576 A
 
 -- Q: 2, 4 or 6; N: 1 to 4
 pub record Symbol (Q N : ℕ) : Type 0 where
   pub modulation : (Q ≡ 2) ⊎ ((Q ≡ 4) ⊎ (Q ≡ 6))
-  pub some : 1 ≤ N
-  pub few : N ≤ 4
+  pub layers : Within 1 4 N
 
 -- G: at most 172,800, a multiple of N·Q, and G / (N·Q) at least C, the number of code blocks
 pub record Length (C Q N G : ℕ) : Type 0 where
@@ -53,19 +56,12 @@ pub record Control (Q control : ℕ) : Type 0 where
   pub most : control ≤ 4096
   pub multiple : control % Q ≡ 0
 
--- a number from `least` to `most`
-pub record Within (least most n : ℕ) : Type 0 where
-  pub low : least ≤ n
-  pub high : n ≤ most
-
 -- ---- a state
 
 -- S: 1 to 8, M: 1 to 5
 pub record Shape (S M : ℕ) : Type 0 where
-  pub slots-some : 1 ≤ S
-  pub slots-most : S ≤ 8
-  pub blocks-some : 1 ≤ M
-  pub blocks-most : M ≤ 5
+  pub slots : Within 1 8 S
+  pub blocks : Within 1 5 M
 
 -- an open head that is not broken: its A is in range and needs at most M code blocks, and its share is at least 32·R for each of them (02, E6)
 pub record Whole (M : ℕ) (h : Head) : Type 0 where

@@ -25,8 +25,8 @@ pub fn open_packed(
     ensures { λ r. ⌜ r ≡ openOutcome state (length (placesIn true (now (store .entry)))) slot terminal size ⌝ }
     ensures { λ r. ⌜ now (store .exit) ≡ inForm true (openStore state slot size (placesIn true (now (store .entry)))) ⌝ }
 {
-    let room = places_asked(true, store.len());
-    let after = slot_calls::open_outcome(state, room, slot, terminal, size);
+    let lent = places_asked(true, store.len());
+    let after = slot_calls::open_outcome(state, lent, slot, terminal, size);
     let answer = after.answer;
     clear_room(answer, state.blocks, slot, store);
     after
@@ -48,10 +48,10 @@ pub fn open_down_packed(
     ensures { λ r. ⌜ r ≡ openDownOutcome state (length (placesIn true (now (store .entry)))) slot terminal size release mimo processes soft layers ⌝ }
     ensures { λ r. ⌜ now (store .exit) ≡ inForm true (openDownStore state slot size release mimo processes soft layers (placesIn true (now (store .entry)))) ⌝ }
 {
-    let room = places_asked(true, store.len());
+    let lent = places_asked(true, store.len());
     let after = slot_calls::open_down_outcome(
         state,
-        room,
+        lent,
         slot,
         terminal,
         size,

@@ -88,8 +88,8 @@ pub fn receive_packed(
     Outcome { answer, state }
 }
 
-// The answer by what the owner's rules gave and whether a byte among the bits is no bit, for a store of either form whose rooms have so many code blocks. The state itself is not handed on: all of it would
-// be copied.
+// The answer by what the owner's rules gave and whether a byte among the bits is no bit, for a store of either form whose rooms have so many code blocks. The
+// state itself is not handed on: all of it would be copied.
 fn receive_by(
     four: bool,
     owner: Owner,

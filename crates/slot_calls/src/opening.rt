@@ -60,11 +60,11 @@ pub fn open(state: State, slot: usize, terminal: u16, size: usize, store: &mut [
     after
 }
 
-// Its answer and the state, for a store that keeps `room` places: a store in another form is cleared by another call.
-pub fn open_outcome(state: State, room: usize, slot: usize, terminal: u16, size: usize) -> Outcome
-    ensures { λ r. ⌜ r ≡ openOutcome state room slot terminal size ⌝ }
+// Its answer and the state, for a store that keeps `lent` places: a store in another form is cleared by another call.
+pub fn open_outcome(state: State, lent: usize, slot: usize, terminal: u16, size: usize) -> Outcome
+    ensures { λ r. ⌜ r ≡ openOutcome state lent slot terminal size ⌝ }
 {
-    let number = open_number(state, room, slot, size);
+    let number = open_number(state, lent, slot, size);
     opened(number, state, slot, terminal, size, WHOLE_SHARE)
 }
 
@@ -102,10 +102,10 @@ pub fn open_down(
     after
 }
 
-// Its answer and the state, for a store that keeps `room` places.
+// Its answer and the state, for a store that keeps `lent` places.
 pub fn open_down_outcome(
     state: State,
-    room: usize,
+    lent: usize,
     slot: usize,
     terminal: u16,
     size: usize,
@@ -115,11 +115,11 @@ pub fn open_down_outcome(
     soft: usize,
     layers: usize,
 ) -> Outcome
-    ensures { λ r. ⌜ r ≡ openDownOutcome state room slot terminal size release mimo processes soft layers ⌝ }
+    ensures { λ r. ⌜ r ≡ openDownOutcome state lent slot terminal size release mimo processes soft layers ⌝ }
 {
     let count = states::block_count(size);
     let share = codeword::share_for(count, release, mimo, processes, soft, layers);
-    let number = down_number(state, room, slot, size, share);
+    let number = down_number(state, lent, slot, size, share);
     opened(number, state, slot, terminal, size, share)
 }
 
@@ -166,10 +166,10 @@ pub fn is_done(answer: Answer) -> bool
 }
 
 // Its refusals for a share of the soft buffer, 0 where the receiver is refused: Open's, then 21.
-fn down_number(state: State, room: usize, slot: usize, size: usize, share: usize) -> u8
-    ensures { λ r. ⌜ r ≡ firstOf (openRules state room slot size ++ (rule (tooShort share (size + 24) (blocks (size + 24))) 21 ∷ [])) ⌝ }
+fn down_number(state: State, lent: usize, slot: usize, size: usize, share: usize) -> u8
+    ensures { λ r. ⌜ r ≡ firstOf (openRules state lent slot size ++ (rule (tooShort share (size + 24) (blocks (size + 24))) 21 ∷ [])) ⌝ }
 {
-    let number = open_number(state, room, slot, size);
+    let number = open_number(state, lent, slot, size);
     if number != 0 {
         return number;
     }
@@ -193,13 +193,13 @@ fn clear_room(answer: Answer, m: usize, slot: usize, store: &mut [u8])
     fill(&mut store[from..to], 2);
 }
 
-// Open's refusals, for a store of `room` bytes.
-fn open_number(state: State, room: usize, slot: usize, size: usize) -> u8
-    ensures { λ r. ⌜ r ≡ openNumber state room slot size ⌝ }
+// Open's refusals, for a store of `lent` bytes.
+fn open_number(state: State, lent: usize, slot: usize, size: usize) -> u8
+    ensures { λ r. ⌜ r ≡ openNumber state lent slot size ⌝ }
 {
     let looked = states::look(state, slot);
     let head = looked.head;
-    let store = states::store_number(looked.bad, state, room, slot);
+    let store = states::store_number(looked.bad, state, lent, slot);
     let opened = or_else(store, head.opened, 7);
     let sized = or_else(opened, states::bad_size(size), 1);
     or_else(sized, states::too_many(state.blocks, size), 10)

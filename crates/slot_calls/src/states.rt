@@ -138,7 +138,7 @@ pub(crate) struct Looked {
     pub head: Head,
 }
 
-// Looks at the state once, since all of it is copied where it is handed on. The shape comes first, so that there are heads to look at.
+// Looks at the state once, for all that is asked of it. The shape comes first, so that there are heads to look at.
 pub(crate) fn look(state: State, slot: usize) -> Looked
     ensures { λ r. ⌜ r .bad ≡ badState state ⌝ }
     ensures { λ r. ⌜ r .head ≡ headAt state slot ⌝ }
@@ -160,17 +160,17 @@ pub(crate) fn look(state: State, slot: usize) -> Looked
     Looked { bad: false, head }
 }
 
-// 13, 5 (store), 6, for a store of `room` bytes and a state that is broken or not. The store's length is computed for a good shape alone, so that it does
+// 13, 5 (store), 6, for a store of `lent` bytes and a state that is broken or not. The store's length is computed for a good shape alone, so that it does
 // not wrap.
-pub(crate) fn store_number(bad: bool, state: State, room: usize, slot: usize) -> u8
+pub(crate) fn store_number(bad: bool, state: State, lent: usize, slot: usize) -> u8
     requires { ⌜ bad ≡ badState state ⌝ }
-    ensures { λ r. ⌜ r ≡ firstOf (storeRules state room slot) ⌝ }
+    ensures { λ r. ⌜ r ≡ firstOf (storeRules state lent slot) ⌝ }
 {
     if bad {
         return 13;
     }
     let s = state.slots;
-    let short = or_else(0, room < room_start(state.blocks, s), 5);
+    let short = or_else(0, lent < room_start(state.blocks, s), 5);
     let present = slot < s;
     or_else(short, !present, 6)
 }
@@ -184,12 +184,12 @@ pub(crate) fn owner_after(found: u8, head: Head, terminal: u16) -> u8
 }
 
 // What Receive, Read and Streams ask first.
-pub fn owner(state: State, room: usize, slot: usize, terminal: u16) -> Owner
-    ensures { λ r. ⌜ r ≡ ownerOf state room slot terminal ⌝ }
+pub fn owner(state: State, lent: usize, slot: usize, terminal: u16) -> Owner
+    ensures { λ r. ⌜ r ≡ ownerOf state lent slot terminal ⌝ }
 {
     let looked = look(state, slot);
     let head = looked.head;
-    let stored = store_number(looked.bad, state, room, slot);
+    let stored = store_number(looked.bad, state, lent, slot);
     let number = owner_after(stored, head, terminal);
     Owner { number, head }
 }

@@ -65,7 +65,7 @@ returns-3 c =
     let k = in-range (at-else1 else2) in
     let a = at-start (at-else1 else2) .args in
     simp (k .size, le-ltb _ _ (rw (rows-told _ (k .told)) at (else2 .if2 .left)))
-    (c .build-number .ensures ∙ ap (λ (l : List ℕ). buildNumber l (a .grant) (a .room)) (append-nil (now (a .block))))
+    (c .build-number .ensures ∙ ap (λ (l : List ℕ). buildNumber l (a .grant) (a .lent)) (append-nil (now (a .block))))
 
 pub down-number-spec : {M : Type 1} → statement M
 down-number-spec =

@@ -32,13 +32,13 @@ last z e a = rw (z, ← e) a
 
 -- behind Open's number the share decides
 decided : (c : tie.After-too-short) {answer : ℕ} → answer ≡ cond (c .too-short .result) 21 0 → let entry = at-start (at-open-number (at-else1 c)) .args in
-    answer ≡ firstOf (openRules (entry .state) (entry .room) (entry .slot) (entry .size) ++ (rule (tooShort (entry .share) (entry .size + 24) (blocks (entry .size + 24))) 21 ∷ []))
+    answer ≡ firstOf (openRules (entry .state) (entry .lent) (entry .slot) (entry .size) ++ (rule (tooShort (entry .share) (entry .size + 24) (blocks (entry .size + 24))) 21 ∷ []))
 unfolding openNumber openRules storeRules
 decided c a =
     let asked = at-else1 c in
     let number = at-open-number asked in
     let entry = at-start number .args in
-    chained-on (openRules (entry .state) (entry .room) (entry .slot) (entry .size)) (number .open-number .ensures) (next (last (asked .if1 .left) (c .too-short .ensures) a) done) tt tt
+    chained-on (openRules (entry .state) (entry .lent) (entry .slot) (entry .size)) (number .open-number .ensures) (next (last (asked .if1 .left) (c .too-short .ensures) a) done) tt tt
 
 open-number-requires : tie.Need-open-number-requires
 open-number-requires c κs = search needs
@@ -48,7 +48,7 @@ unfolding openNumber openRules storeRules
 returns c =
     let number = c .before in
     let entry = at-start number .args in
-    chained-on (openRules (entry .state) (entry .room) (entry .slot) (entry .size)) (number .open-number .ensures) (record { is = λ t. rw (ne-eqb _ 0 (c .if1 .taken)) }) tt tt
+    chained-on (openRules (entry .state) (entry .lent) (entry .slot) (entry .size)) (number .open-number .ensures) (record { is = λ t. rw (ne-eqb _ 0 (c .if1 .taken)) }) tt tt
 
 too-short-requires : tie.Need-too-short-requires
 too-short-requires c κs = open-admitted _ _ _ _ (at-open-number c .open-number .ensures) (c .if1 .left)

@@ -31,7 +31,7 @@ found c = rw (at-block-count c .block-count .ensures) at (c .share-for .ensures)
 -- the number is the definition's
 told : (c : tie.After-down-number) → let entry = at-start (at-block-count (at-share-for c)) .args in
     c .down-number .result
-    ≡ openDownNumber (entry .state) (entry .room) (entry .slot) (entry .size) (entry .release) (entry .mimo) (entry .processes) (entry .soft) (entry .layers)
+    ≡ openDownNumber (entry .state) (entry .lent) (entry .slot) (entry .size) (entry .release) (entry .mimo) (entry .processes) (entry .soft) (entry .layers)
 told c = rw (found (at-share-for c)) at (c .down-number .ensures) ∙ down-found _ _ _ _ _ _ _ _ _
 
 -- where it is 0 the share is the standard's

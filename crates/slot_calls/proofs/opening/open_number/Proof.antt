@@ -40,7 +40,7 @@ returns c =
     let opened = rw (looked .look .ensures .1) at (or-else .or-else .ensures) in
     let sized = rw (bad-size .bad-size .ensures) at (or-else2 .or-else2 .ensures) in
     let many = rw (too-many .too-many .ensures) at (c .or-else3 .ensures) in
-    chained-on (storeRules (entry .state) (entry .room) (entry .slot)) (store-number .store-number .ensures) (next opened (next sized (next many done))) tt tt
+    chained-on (storeRules (entry .state) (entry .lent) (entry .slot)) (store-number .store-number .ensures) (next opened (next sized (next many done))) tt tt
 
 pub open-number-spec : {M : Type 1} → statement M
 open-number-spec =

@@ -40,7 +40,7 @@ returns c =
     let looked = stored .before .before in
     let e = looked .before .args in
     let on = rw (looked .look .ensures .1) at (c .owner-after .ensures) in
-    both (e .state) (e .room) (e .slot) (e .terminal) (chained-on (storeRules (e .state) (e .room) (e .slot)) (stored .store-number .ensures) (record { is = λ t. on }) tt tt) (looked .look .ensures .1)
+    both (e .state) (e .lent) (e .slot) (e .terminal) (chained-on (storeRules (e .state) (e .lent) (e .slot)) (stored .store-number .ensures) (record { is = λ t. on }) tt tt) (looked .look .ensures .1)
 
 pub owner-spec : {M : Type 1} → statement M
 owner-spec = tie.close (tie.spec look-requires store-number-requires owner-after-requires returns)
