@@ -28,7 +28,7 @@ use Rattle.rate_matching.proofs.MatchableBlocks.{Matchable, matchable-told, mat
 use Rattle.rate_matching.proofs.Turns.{turn-told}
 use Rattle.bit_selection.specs.Matcher.{sentOf, matchedInto}
 use Rattle.bit_selection.specs.inner.Bits.{pairBits, bitsOf, unitBits, unitsFrom, Reads}
-use Rattle.bit_selection.specs.inner.Ring.{Holds, ringRoom, PutTo, TurnIn}
+use Rattle.bit_selection.specs.inner.Ring.{Holds, ringLength, PutTo, TurnIn}
 use Rattle.bit_selection.proofs.UnitBits.{pair-stream, unit-reads, unit-few}
 use Rattle.bit_selection.proofs.TurnBits.{rest-within, units-turn}
 use Rattle.bit_selection.proofs.Ring.{bits-pair, putTo-join, ring-turn, ring-some}
@@ -51,9 +51,9 @@ refused-is d0 d1 d2 F Ncb v out t = rw t
 
 -- ---- the room for the ring
 
--- a ring with as many places as `ringRoom` tells
-pub room-holds : (R E : ℕ) {m : ℕ} → ringRoom R E ≤ m → Holds R E (circleLength R) m
-unfolding ringRoom
+-- a ring with as many places as `ringLength` tells
+pub room-holds : (R E : ℕ) {m : ℕ} → ringLength R E ≤ m → Holds R E (circleLength R) m
+unfolding ringLength
 room-holds R E {m} h = record { fits = go (ltb (E + 2 * R) (circleLength R)) refl h }
   where
     go : (t : Bool) → ltb (E + 2 * R) (circleLength R) ≡ t → cond t (E + 2 * R) (circleLength R) ≤ m → m < E + 2 * R → circleLength R ≤ m

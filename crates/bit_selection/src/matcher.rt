@@ -20,9 +20,9 @@ ghost use Rattle.rate_matching.specs.Units.{aloneCount, bothCount, unitStart, F
 ghost use Rattle.rate_matching.specs.Turns.{matchable};
 ghost use Rattle.bit_selection.specs.Matcher.{matchedInto, repeatedInto};
 ghost use Rattle.bit_selection.specs.inner.Bits.{everyRow, pairRow, columnBits, pairBits, unitsFrom, Reads};
-ghost use Rattle.bit_selection.specs.inner.Ring.{Holds, ringRoom, Put, PutTo, TurnIn};
+ghost use Rattle.bit_selection.specs.inner.Ring.{Holds, ringLength, Put, PutTo, TurnIn};
 
-// The room for a turn is filled when it is made, so there are three: for the circle of a short block, with R up to 5, or few bits of any block;
+// The ring for a turn is filled when it is made, so there are three: for the circle of a short block, with R up to 5, or few bits of any block;
 // for that of a block of a middle size, with R up to 33; for the largest circle, with R = 193.
 const SHORT_RING: usize = 480;
 
@@ -270,9 +270,9 @@ fn put_turn(
 }
 
 // The places that a ring of streams of `d` places needs for `e` bits: those of the circle, or fewer where the bits end before.
-fn ring_room(d: usize, e: usize) -> usize
+fn ring_length(d: usize, e: usize) -> usize
     requires { ⌜ (d ≤ 6148) × (e < 2 ^ 63) ⌝ }
-    ensures { λ r. ⌜ r ≡ ringRoom (rows d) e ⌝ }
+    ensures { λ r. ⌜ r ≡ ringLength (rows d) e ⌝ }
 {
     let rows = rows_of(d);
     let some = e + 2 * rows;
@@ -280,7 +280,7 @@ fn ring_room(d: usize, e: usize) -> usize
     if some < all { some } else { all }
 }
 
-// Rate matching of one code block with the short room. The ring is repeated where it was made: there the compiler knows that `out` lies elsewhere, and
+// Rate matching of one code block with the short ring. It is repeated where it was made: there the compiler knows that `out` lies elsewhere, and
 // copies many bytes at once.
 fn match_short(
     d0: &[u8],
@@ -291,7 +291,7 @@ fn match_short(
     version: usize,
     out: &mut [u8],
 )
-    requires { ⌜ (matchable (length (now d0)) (length (now d1)) (length (now d2)) filler ncb version ≡ true) × (ringRoom (rows (length (now d0))) (length (now out)) ≤ 480) × (0 < length (now out)) ⌝ }
+    requires { ⌜ (matchable (length (now d0)) (length (now d1)) (length (now d2)) filler ncb version ≡ true) × (ringLength (rows (length (now d0))) (length (now out)) ≤ 480) × (0 < length (now out)) ⌝ }
     ensures { λ _. ⌜ now (out .exit) ≡ matchedInto (now (d0 .entry)) (now (d1 .entry)) (now (d2 .entry)) filler ncb version (now (out .entry)) ⌝ }
 {
     let mut ring = [0u8; SHORT_RING];
@@ -299,7 +299,7 @@ fn match_short(
     fill(&ring[..end], out);
 }
 
-// The same with the middle room.
+// The same with the middle ring.
 fn match_middle(
     d0: &[u8],
     d1: &[u8],
@@ -309,7 +309,7 @@ fn match_middle(
     version: usize,
     out: &mut [u8],
 )
-    requires { ⌜ (matchable (length (now d0)) (length (now d1)) (length (now d2)) filler ncb version ≡ true) × (ringRoom (rows (length (now d0))) (length (now out)) ≤ 3168) × (0 < length (now out)) ⌝ }
+    requires { ⌜ (matchable (length (now d0)) (length (now d1)) (length (now d2)) filler ncb version ≡ true) × (ringLength (rows (length (now d0))) (length (now out)) ≤ 3168) × (0 < length (now out)) ⌝ }
     ensures { λ _. ⌜ now (out .exit) ≡ matchedInto (now (d0 .entry)) (now (d1 .entry)) (now (d2 .entry)) filler ncb version (now (out .entry)) ⌝ }
 {
     let mut ring = [0u8; MIDDLE_RING];
@@ -317,7 +317,7 @@ fn match_middle(
     fill(&ring[..end], out);
 }
 
-// The same with the longest room.
+// The same with the longest ring.
 fn match_long(
     d0: &[u8],
     d1: &[u8],
@@ -355,12 +355,12 @@ pub fn rate_match(
     if !matchable(d0.len(), d1.len(), d2.len(), filler, ncb, version) {
         return;
     }
-    let room = ring_room(d0.len(), out.len());
-    if room <= SHORT_RING {
+    let places = ring_length(d0.len(), out.len());
+    if places <= SHORT_RING {
         match_short(d0, d1, d2, filler, ncb, version, out);
         return;
     }
-    if room <= MIDDLE_RING {
+    if places <= MIDDLE_RING {
         match_middle(d0, d1, d2, filler, ncb, version, out);
         return;
     }

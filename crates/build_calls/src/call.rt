@@ -107,7 +107,7 @@ fn build_number(header: &[u8], payload: &[u8], s: Segments, grant: Grant, lent: 
     0
 }
 
-// The codeword over the whole of `out`. All of a room is cleared when it is made, so the rooms are made once, of a length that goes by K+.
+// The codeword over the whole of `out`. All of an array is cleared when it is made, so the arrays are made once, of a length that goes by K+.
 fn write_codeword(
     header: &[u8],
     payload: &[u8],
@@ -129,7 +129,7 @@ fn write_codeword(
     }
 }
 
-// The same with rooms for a K+ of at most 128.
+// The same with arrays for a K+ of at most 128.
 fn write_short(
     header: &[u8],
     payload: &[u8],
@@ -159,7 +159,7 @@ fn write_short(
     );
 }
 
-// The same with rooms for a K+ of at most 1,024.
+// The same with arrays for a K+ of at most 1,024.
 fn write_middle(
     header: &[u8],
     payload: &[u8],
@@ -189,7 +189,7 @@ fn write_middle(
     );
 }
 
-// The same with rooms for every K+.
+// The same with arrays for every K+.
 fn write_long(header: &[u8], payload: &[u8], soft: usize, grant: Grant, s: Segments, out: &mut [u8])
     requires { ⌜ Writable soft (now header ++ now payload) grant (length (now out)) ⌝ }
     requires { ⌜ s ≡ segmentsOf (length (now header ++ now payload) + 24) ⌝ }
@@ -211,7 +211,7 @@ fn write_long(header: &[u8], payload: &[u8], soft: usize, grant: Grant, s: Segme
     );
 }
 
-// The same in lent rooms: each code block is written straight into its own stretch of the codeword.
+// The same in lent slices: each code block is written straight into its own stretch of the codeword.
 fn write_in(
     header: &[u8],
     payload: &[u8],
@@ -251,7 +251,7 @@ fn write_in(
     }
 }
 
-// Code block r, turbo coded and rate matched, over the whole of `stretch`, in the fronts of lent rooms.
+// Code block r, turbo coded and rate matched, over the whole of `stretch`, in the fronts of lent slices.
 fn send_within(
     header: &[u8],
     payload: &[u8],
@@ -285,7 +285,7 @@ fn send_within(
     );
 }
 
-// The same in lent rooms of the right lengths, K + 4 places for each of the three streams. The code block's bits are put where stream 0 has them.
+// The same in lent slices of the right lengths, K + 4 places for each of the three streams. The code block's bits are put where stream 0 has them.
 fn send_in(
     header: &[u8],
     payload: &[u8],

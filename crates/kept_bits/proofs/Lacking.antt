@@ -308,14 +308,14 @@ module _ (circle : List ℕ) {k f : ℕ} (low : f ≤ k) (w : Stretch (length ci
       one : tail .row ≡ 1 * tail .row
       one = omega arith
 
-  module _ {all front back : ℕ} (a : all ≡ sumFrom (missingAt (take (32 * (tail .row + 1)) circle)) 0 (length (take (32 * (tail .row + 1)) circle)))
+  module _ {end all front back : ℕ} (e : end ≡ 32 * rows D) (a : all ≡ sumFrom (missingAt (take end circle)) 0 (length (take end circle)))
       (b : front ≡ sumFrom (missingBy circle (heads D 0)) 0 (32 * bits .row + bits .column))
       (c : back ≡ sumFrom (missingBelow circle (heads D 0) (tail .row)) (tail .column) (32 - tail .column)) where
     pub all-parts : all ≡ front + (lackingOn circle k f + back)
     all-parts =
         a
-        ∙ front-counted circle (32 * (tail .row + 1)) (omega (arith, tail-last .1, stream-fits))
-        ∙ ap (sumFrom (missingAt circle) 0) (tail-last .1)
+        ∙ front-counted circle end (omega (arith, e, stream-fits))
+        ∙ ap (sumFrom (missingAt circle) 0) e
         ∙ lacking-entries circle k f low
         ∙ ap₂ (λ (x y : ℕ). x + (lackingOn circle k f + y))
         (ap (sumFrom (missingBy circle (heads D 0)) 0) (sym (bits-first .1)) ∙ sym b)

@@ -104,7 +104,7 @@ kept-along {long} {D} {s} {i} {n} circle w =
 -- the stream has them
 pub heads-there : {long D s i n : ℕ} → Stretch long D s i n → headsWithin D s ≡ heads D s
 unfolding headsWithin
-heads-there {long} {D} {s} w = simp (le-leb D longest (w .sized .most), le-leb s 2 (omega (arith, w .stream)))
+heads-there {long} {D} {s} w = simp (le-leb D longest (w .sized .most), lt-ltb 0 D (omega (arith, w .sized .least)), le-leb s 2 (omega (arith, w .stream)))
 
 -- where stream 2 lies, so does each
 pub any-stream : {long D s i n : ℕ} → Stretch long D 2 i n → s < 3 → Stretch long D s i n

@@ -3,9 +3,10 @@ use rate_matching::CirclePlace;
 use rate_matching::LONGEST;
 use rate_matching::StreamPlace;
 use rate_matching::circle_length;
-use rate_matching::column_begin;
 use rate_matching::column_heads;
+use rate_matching::column_unit_at;
 use rate_matching::matrix_place;
+use rate_matching::table::column_at;
 ghost use mathlib.Core.Path.{_≡_};
 ghost use mathlib.Core.Bool.{cond};
 ghost use mathlib.Core.List.{_++_};
@@ -152,7 +153,7 @@ fn count_row(circle: &[u8], d: usize, row: usize, from: usize, to: usize) -> usi
     let mut n: usize = 0;
     let mut p = from;
     while p < to {
-        let head = column_begin(d, 0, p);
+        let head = column_unit_at(d, 0, column_at(p)).begin;
         n += missing(circle[head.0 + row]) as usize;
         p += 1;
     }
@@ -173,18 +174,19 @@ fn count_before(circle: &[u8], d: usize, row: usize, column: usize) -> usize
     n + count_row(circle, d, row, 0, column)
 }
 
-// How many data places of a code block of size k lack a bit, the first f being filler. Stream 0 has the front of the circle, so that all of it is counted, many
-// places at a time, and what is no data place is taken off: the dummies and the filler, which are the first entries of the matrix, and the tail bits, the last.
+// How many data places of a code block of size k lack a bit, the first f being filler. The units of stream 0 lie side by side from place 0 on, so that all of
+// them are counted, many places at a time, and what is no data place is taken off: the dummies and the filler, which are the first entries of the matrix, and
+// the tail bits, the last.
 fn lacking_on(circle: &[u8], k: usize, f: usize) -> usize
     requires { ⌜ (f ≤ k) × Stretch (length (now circle)) (k + 4) 0 f (k - f) ⌝ }
     ensures { λ r. ⌜ r ≡ lackingOn (now (circle .entry)) k f ⌝ }
 {
     let d = k + 4;
-    let tail = matrix_place(d, StreamPlace(0, k));
-    let end = 32 * (tail.row + 1);
-    let all = count_missing(&circle[..end]);
+    let end = column_unit_at(d, 0, 31).end;
+    let all = count_missing(&circle[..end.0]);
     let data = matrix_place(d, StreamPlace(0, f));
     let front = count_before(circle, d, data.row, data.column);
+    let tail = matrix_place(d, StreamPlace(0, k));
     let back = count_row(circle, d, tail.row, tail.column, 32);
     all - front - back
 }

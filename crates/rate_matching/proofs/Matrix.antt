@@ -2,20 +2,19 @@
 -- and the loop that finds the columns' first places.
 -- Assumes nothing.
 use mathlib.Core.Path.{_≡_, refl, sym, _∙_, ap}
-use mathlib.Core.Bool.{Bool, true, false, _&&_}
 use mathlib.Core.List.{List, map}
 use Prim.Native.Nat.{ℕ, zero, suc, _+_, _-_, _*_, _/_, _%_, _≤_, _<_}
 use native.Mathlib.Omega.{arith}
-use lib.Dec.{leb, ltb}
-use lib.ListN.{length, getD, set, replicate, length-map, List·getD-map, List·getD-eq-default}
-use borrow.Author.Tests.{ltb-false}
+use lib.Dec.{eqb·suc-zero}
+use lib.ListN.{length, getD, set, List·getD-map}
+use borrow.Author.Tests.{ne-eqb}
 use Rattle.laws.specs.Lists.{tab, tabFrom}
-use Rattle.laws.proofs.Tab.{length-tab, getD-tab, tab-rest, rest-more, rest-none}
+use Rattle.laws.proofs.Tab.{getD-tab, tab-rest, rest-more, rest-none}
 use Rattle.laws.proofs.Writing.{Writing, start, same, push, finish-all}
 use Rattle.rate_matching.specs.declared.CirclePlace.{CirclePlace}
 use Rattle.rate_matching.specs.SubBlocks.{rows, dummies}
-use Rattle.rate_matching.specs.Places.{plainPlace, shiftedPlace, placeNumber, circlePlace, longest}
-use Rattle.rate_matching.specs.Matrix.{headBegin, headWidth, columnHead, headBy, headsOf, headsWithin, rowStep, writtenAt}
+use Rattle.rate_matching.specs.Places.{plainPlace, shiftedPlace, placeNumber, circlePlace}
+use Rattle.rate_matching.specs.Matrix.{headBegin, headWidth, columnHead, headBy, headsOf, rowStep, writtenAt}
 use Rattle.rate_matching.proofs.Places.{dummies-add, once-round}
 
 -- ---- where a column begins
@@ -28,6 +27,30 @@ first-head R c = omega arith
 pub pair-head : (R c : ℕ) → columnHead R 1 c ≡ 32 * R + c * (2 * R)
 unfolding columnHead headBegin headWidth
 pair-head R c = omega arith
+
+-- streams 1 and 2 stand by turns, stream 1 first
+pub by-turns : (R s c : ℕ) → (s ≡ 0 → ⊥) → columnHead R 1 c + (s - 1) ≡ columnHead R s c
+unfolding columnHead headBegin headWidth
+by-turns R s c h = rw (ne-eqb s 0 h) (omega arith)
+
+-- the columns of a stream lie side by side, each as wide as the first
+pub heads-rise : (R s : ℕ) → columnHead R s 0 ≤ columnHead R s 1
+unfolding columnHead
+heads-rise R s = omega arith
+
+pub first-wide : (R s : ℕ) → columnHead R s 1 - columnHead R s 0 ≡ headWidth R s
+unfolding columnHead
+first-wide R s = omega arith
+
+pub side-by-side : (R s c : ℕ) → columnHead R s 0 + c * (columnHead R s 1 - columnHead R s 0) ≡ columnHead R s c
+unfolding columnHead
+side-by-side R s c = rw (first-wide R s) (omega arith)
+
+-- on a circle of at most 193 rows
+pub first-few : (R s : ℕ) → R ≤ 193 → s ≤ 2 → (columnHead R s 0 ≤ 6177) × (headWidth R s ≤ 386)
+unfolding columnHead headBegin headWidth
+first-few R zero h u = (omega arith, omega arith)
+first-few R (suc s) h u = rw (eqb·suc-zero s) (omega arith, omega arith)
 
 -- ---- where a stream place lies
 
@@ -65,28 +88,6 @@ place-by D s i some u h = by-column D s i (writtenAt D (s, i)) some u h (written
 pub head-at : (R s p : ℕ) → p < 32 → getD (headsOf R s) p (circlePlace 0) ≡ circlePlace (headBy R s p)
 unfolding headsOf
 head-at R s p h = List·getD-map circlePlace (tab 32 (headBy R s)) p 0 ∙ ap circlePlace (getD-tab 32 (headBy R s) p 0 h)
-
-heads-long : (R s : ℕ) → length (headsOf R s) ≡ 32
-unfolding headsOf
-heads-long R s = length-map (tab 32 (headBy R s)) circlePlace ∙ length-tab 32 (headBy R s)
-
--- one of them by itself: where the stream and the column are there, and where they are not
-pub begin-there : (D s p : ℕ) → (leb D longest && leb s 2) ≡ true → p < 32 → getD (headsWithin D s) p (circlePlace 0) ≡ circlePlace (headBy (rows D) s p)
-unfolding headsWithin
-begin-there D s p e h = rw e (head-at (rows D) s p h)
-
-alike : (n i : ℕ) (x : CirclePlace) → getD (replicate n x) i x ≡ x
-alike zero i x = refl
-alike (suc n) zero x = refl
-alike (suc n) (suc i) x = alike n i x
-
-pub begin-none : (D s p : ℕ) → (leb D longest && leb s 2 && ltb p 32) ≡ false → getD (headsWithin D s) p (circlePlace 0) ≡ circlePlace 0
-unfolding headsWithin
-begin-none D s p e = go (leb D longest && leb s 2) refl
-  where
-    go : (t : Bool) → (leb D longest && leb s 2) ≡ t → getD (headsWithin D s) p (circlePlace 0) ≡ circlePlace 0
-    go true is = let past : 32 ≤ p = ltb-false p 32 (rw is at e) in rw is (List·getD-eq-default (headsOf (rows D) s) (circlePlace 0) (omega (arith, heads-long (rows D) s)))
-    go false is = rw is (alike 32 p (circlePlace 0))
 
 -- those of the columns before p are found
 pub record Finding (R s : ℕ) (heads₀ heads : List CirclePlace) (p : ℕ) : Type 0 where

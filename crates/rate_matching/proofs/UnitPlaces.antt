@@ -7,6 +7,7 @@ use Prim.Native.Nat.{ℕ, _+_, _-_, _*_, _/_, _%_, _≤_, _<_, min}
 use native.Mathlib.Nat.{add-zero, mul-le-mul-right}
 use native.Mathlib.Omega.{arith}
 use lib.Dec.{leb, ltb}
+use lib.ListN.{getD, replicate, getD-replicate}
 use borrow.Author.Tests.{ltb-true, ltb-false, le-leb, lt-ltb, le-ltb}
 use Rattle.laws.specs.Lists.{tab, tabFrom}
 use Rattle.laws.proofs.Tab.{tabFrom-shift, map-tabFrom, tab-ext}
@@ -15,13 +16,13 @@ use Rattle.rate_matching.specs.declared.Unit.{Unit}
 use Rattle.rate_matching.specs.Columns.{column}
 use Rattle.rate_matching.specs.SubBlocks.{rows, dummies, rowsBefore}
 use Rattle.rate_matching.specs.Circle.{circleLength}
-use Rattle.rate_matching.specs.Places.{longest}
+use Rattle.rate_matching.specs.Places.{circlePlace, longest}
 use Rattle.rate_matching.specs.Walk.{itself}
 use Rattle.rate_matching.specs.Shape.{shape, bitPlaces, second, pairPlaces, lastPlace}
-use Rattle.rate_matching.specs.Matrix.{columnHead}
+use Rattle.rate_matching.specs.Matrix.{columnHead, headBy, headsOf, headsWithin}
 use Rattle.rate_matching.specs.Units.{columnUnit, pairUnit, unitAt, noUnit, unitWithin, columnWithin, pairWithin, alonePlace, aloneCount, bothCount, unitPlaces, bitsBefore, unitStart, Lies}
 use Rattle.rate_matching.proofs.Columns.{column-rule}
-use Rattle.rate_matching.proofs.Matrix.{first-head, pair-head}
+use Rattle.rate_matching.proofs.Matrix.{first-head, pair-head, head-at}
 use Rattle.rate_matching.proofs.ShapeColumns.{column-places, pair-places}
 use Rattle.rate_matching.proofs.Units.{some-dummies, low-start, low-next, high-start, high-next}
 
@@ -70,6 +71,22 @@ pair-is D F {u} high = go (ltb u 64) refl
         let low = ltb-false u 64 t in
         let many : 32 ≤ u - 32 = omega arith in
         rw (le-ltb (u - 32) 32 many, le-ltb u 64 low) (past (leb D longest && ltb F D))
+
+-- ---- where stream 0's units begin and end
+
+-- a unit begins where its column's first place is
+pub column-first : (D p : ℕ) → p < 32 → columnWithin D 0 (column p) .begin ≡ getD (headsWithin D 0) p (circlePlace 0)
+unfolding columnWithin headsWithin columnUnit noUnit headBy
+column-first D p h = rw (lt-ltb (column p) 32 (column-rule p h .0)) (go (leb D longest && ltb 0 D))
+  where
+    go : (t : Bool) → cond (t && true) (columnUnit D 0 (column p)) noUnit .begin ≡ getD (cond (t && true) (headsOf (rows D) 0) (replicate 32 (circlePlace 0))) p (circlePlace 0)
+    go true = sym (head-at (rows D) 0 p h)
+    go false = sym (getD-replicate 32 p (circlePlace 0) (circlePlace 0) h)
+
+-- and the last one ends where stream 0 does
+pub stream-ends : {D : ℕ} → D ≤ longest → 0 < D → columnWithin D 0 31 .end .0 ≡ 32 * rows D
+unfolding columnWithin columnUnit
+stream-ends {D} most some = rw (le-leb D longest most, lt-ltb 0 D some) (omega (arith, first-head (rows D) 31))
 
 -- ---- the rows of a column
 
@@ -239,6 +256,15 @@ module _ {D F : ℕ} (u : ℕ) (most : D ≤ longest) (few : F < D) {U : Unit} (
 
   pub told-high : 32 ≤ u → u < 64 → U ≡ pairUnit D F (u - 32)
   told-high h l = is ∙ unit-there most few l ∙ unit-high D F h
+
+  -- the units lie one after another
+  pub unit-begins : u < 64 → U .begin .0 ≡ unitStart (rows D) u
+  unfolding columnUnit pairUnit
+  unit-begins l = go (ltb u 32) refl
+    where
+      go : (a : Bool) → ltb u 32 ≡ a → U .begin .0 ≡ unitStart (rows D) u
+      go true s = let h : u < 32 = ltb-true u 32 s in ap (λ (x : Unit). x .begin .0) (told-low h) ∙ first-head (rows D) u ∙ sym (low-start (rows D) u h)
+      go false s = let h : 32 ≤ u = ltb-false u 32 s in ap (λ (x : Unit). x .begin .0) (told-high h l) ∙ pair-head (rows D) (u - 32) ∙ sym (high-start (rows D) u h)
 
   -- what holds of the columns, of the pairs and of a unit that has no place holds of it
   pub by-kind : (P : Unit → Type 0) → (u < 32 → P (columnUnit D F u)) → (u - 32 < 32 → P (pairUnit D F (u - 32))) → P noUnit → P U

@@ -40,7 +40,7 @@ headsOf R s = map circlePlace (tab 32 (headBy R s))
 
 -- the same; all at place 0 where streams of D places have no such stream
 unfoldable pub headsWithin : ℕ → ℕ → List CirclePlace
-headsWithin D s = cond (leb D longest && leb s 2) (headsOf (rows D) s) (replicate 32 (circlePlace 0))
+headsWithin D s = cond (leb D longest && ltb 0 D && leb s 2) (headsOf (rows D) s) (replicate 32 (circlePlace 0))
 
 -- a row further is one place further in stream 0, and two where streams 1 and 2 stand by turns
 unfoldable pub rowStep : ℕ → ℕ

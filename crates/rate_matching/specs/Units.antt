@@ -18,6 +18,7 @@ use Rattle.rate_matching.specs.Matrix.{columnHead}
 -- column c of stream 0 on the circle of streams of D places, the first F of stream 0 absent: its bits begin behind the dummies and the filler
 unfoldable pub columnUnit : ℕ → ℕ → ℕ → Unit
 columnUnit D F c = record {
+  begin = circlePlace (columnHead (rows D) 0 c);
   alone = circlePlace (columnHead (rows D) 0 c + rowsBefore (dummies D + F) (column c));
   both = circlePlace (columnHead (rows D) 0 c + rowsBefore (dummies D + F) (column c));
   end = circlePlace (columnHead (rows D) 0 c + rows D);
@@ -29,6 +30,7 @@ columnUnit D F c = record {
 -- column 31 wraps to a dummy
 unfoldable pub pairUnit : ℕ → ℕ → ℕ → Unit
 pairUnit D F c = record {
+  begin = circlePlace (columnHead (rows D) 1 c);
   alone = circlePlace (columnHead (rows D) 1 c + second (rowsBefore (dummies D) (column c + 1)));
   both = circlePlace (columnHead (rows D) 1 c + 2 * rowsBefore (dummies D + F) (column c));
   end = circlePlace (columnHead (rows D) 1 c + lastPlace (rows D) (column c));
@@ -42,7 +44,7 @@ unitAt D F u = cond (ltb u 32) (columnUnit D F u) (pairUnit D F (u - 32))
 
 -- a unit that has no place
 unfoldable pub noUnit : Unit
-noUnit = record { alone = circlePlace 0; both = circlePlace 0; end = circlePlace 0; early = (0, 0); first = (0, 0) }
+noUnit = record { begin = circlePlace 0; alone = circlePlace 0; both = circlePlace 0; end = circlePlace 0; early = (0, 0); first = (0, 0) }
 
 -- unit u, where streams of D places with F filler bits have it
 unfoldable pub unitWithin : ℕ → ℕ → ℕ → Unit

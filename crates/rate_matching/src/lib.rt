@@ -5,7 +5,6 @@ pub mod table;
 
 pub use mapping::LONGEST;
 pub use mapping::circle_length;
-pub use mapping::column_begin;
 pub use mapping::column_heads;
 pub use mapping::column_unit_at;
 pub use mapping::matrix_place;
@@ -29,10 +28,11 @@ pub struct MatrixPlace {
     pub column: usize,
 }
 
-// A unit of the circle: a column of stream 0, or a column of streams 1 and 2 by turns. Every place from `both` to `end` holds a bit, and `both` holds the
-// stream place `first`; row for row the stream place is 32 further. Before it, where stream 1 has dummies and filler, stream 2 stands alone at every
-// second place from `alone` on, which holds the stream place `early`; a column of stream 0 has no such place.
+// A unit of the circle: a column of stream 0, or a column of streams 1 and 2 by turns, which begins at `begin`. Every place from `both` to `end` holds a bit,
+// and `both` holds the stream place `first`; row for row the stream place is 32 further. Before it, where stream 1 has dummies and filler, stream 2 stands
+// alone at every second place from `alone` on, which holds the stream place `early`; a column of stream 0 has no such place.
 pub struct Unit {
+    pub begin: CirclePlace,
     pub alone: CirclePlace,
     pub both: CirclePlace,
     pub end: CirclePlace,

@@ -7,7 +7,6 @@ use crate::Unit;
 use crate::table::column_at;
 ghost use mathlib.Core.Path.{_≡_};
 ghost use Prim.Native.Nat.{_*_, _≤_, _<_};
-ghost use lib.ListN.{getD};
 ghost use Rattle.rate_matching.specs.SubBlocks.{rows, rowsBefore};
 ghost use Rattle.rate_matching.specs.Places.{circlePlace};
 ghost use Rattle.rate_matching.specs.Matrix.{lengthWithin, columnHead, headsOf, headsWithin, matrixWithin};
@@ -40,21 +39,6 @@ fn rows_before(i: usize, p: usize) -> usize
     if i <= p { 0 } else { (i - p - 1) / 32 + 1 }
 }
 
-// Where column c of a stream begins on a circle of `rows` rows, as it is sent: stream 0 has the front of the circle, R places a column; streams 1 and 2 stand
-// behind it by turns.
-fn column_head(rows: usize, stream: usize, c: usize) -> CirclePlace
-    requires { ⌜ (rows ≤ 193) × (stream ≤ 2) × (c < 32) ⌝ }
-    ensures { λ r. ⌜ r ≡ circlePlace (columnHead rows stream c) ⌝ }
-{
-    let begin = if stream == 0 {
-        0
-    } else {
-        32 * rows + (stream - 1)
-    };
-    let width = if stream == 0 { rows } else { 2 * rows };
-    CirclePlace(begin + c * width)
-}
-
 // Column c of stream 0: its bits begin behind the dummies and the filler.
 fn column_unit(d: usize, filler: usize, c: usize) -> Unit
     requires { ⌜ (d ≤ 6148) × (filler < d) × (c < 32) ⌝ }
@@ -64,14 +48,14 @@ fn column_unit(d: usize, filler: usize, c: usize) -> Unit
     let dummies = 32 * rows - d;
     let p = column_at(c);
     let row = rows_before(dummies + filler, p);
-    let begin = column_head(rows, 0, c).0;
-    let both = CirclePlace(begin + row);
-    let end = CirclePlace(begin + rows);
+    let begin = CirclePlace(c * rows);
+    let both = CirclePlace(begin.0 + row);
     let first = StreamPlace(0, p + 32 * row - dummies);
     Unit {
+        begin,
         alone: both,
         both,
-        end,
+        end: CirclePlace(begin.0 + rows),
         early: first,
         first,
     }
@@ -87,11 +71,12 @@ fn pair_unit(d: usize, filler: usize, c: usize) -> Unit
     let p = column_at(c);
     let lone = rows_before(dummies, p + 1);
     let row = rows_before(dummies + filler, p);
-    let begin = column_head(rows, 1, c).0;
+    let begin = CirclePlace(32 * rows + c * (2 * rows));
     Unit {
-        alone: CirclePlace(begin + (2 * lone + 1)),
-        both: CirclePlace(begin + 2 * row),
-        end: CirclePlace(begin + (2 * rows - p / 31)),
+        begin,
+        alone: CirclePlace(begin.0 + (2 * lone + 1)),
+        both: CirclePlace(begin.0 + 2 * row),
+        end: CirclePlace(begin.0 + (2 * rows - p / 31)),
         early: StreamPlace(2, p + 1 + 32 * lone - dummies),
         first: StreamPlace(1, p + 32 * row - dummies),
     }
@@ -104,6 +89,7 @@ fn no_unit() -> Unit
     let place = CirclePlace(0);
     let none = StreamPlace(0, 0);
     Unit {
+        begin: place,
         alone: place,
         both: place,
         end: place,
@@ -149,38 +135,39 @@ pub fn pair_unit_at(d: usize, filler: usize, c: usize) -> Unit
 pub fn column_heads(d: usize, stream: usize) -> [CirclePlace; 32]
     ensures { λ r. ⌜ r ≡ headsWithin d stream ⌝ }
 {
-    let there = (d <= LONGEST) & (stream <= 2);
+    let there = (d <= LONGEST) & (0 < d) & (stream <= 2);
     if !there {
         let none = CirclePlace(0);
         return [none; 32];
     }
-    heads_of(rows_of(d), stream)
+    heads_of(d, stream)
 }
 
-// The same of a matrix of `rows` rows.
-fn heads_of(rows: usize, stream: usize) -> [CirclePlace; 32]
-    requires { ⌜ (rows ≤ 193) × (stream ≤ 2) ⌝ }
-    ensures { λ r. ⌜ r ≡ headsOf rows stream ⌝ }
+// The same, of a stream that is there. Its 32 units lie side by side and are as long as one another, so that the first two tell where all begin.
+fn heads_of(d: usize, stream: usize) -> [CirclePlace; 32]
+    requires { ⌜ (0 < d) × (d ≤ 6148) × (stream ≤ 2) ⌝ }
+    ensures { λ r. ⌜ r ≡ headsOf (rows d) stream ⌝ }
 {
-    let none = CirclePlace(0);
-    let mut heads = [none; 32];
+    let first = head_in(d, stream, 0);
+    let width = head_in(d, stream, 1).0 - first.0;
+    let mut heads = [first; 32];
     let mut p = 0;
     while p < 32 {
-        heads[p] = column_head(rows, stream, column_at(p));
+        heads[p] = CirclePlace(first.0 + column_at(p) * width);
         p += 1;
     }
     heads
 }
 
-// One of them: where column p begins, for a loop that asks for few.
-pub fn column_begin(d: usize, stream: usize, p: usize) -> CirclePlace
-    ensures { λ r. ⌜ r ≡ getD (headsWithin d stream) p (circlePlace 0) ⌝ }
+// Where column c of a stream begins in its unit: streams 1 and 2 stand by turns, stream 1 first.
+fn head_in(d: usize, stream: usize, c: usize) -> CirclePlace
+    requires { ⌜ (0 < d) × (d ≤ 6148) × (stream ≤ 2) × (c < 32) ⌝ }
+    ensures { λ r. ⌜ r ≡ circlePlace (columnHead (rows d) stream c) ⌝ }
 {
-    let there = (d <= LONGEST) & (stream <= 2) & (p < 32);
-    if !there {
-        return CirclePlace(0);
+    if stream == 0 {
+        return column_unit(d, 0, c).begin;
     }
-    column_head(rows_of(d), stream, column_at(p))
+    CirclePlace(pair_unit(d, 0, c).begin.0 + (stream - 1))
 }
 
 // The row and the column of the matrix where a stream place stands, as the matrix is written; of stream 2, which is read one further, where the place before it

@@ -17,8 +17,8 @@ pub record Holds (R most need long : ℕ) : Type 0 where
   pub fits : long < most + 2 * R → need ≤ long
 
 -- the places of a ring that is long enough for E bits: at most those of the circle
-unfoldable pub ringRoom : ℕ → ℕ → ℕ
-ringRoom R E = cond (ltb (E + 2 * R) (circleLength R)) (E + 2 * R) (circleLength R)
+unfoldable pub ringLength : ℕ → ℕ → ℕ
+ringLength R E = cond (ltb (E + 2 * R) (circleLength R)) (E + 2 * R) (circleLength R)
 
 -- the bits stand in the ring from place n to place r, before them what stood there
 pub record Put (bits ring : List ℕ) (n : ℕ) (ring′ : List ℕ) (r : ℕ) : Type 0 where

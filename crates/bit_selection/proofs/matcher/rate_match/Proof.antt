@@ -13,7 +13,7 @@ use Rattle.bit_selection.proofs.matcher.rate_match.Statement.{statement
 use Rattle.bit_selection.proofs.matcher.rate_match.Tie as tie
 
 -- the ways back
-abbrev at-else2 : tie.After-ring-room → tie.Else2
+abbrev at-else2 : tie.After-ring-length → tie.Else2
 at-else2 c = c .before
 
 -- past the test
@@ -33,11 +33,11 @@ matchable-requires c κs = tt
 returns-2 : tie.Need-returns-2
 returns-2 c = refused-is _ _ _ _ _ _ _ (sym (c .before .matchable .ensures) ∙ not-true _ (c .if2 .taken))
 
-ring-room-requires : tie.Need-ring-room-requires
-ring-room-requires c κs = (matchable-told (told c) .fits .most, search needs)
+ring-length-requires : tie.Need-ring-length-requires
+ring-length-requires c κs = (matchable-told (told c) .fits .most, search needs)
 
 match-short-requires : tie.Need-match-short-requires
-match-short-requires c κs = let roomed = c .before .before in (told (at-else2 roomed), rw (← roomed .ring-room .ensures) (c .before .if3 .taken), omega arith)
+match-short-requires c κs = let roomed = c .before .before in (told (at-else2 roomed), rw (← roomed .ring-length .ensures) (c .before .if3 .taken), omega arith)
 
 same-length : tie.Need-same-length
 same-length c = search needs
@@ -46,7 +46,7 @@ returns-3 : tie.Need-returns-3
 returns-3 c = search needs
 
 match-middle-requires : tie.Need-match-middle-requires
-match-middle-requires c κs = let roomed = c .before .before .before in (told (at-else2 roomed), rw (← roomed .ring-room .ensures) (c .before .if4 .taken), omega arith)
+match-middle-requires c κs = let roomed = c .before .before .before in (told (at-else2 roomed), rw (← roomed .ring-length .ensures) (c .before .if4 .taken), omega arith)
 
 same-length-2 : tie.Need-same-length-2
 same-length-2 c = search needs
@@ -70,7 +70,7 @@ rate-match-spec =
     returns
     matchable-requires
     returns-2
-    ring-room-requires
+    ring-length-requires
     match-short-requires
     same-length
     returns-3

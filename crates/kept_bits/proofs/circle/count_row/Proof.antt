@@ -1,10 +1,15 @@
 -- `circle::count_row` meets its contract: the columns passed are counted (`Lacking`).
 -- Assumes nothing.
-use Prim.Native.Nat.{_+_, _-_, _≤_, _<_}
+use mathlib.Core.Path.{_≡_, _∙_, ap}
+use Prim.Native.Nat.{ℕ, _+_, _-_, _≤_, _<_}
 use native.Mathlib.Omega.{arith}
 use lib.ListN.{length, getD}
+use Rattle.rate_matching.specs.declared.CirclePlace.{CirclePlace}
+use Rattle.rate_matching.specs.declared.Unit.{Unit}
 use Rattle.rate_matching.specs.Places.{circlePlace}
 use Rattle.rate_matching.specs.Matrix.{headsWithin}
+use Rattle.rate_matching.specs.Units.{columnWithin}
+use Rattle.rate_matching.proofs.UnitPlaces.{column-first}
 use Rattle.kept_bits.specs.inner.Rows.{keptBelow, missingBelow}
 use Rattle.kept_bits.proofs.Bytes.{missing-le}
 use Rattle.kept_bits.proofs.Lacking.{InRow, in-row-start, in-row-few, in-row-next, in-row-finish}
@@ -21,14 +26,14 @@ abbrev μ-loop : tie.MeasureT-loop
 abbrev at-start : tie.At-loop Inv-loop μ-loop → tie.Start Inv-loop μ-loop
 at-start c = c .before .before
 
-abbrev at-head : tie.After-struct-known Inv-loop μ-loop → tie.After-column-begin Inv-loop μ-loop
-at-head c = c .before
+abbrev at-turn : tie.After-column-unit-at Inv-loop μ-loop → tie.In-loop Inv-loop μ-loop
+at-turn c = c .before .before
 
-abbrev at-head-from-missing : tie.After-missing Inv-loop μ-loop → tie.After-column-begin Inv-loop μ-loop
-at-head-from-missing c = at-head (c .before .before)
+abbrev at-unit : tie.After-struct-known Inv-loop μ-loop → tie.After-column-unit-at Inv-loop μ-loop
+at-unit c = c .before .before
 
-abbrev at-turn-from-missing : tie.After-missing Inv-loop μ-loop → tie.In-loop Inv-loop μ-loop
-at-turn-from-missing c = at-head-from-missing c .before
+abbrev at-unit-from-missing : tie.After-missing Inv-loop μ-loop → tie.After-column-unit-at Inv-loop μ-loop
+at-unit-from-missing c = at-unit (c .before .before)
 
 -- the place lies on the circle
 lies : (c : tie.In-loop Inv-loop μ-loop) → let e = at-start (c .before) .args in
@@ -38,8 +43,18 @@ lies c =
     let w = c .before .loop .inv .passed in
     (omega (arith, w, s .pre .0, s .pre .1 .most), s .pre .1 .places (c .before .loop .p) (w .0) (omega (arith, w, s .pre .0)))
 
-found : (c : tie.After-column-begin Inv-loop μ-loop) → let e = at-start (c .before .before) .args in c .column-begin .result .0 + e .row < length (e .circle .now)
-found c = rw (c .column-begin .ensures) (lies (c .before) .1)
+-- the column's unit begins where its head is
+head : (c : tie.After-column-unit-at Inv-loop μ-loop) → let t = at-turn c in
+    c .column-unit-at .result .begin ≡ getD (headsWithin (at-start (t .before) .args .d) 0) (t .before .loop .p) (circlePlace 0)
+head c =
+    let t = at-turn c in
+    let d = at-start (t .before) .args .d in
+    ap (λ (u : Unit). u .begin) (c .column-unit-at .ensures)
+    ∙ ap (λ (q : ℕ). columnWithin d 0 q .begin) (c .before .column-at .ensures)
+    ∙ column-first d (t .before .loop .p) (lies t .0)
+
+found : (c : tie.After-column-unit-at Inv-loop μ-loop) → let e = at-start (at-turn c .before) .args in c .column-unit-at .result .begin .0 + e .row < length (e .circle .now)
+found c = omega (arith, ap (λ (x : CirclePlace). x .0) (head c), lies (at-turn c) .1)
 
 -- it is 0 or 1
 counted : (c : tie.After-missing Inv-loop μ-loop) → c .missing .result ≤ 1
@@ -48,14 +63,17 @@ counted c = rw (c .missing .ensures) (missing-le _)
 loop-holds : tie.Need-loop-holds Inv-loop μ-loop
 loop-holds c = in-row-start (c .before .pre .0)
 
-column-begin-requires : tie.Need-column-begin-requires Inv-loop μ-loop
-column-begin-requires c κs = tt
+column-at-requires : tie.Need-column-at-requires Inv-loop μ-loop
+column-at-requires c κs = tt
+
+column-unit-at-requires : tie.Need-column-unit-at-requires Inv-loop μ-loop
+column-unit-at-requires c κs = tt
 
 add-missing : tie.Need-add-missing Inv-loop μ-loop
-add-missing c = omega (arith, found (at-head c))
+add-missing c = omega (arith, found (at-unit c))
 
 shared-slice-read-missing : tie.Need-shared-slice-read-missing Inv-loop μ-loop
-shared-slice-read-missing c = found (at-head (c .before))
+shared-slice-read-missing c = found (at-unit (c .before))
 
 missing-requires : tie.Need-missing-requires Inv-loop μ-loop
 missing-requires c κs = tt
@@ -64,7 +82,7 @@ cast-n : tie.Need-cast-n Inv-loop μ-loop
 cast-n c = omega (arith, counted c)
 
 add-n : tie.Need-add-n Inv-loop μ-loop
-add-n c = omega (arith, counted c, in-row-few (at-turn-from-missing c .before .loop .inv), lies (at-turn-from-missing c) .0)
+add-n c = omega (arith, counted c, in-row-few (at-turn (at-unit-from-missing c) .before .loop .inv), lies (at-turn (at-unit-from-missing c)) .0)
 
 add-p : tie.Need-add-p Inv-loop μ-loop
 add-p c = omega arith
@@ -74,7 +92,7 @@ loop-less c = omega arith
 
 loop-again : tie.Need-loop-again Inv-loop μ-loop
 unfolding missingBelow keptBelow
-loop-again c = in-row-next (omega arith) (rw (at-head-from-missing c .column-begin .ensures) at (c .missing .ensures)) (at-turn-from-missing c .before .loop .inv)
+loop-again c = in-row-next (omega arith) (rw (head (at-unit-from-missing c)) at (c .missing .ensures)) (at-turn (at-unit-from-missing c) .before .loop .inv)
 
 returns : tie.Need-returns Inv-loop μ-loop
 returns c = in-row-finish (omega arith) (c .before .loop .inv)
@@ -86,7 +104,8 @@ count-row-spec =
     Inv-loop
     μ-loop
     loop-holds
-    column-begin-requires
+    column-at-requires
+    column-unit-at-requires
     add-missing
     shared-slice-read-missing
     missing-requires

@@ -20,8 +20,8 @@ at-rows-of c = c .before
 abbrev at-column-at : tie.After-rows-before → tie.After-column-at
 at-column-at c = c .before
 
-abbrev at-rows-before : tie.After-column-head → tie.After-rows-before
-at-rows-before c = c .before
+abbrev at-rows-before : tie.After-struct-known2 → tie.After-rows-before
+at-rows-before c = c .before .before
 
 -- the rows that were found, and the function's entry
 abbrev entry : tie.After-rows-before → tie.Start
@@ -37,11 +37,8 @@ found c =
     rowed (s .pre .0) (s .pre .1) low (at-rows-of (at-column-at c) .rows-of .ensures) refl refl (c .rows-before .ensures)
 
 -- the column begins on the circle
-begun : (c : tie.After-column-head) → c .column-head .result .0 ≤ 18528
-begun c =
-    let b = at-rows-before c in
-    let R = at-rows-of (at-column-at b) .rows-of .result in
-    rw (c .column-head .ensures) (omega (arith, first-head R (entry b .args .c), found b .few, mul-le-mul-right R (entry b .pre .2)))
+begun : (c : tie.After-rows-before) → entry c .args .c * at-rows-of (at-column-at c) .rows-of .result ≤ 6176
+begun c = let R = at-rows-of (at-column-at c) .rows-of .result in omega (arith, found c .few, mul-le-mul-right R (entry c .pre .2))
 
 rows-of-requires : tie.Need-rows-of-requires
 rows-of-requires c κs = search needs
@@ -64,29 +61,31 @@ add-rows-before c = omega arith
 rows-before-requires : tie.Need-rows-before-requires
 rows-before-requires c κs = search needs
 
-column-head-requires : tie.Need-column-head-requires
-column-head-requires c κs = (found c .few, omega arith, entry c .pre .2)
+mul-t11 : tie.Need-mul-t11
+mul-t11 c = omega (arith, begun c)
+
+add-t11 : tie.Need-add-t11
+add-t11 c = let b = c .before in omega (arith, found b .few, found b .high, begun b)
+
+mul-t11-2 : tie.Need-mul-t11-2
+mul-t11-2 c = let b = c .before in omega (arith, found b .few, found b .high)
 
 add-t12 : tie.Need-add-t12
-add-t12 c = let r = found (at-rows-before c) in omega (arith, r .few, r .high, begun c)
+add-t12 c = let b = c .before in omega (arith, found b .few, found b .high, found b .column)
 
-add-t12-2 : tie.Need-add-t12-2
-add-t12-2 c = let r = found (at-rows-before c) in omega (arith, r .few, begun c)
+sub-t13 : tie.Need-sub-t13
+sub-t13 c = found (c .before) .behind
 
-mul-t12 : tie.Need-mul-t12
-mul-t12 c = let r = found (at-rows-before c) in omega (arith, r .few, r .high)
-
-add-t14 : tie.Need-add-t14
-add-t14 c = let r = found (at-rows-before c) in omega (arith, r .few, r .high, r .column)
-
-sub-t15 : tie.Need-sub-t15
-sub-t15 c = found (at-rows-before c) .behind
+add-t11-2 : tie.Need-add-t11-2
+add-t11-2 c = let b = at-rows-before c in omega (arith, found b .few, begun b)
 
 returns : tie.Need-returns
 unfolding columnUnit dummies
 returns c =
     let b = at-rows-before c in
-    simp (c .column-head .ensures, b .rows-before .ensures, at-column-at b .column-at .ensures, at-rows-of (at-column-at b) .rows-of .ensures)
+    let a = at-column-at b in
+    let s = entry b in
+    simp (first-head (rows (s .args .d)) (s .args .c), b .rows-before .ensures, a .column-at .ensures, at-rows-of a .rows-of .ensures)
 
 pub column-unit-spec : {M : Type 1} → statement M
 column-unit-spec =
@@ -98,10 +97,10 @@ column-unit-spec =
     column-at-requires
     add-rows-before
     rows-before-requires
-    column-head-requires
+    mul-t11
+    add-t11
+    mul-t11-2
     add-t12
-    add-t12-2
-    mul-t12
-    add-t14
-    sub-t15
+    sub-t13
+    add-t11-2
     returns)

@@ -27,8 +27,14 @@ at-column-at c = c .before
 abbrev at-rows-before : tie.After-rows-before2 → tie.After-rows-before
 at-rows-before c = c .before
 
-abbrev at-rows-before2 : tie.After-column-head → tie.After-rows-before2
+abbrev at-rows-before2 : tie.After-struct-known → tie.After-rows-before2
 at-rows-before2 c = c .before
+
+abbrev at-alone : tie.After-struct-known2 → tie.After-struct-known
+at-alone c = c .before
+
+abbrev at-both : tie.After-struct-known3 → tie.After-struct-known2
+at-both c = c .before
 
 -- the rows that were found, and the function's entry
 abbrev entry : tie.After-rows-before2 → tie.Start
@@ -43,11 +49,8 @@ found c =
     rowed (s .pre .0) (s .pre .1) low (at-rows-of (at-column-at (at-rows-before c)) .rows-of .ensures) refl (at-rows-before c .rows-before .ensures) (c .rows-before2 .ensures)
 
 -- the column begins on the circle
-begun : (c : tie.After-column-head) → c .column-head .result .0 ≤ 18528
-begun c =
-    let b = at-rows-before2 c in
-    let R = at-rows-of (at-column-at (at-rows-before b)) .rows-of .result in
-    rw (c .column-head .ensures) (omega (arith, pair-head R (entry b .args .c), found b .few, mul-le-mul-right (2 * R) (entry b .pre .2)))
+begun : (c : tie.After-rows-before2) → entry c .args .c * (2 * at-rows-of (at-column-at (at-rows-before c)) .rows-of .result) ≤ 12352
+begun c = let R = at-rows-of (at-column-at (at-rows-before c)) .rows-of .result in omega (arith, found c .few, mul-le-mul-right (2 * R) (entry c .pre .2))
 
 rows-of-requires : tie.Need-rows-of-requires
 rows-of-requires c κs = search needs
@@ -77,60 +80,70 @@ add-rows-before-2 c = omega arith
 rows-before-requires-2 : tie.Need-rows-before-requires-2
 rows-before-requires-2 c κs = search needs
 
-column-head-requires : tie.Need-column-head-requires
-column-head-requires c κs = (found c .few, omega arith, entry c .pre .2)
-
 mul-t10 : tie.Need-mul-t10
-mul-t10 c = let r = found (at-rows-before2 c) in omega (arith, r .few, r .high, r .alone, r .column, begun c)
+mul-t10 c = let r = found c in omega (arith, r .few, r .high, r .alone, r .column, begun c)
 
-add-t12 : tie.Need-add-t12
-add-t12 c = let r = found (at-rows-before2 c) in omega (arith, r .few, r .high, r .alone, r .column, begun c)
+mul-t11 : tie.Need-mul-t11
+mul-t11 c = let r = found c in omega (arith, r .few, r .high, r .alone, r .column, begun c)
+
+mul-t12 : tie.Need-mul-t12
+mul-t12 c = let r = found c in omega (arith, r .few, r .high, r .alone, r .column, begun c)
 
 add-t13 : tie.Need-add-t13
-add-t13 c = let r = found (at-rows-before2 c) in omega (arith, r .few, r .high, r .alone, r .column, begun c)
+add-t13 c = let r = found c in omega (arith, r .few, r .high, r .alone, r .column, begun c)
 
-mul-t14 : tie.Need-mul-t14
-mul-t14 c = let r = found (at-rows-before2 c) in omega (arith, r .few, r .high, r .alone, r .column, begun c)
+mul-t10-2 : tie.Need-mul-t10-2
+mul-t10-2 c = let r = found c in omega (arith, r .few, r .high, r .alone, r .column, begun c)
+
+add-t13-2 : tie.Need-add-t13-2
+add-t13-2 c = let r = found c in omega (arith, r .few, r .high, r .alone, r .column, begun c)
+
+add-t12 : tie.Need-add-t12
+add-t12 c = let b = at-rows-before2 c in let r = found b in omega (arith, r .few, r .high, r .alone, r .column, begun b)
+
+mul-t11-2 : tie.Need-mul-t11-2
+mul-t11-2 c = let b = at-rows-before2 c in let r = found b in omega (arith, r .few, r .high, r .alone, r .column, begun b)
 
 add-t15 : tie.Need-add-t15
-add-t15 c = let r = found (at-rows-before2 c) in omega (arith, r .few, r .high, r .alone, r .column, begun c)
+add-t15 c = let b = at-rows-before2 (at-alone c) in let r = found b in omega (arith, r .few, r .high, r .alone, r .column, begun b)
 
 mul-t17 : tie.Need-mul-t17
-mul-t17 c = let r = found (at-rows-before2 c) in omega (arith, r .few, r .high, r .alone, r .column, begun c)
+mul-t17 c = let b = at-rows-before2 (at-alone c) in let r = found b in omega (arith, r .few, r .high, r .alone, r .column, begun b)
 
 sub-t19 : tie.Need-sub-t19
-sub-t19 c = let r = found (at-rows-before2 c) in omega (arith, r .last)
+sub-t19 c = omega (arith, found (at-rows-before2 (at-alone c)) .last)
 
 add-t20 : tie.Need-add-t20
-add-t20 c = let r = found (at-rows-before2 c) in omega (arith, r .few, r .high, r .alone, r .column, begun c)
+add-t20 c = let b = at-rows-before2 (at-alone (at-both c)) in let r = found b in omega (arith, r .few, r .high, r .alone, r .column, begun b)
 
 add-t22 : tie.Need-add-t22
-add-t22 c = let r = found (at-rows-before2 c) in omega (arith, r .few, r .high, r .alone, r .column, begun c)
+add-t22 c = let b = at-rows-before2 (at-alone (at-both c)) in let r = found b in omega (arith, r .few, r .high, r .alone, r .column, begun b)
 
 mul-t23 : tie.Need-mul-t23
-mul-t23 c = let r = found (at-rows-before2 c) in omega (arith, r .few, r .high, r .alone, r .column, begun c)
+mul-t23 c = let b = at-rows-before2 (at-alone (at-both c)) in let r = found b in omega (arith, r .few, r .high, r .alone, r .column, begun b)
 
 add-t24 : tie.Need-add-t24
-add-t24 c = let r = found (at-rows-before2 c) in omega (arith, r .few, r .high, r .alone, r .column, begun c)
+add-t24 c = let b = at-rows-before2 (at-alone (at-both c)) in let r = found b in omega (arith, r .few, r .high, r .alone, r .column, begun b)
 
 sub-t25 : tie.Need-sub-t25
-sub-t25 c = found (at-rows-before2 c) .early
+sub-t25 c = found (at-rows-before2 (at-alone (at-both c))) .early
 
 mul-t27 : tie.Need-mul-t27
-mul-t27 c = let r = found (at-rows-before2 c) in omega (arith, r .few, r .high, r .alone, r .column, begun c)
+mul-t27 c = let b = at-rows-before2 (at-alone (at-both c)) in let r = found b in omega (arith, r .few, r .high, r .alone, r .column, begun b)
 
 add-t28 : tie.Need-add-t28
-add-t28 c = let r = found (at-rows-before2 c) in omega (arith, r .few, r .high, r .alone, r .column, begun c)
+add-t28 c = let b = at-rows-before2 (at-alone (at-both c)) in let r = found b in omega (arith, r .few, r .high, r .alone, r .column, begun b)
 
 sub-t29 : tie.Need-sub-t29
-sub-t29 c = found (at-rows-before2 c) .behind
+sub-t29 c = found (at-rows-before2 (at-alone (at-both c))) .behind
 
 returns : tie.Need-returns
 unfolding pairUnit dummies second lastPlace
 returns c =
-    let b = at-rows-before2 c in
+    let b = at-rows-before2 (at-alone (at-both c)) in
     let a = at-column-at (at-rows-before b) in
-    simp (c .column-head .ensures, b .rows-before2 .ensures, at-rows-before b .rows-before .ensures, a .column-at .ensures, at-rows-of a .rows-of .ensures)
+    let s = entry b in
+    simp (pair-head (rows (s .args .d)) (s .args .c), b .rows-before2 .ensures, at-rows-before b .rows-before .ensures, a .column-at .ensures, at-rows-of a .rows-of .ensures)
 
 pub pair-unit-spec : {M : Type 1} → statement M
 pair-unit-spec =
@@ -144,11 +157,14 @@ pair-unit-spec =
     rows-before-requires
     add-rows-before-2
     rows-before-requires-2
-    column-head-requires
     mul-t10
-    add-t12
+    mul-t11
+    mul-t12
     add-t13
-    mul-t14
+    mul-t10-2
+    add-t13-2
+    add-t12
+    mul-t11-2
     add-t15
     mul-t17
     sub-t19
