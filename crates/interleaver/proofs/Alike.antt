@@ -25,12 +25,8 @@ module _ {K : ℕ} where
   pub sum : {a a′ b b′ : ℕ} → Alike K a a′ → Alike K b b′ → Alike K (a + b) (a′ + b′)
   sum {a} {a′} {b} {b′} e f = record { rest = add-mod a b K ∙ ap₂ (λ (x y : ℕ). (x + y) % K) (e .rest) (f .rest) ∙ sym (add-mod a′ b′ K) }
 
-  -- a remainder, and the remainder of a sum
   pub remainder : {m a : ℕ} → m ≡ a % K → Alike K m a
   remainder {m} {a} e = record { rest = ap (λ (n : ℕ). n % K) e ∙ mod-mod a K }
-
-  pub remainder-sum : {m a a′ b b′ : ℕ} → m ≡ (a + b) % K → Alike K a a′ → Alike K b b′ → Alike K m (a′ + b′)
-  remainder-sum s e f = through (remainder s) (sum e f)
 
 -- ---- the difference
 

@@ -9,6 +9,7 @@ pub mod Into
 pub mod Filling
 pub mod Alike
 pub mod Strides
+pub mod Starting
 pub mod Finding
 pub mod Joining
 pub mod Spreading

@@ -8,7 +8,7 @@ ghost use lib.ListN.{length};
 ghost use Rattle.laws.specs.Bits.{AreBits};
 ghost use Rattle.laws.specs.Lists.{tab};
 ghost use Rattle.interleaver.specs.Into.{bitBy, bitsBy};
-ghost use Rattle.interleaver.specs.inner.Quarters.{joined, Joinable, fours, Quartered, Countable, less, digit, spreadOver};
+ghost use Rattle.interleaver.specs.inner.Quarters.{joined, Joinable, fours, Quartered, Countable, less, doubled, firstFour, digit, spreadOver};
 
 // Whether every byte is 0 or 1.
 pub(crate) fn all_bits(c: &[u8]) -> bool
@@ -89,22 +89,16 @@ fn find(f1: usize, f2: usize, w: &[u8], y: &mut [u8])
     ensures { λ _. ⌜ now (y .exit) ≡ tab (length (now (y .entry))) (bitBy (length (now (w .entry))) f1 f2 (now (w .entry))) ⌝ }
 {
     let k = w.len();
-    let two = plus(f2, f2, k);
-    let four = plus(two, two, k);
-    let eight = plus(four, four, k);
-    let sixteen = plus(eight, eight, k);
-    let step = plus(sixteen, sixteen, k);
-    let twice = plus(f1, f1, k);
-    let way = plus(plus(twice, twice, k), sixteen, k);
-    let next = plus(way, eight, k);
-    let mut g0 = k - way;
-    let mut g1 = k - next;
-    let mut g2 = k - plus(way, sixteen, k);
-    let mut g3 = k - plus(next, sixteen, k);
+    let start = first_four(f1, f2, k);
+    let step = start.step;
+    let mut g0 = start.g0;
+    let mut g1 = start.g1;
+    let mut g2 = start.g2;
+    let mut g3 = start.g3;
     let mut p0 = 0;
-    let mut p1 = plus(f1, f2, k);
-    let mut p2 = plus(twice, four, k);
-    let mut p3 = plus(plus(p1, p2, k), four, k);
+    let mut p1 = start.p1;
+    let mut p2 = start.p2;
+    let mut p3 = start.p3;
     let mut i = 0;
     while i < y.len() {
         y[i] = w[p0];
@@ -120,6 +114,75 @@ fn find(f1: usize, f2: usize, w: &[u8], y: &mut [u8])
         g2 = back(g2, step, k);
         g3 = back(g3, step, k);
         i += 4;
+    }
+}
+
+// Where `find` begins: the first four places, but for Π(0), which is 0, what takes each of the four back, and by how much that shrinks a turn.
+struct Start {
+    p1: usize,
+    p2: usize,
+    p3: usize,
+    g0: usize,
+    g1: usize,
+    g2: usize,
+    g3: usize,
+    step: usize,
+}
+
+// The start for f1 and f2, by sums alone: a short block would feel a division.
+fn first_four(f1: usize, f2: usize, k: usize) -> Start
+    requires { ⌜ Countable k f1 f2 ⌝ }
+    ensures { λ r. ⌜ r ≡ firstFour k f1 f2 ⌝ }
+{
+    let by = doublings(f2, k);
+    let four = by.four;
+    let eight = by.eight;
+    let sixteen = by.sixteen;
+    let twice = plus(f1, f1, k);
+    let p1 = plus(f1, f2, k);
+    let p2 = plus(twice, four, k);
+    let p3 = plus(plus(p1, p2, k), four, k);
+    let way = plus(plus(twice, twice, k), sixteen, k);
+    let next = plus(way, eight, k);
+    let g0 = k - way;
+    let g1 = k - next;
+    let g2 = k - plus(way, sixteen, k);
+    let g3 = k - plus(next, sixteen, k);
+    Start {
+        p1,
+        p2,
+        p3,
+        g0,
+        g1,
+        g2,
+        g3,
+        step: by.step,
+    }
+}
+
+// 4, 8, 16 and 32 times f2, modulo K: the last is the step.
+struct Doubled {
+    four: usize,
+    eight: usize,
+    sixteen: usize,
+    step: usize,
+}
+
+// Each is twice the one before it.
+fn doublings(f2: usize, k: usize) -> Doubled
+    requires { ⌜ (f2 < k) × (k ≤ 6144) ⌝ }
+    ensures { λ r. ⌜ (r ≡ doubled k f2) × (r .four < k) × (r .eight < k) × (r .sixteen < k) ⌝ }
+{
+    let two = plus(f2, f2, k);
+    let four = plus(two, two, k);
+    let eight = plus(four, four, k);
+    let sixteen = plus(eight, eight, k);
+    let step = plus(sixteen, sixteen, k);
+    Doubled {
+        four,
+        eight,
+        sixteen,
+        step,
     }
 }
 

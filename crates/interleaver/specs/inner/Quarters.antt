@@ -8,6 +8,9 @@ use lib.Dec.{ltb}
 use lib.ListN.{length, getD}
 use Rattle.laws.specs.Bits.{AreBits}
 use Rattle.laws.specs.Lists.{tab}
+use Rattle.interleaver.specs.declared.fours.Doubled.{Doubled}
+use Rattle.interleaver.specs.declared.fours.Start.{Start}
+use Rattle.interleaver.specs.Place.{quadratic}
 
 -- entry i of c from a, b, d and e on as one number, that of a lowest
 unfoldable pub joined : List ℕ → ℕ → ℕ → ℕ → ℕ → ℕ → ℕ
@@ -35,6 +38,31 @@ fours c = tab (length c) (four c)
 -- x less y, modulo K
 unfoldable pub less : ℕ → ℕ → ℕ → ℕ
 less K x y = cond (ltb x y) (x + K - y) (x - y)
+
+-- 4, 8, 16 and 32 times f2, modulo K
+unfoldable pub doubled : ℕ → ℕ → Doubled
+doubled K f2 = record { four = 4 * f2 % K; eight = 8 * f2 % K; sixteen = 16 * f2 % K; step = 32 * f2 % K }
+
+-- how far Π(i + 4) is ahead of Π(i)
+unfoldable pub ahead : ℕ → ℕ → ℕ → ℕ
+ahead f1 f2 i = 4 * f1 + f2 * (8 * i + 16)
+
+-- what takes Π(i) back to Π(i + 4), modulo K
+unfoldable pub backFrom : ℕ → ℕ → ℕ → ℕ → ℕ
+backFrom K f1 f2 i = K - ahead f1 f2 i % K
+
+-- the first four places, but for Π(0), what takes each of the four back, and by how much that shrinks a turn
+unfoldable pub firstFour : ℕ → ℕ → ℕ → Start
+firstFour K f1 f2 = record {
+  p1 = quadratic K f1 f2 1;
+  p2 = quadratic K f1 f2 2;
+  p3 = quadratic K f1 f2 3;
+  g0 = backFrom K f1 f2 0;
+  g1 = backFrom K f1 f2 1;
+  g2 = backFrom K f1 f2 2;
+  g3 = backFrom K f1 f2 3;
+  step = 32 * f2 % K;
+}
 
 -- bit number s of entry i
 unfoldable pub digit : List ℕ → ℕ → ℕ → ℕ

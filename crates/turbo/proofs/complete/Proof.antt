@@ -33,9 +33,10 @@ same-length c = search needs
 
 returns : tie.Need-returns
 returns c =
-    let lent = c .before .before .before .before .before .before in
+    let set = c .before .before in
+    let lent = set .before .before .before .before in
     let start = lent .before .before .before .before in
-    c .before .before .set-absent .ensures ∙ completing (start .args .filler) (start .args .d .now) (start .args .t3) (start .pre) (omega (arith, start .good)) (lent .copy .ensures .1)
+    set .set-absent .ensures ∙ completing (start .args .filler) (start .args .d .now) (start .args .t3) (start .pre) (omega (arith, start .good)) (lent .copy .ensures .1)
 
 pub complete-spec : {M : Type 1} → statement M
 complete-spec =

@@ -8,17 +8,24 @@ use Rattle.turbo.proofs.Encodable.{encodable-true}
 use Rattle.turbo.proofs.encode.Statement.{statement}
 use Rattle.turbo.proofs.encode.Tie as tie
 
+-- the ways back
+abbrev at-start : tie.After-is-encodable → tie.Start
+at-start c = c .before .before .before .before
+
+abbrev at-then : tie.After-encode-streams-arg3 → tie.Then1
+at-then c = c .before .before .before
+
 is-encodable-requires : tie.Need-is-encodable-requires
 is-encodable-requires c κs = search needs
 
 -- what the test's outcome says of the arguments
 tested : (c : tie.After-is-encodable) (b : Bool) → c .is-encodable .result ≡ b
-    → let start = c .before .before .before .before in fit (start .args .row) (start .args .filler) (start .args .d0 .now) (start .args .d1 .now) (start .args .d2 .now) ≡ b
+    → let start = at-start c in fit (start .args .row) (start .args .filler) (start .args .d0 .now) (start .args .d1 .now) (start .args .d2 .now) ≡ b
 tested c b e = sym (c .is-encodable .ensures) ∙ e
 
 encode-streams-requires : tie.Need-encode-streams-requires
 encode-streams-requires c κs =
-    let into = c .before .before .before in
+    let into = at-then c in
     encodable-true _ _ _ _ _ (tested (into .before) true (into .if1 .taken))
 
 same-length : tie.Need-same-length
@@ -33,7 +40,7 @@ same-length-3 c = search needs
 returns : tie.Need-returns
 returns c =
     let sent = c .before .before .before .before .before .before in
-    let into = sent .before .before .before .before in
+    let into = at-then (sent .before) in
     rw (tested (into .before) true (into .if1 .taken)) (sent .encode-streams .ensures)
 
 returns-2 : tie.Need-returns-2

@@ -49,7 +49,8 @@ same-length-2 c = search needs
 returns : tie.Need-returns
 unfolding firstEnd secondEnd
 returns c =
-    let coded = c .before .before .before .before .before .before in
+    let tail = c .before in
+    let coded = tail .before .before .before .before .before in
     let woven = coded .before .before .before .before .before in
     let fronted = woven .before .before .before .before in
     let start = fronted .before .before .before .before .before in
@@ -67,7 +68,7 @@ returns c =
       (
         said .1 .0 ∙ front-outputs all second,
         (
-          c .before .tail-of .ensures ∙ ap tailOf (said .1 .1 .0 ∙ front-after all first),
+          tail .tail-of .ensures ∙ ap tailOf (said .1 .1 .0 ∙ front-after all first),
           c .tail-of2 .ensures ∙ ap tailOf (said .1 .1 .1 ∙ front-after all second),
         ),
       ),

@@ -14,6 +14,10 @@ use borrow.Author.Needs.{needs}
 use Rattle.turbo.proofs.encode_streams.Statement.{statement}
 use Rattle.turbo.proofs.encode_streams.Tie as tie
 
+-- the ways back
+abbrev at-start : tie.After-encode-parities-arg3 → tie.Start
+at-start c = c .before .before .before .before .before .before
+
 -- the code block has the row's size
 block-long : (row : ℕ) (d0 : List ℕ) → length d0 ≡ sizeAt row + 4 → length (blockIn d0) ≡ sizeAt row
 unfolding blockIn
@@ -31,7 +35,7 @@ slice-aggregate-encode-parities c = front-count _ _ (omega arith)
 encode-parities-requires : tie.Need-encode-parities-requires
 unfolding blockIn
 encode-parities-requires c κs =
-    let start = c .before .before .before .before .before .before in
+    let start = at-start c in
     let size = block-long (start .args .row) (start .args .d0 .now) (start .pre .long0) in
     (start .pre .below, size, omega (arith, size, start .pre .long1), omega (arith, size, start .pre .long2))
 
@@ -60,7 +64,7 @@ returns c =
     let done1 = third .before .before .before .before in
     let done0 = done1 .before .before .before .before in
     let coded = done0 .before .before .before .before .before .before .before .before in
-    let start = coded .before .before .before .before .before .before .before in
+    let start = at-start (coded .before) in
     let row = start .args .row in
     let bits = blockIn (start .args .d0 .now) in
     let size = block-long row (start .args .d0 .now) (start .pre .long0) in

@@ -13,6 +13,13 @@ Inv-loop k f1 f2 c out₀ step g₀ p₀ i₀ out g p i = Walking k f1 f2 c out�
 abbrev μ-loop : tie.MeasureT-loop
 μ-loop k f1 f2 c out₀ step g₀ p₀ i₀ out g p i = k - i
 
+-- the ways back
+abbrev at-reduced : tie.After-reduced2 Inv-loop μ-loop → tie.After-reduced Inv-loop μ-loop
+at-reduced c = c .before
+
+abbrev at-start : tie.At-loop Inv-loop μ-loop → tie.Start Inv-loop μ-loop
+at-start c = at-reduced (c .before) .before .before .before
+
 mul-reduced : tie.Need-mul-reduced Inv-loop μ-loop
 mul-reduced c = omega arith
 
@@ -26,7 +33,7 @@ reduced-requires-2 : tie.Need-reduced-requires-2 Inv-loop μ-loop
 reduced-requires-2 c κs = omega arith
 
 loop-holds : tie.Need-loop-holds Inv-loop μ-loop
-loop-holds c = walk.start (omega arith) (c .before .reduced .ensures) (c .reduced2 .ensures)
+loop-holds c = walk.start (omega arith) (at-reduced c .reduced .ensures) (c .reduced2 .ensures)
 
 shared-slice-read-out : tie.Need-shared-slice-read-out Inv-loop μ-loop
 shared-slice-read-out c = omega arith
@@ -54,14 +61,15 @@ loop-less c = omega arith
 
 loop-again : tie.Need-loop-again Inv-loop μ-loop
 loop-again c =
-    let turn = c .before .before .before in
-    walk.next (turn .before .before .before .before .before .before .pre .room) (turn .loop-test .taken) (c .before .reduced3 .ensures) (c .reduced4 .ensures) (turn .before .loop .inv)
+    let place = c .before in
+    let turn = place .before .before in
+    walk.next (at-start (turn .before) .pre .room) (turn .loop-test .taken) (place .reduced3 .ensures) (c .reduced4 .ensures) (turn .before .loop .inv)
 
 same-length : tie.Need-same-length Inv-loop μ-loop
 same-length c = omega arith
 
 returns : tie.Need-returns Inv-loop μ-loop
-returns c = walk.finish (c .before .before .before .before .before .before .pre .room) (c .loop-test .left) (c .before .loop .inv)
+returns c = walk.finish (at-start (c .before) .pre .room) (c .loop-test .left) (c .before .loop .inv)
 
 pub walk-spec : {M : Type 1} → statement M
 walk-spec =

@@ -16,6 +16,13 @@ Inv-loop c seen₀ i₀ seen i = (i ≤ length c) × ((k : ℕ) → k < i → ge
 abbrev μ-loop : tie.MeasureT-loop
 μ-loop c seen₀ i₀ seen i = length c - i
 
+-- the ways back
+abbrev at-start : tie.At-loop Inv-loop μ-loop → tie.Start Inv-loop μ-loop
+at-start c = c .before
+
+abbrev at-turn : tie.After-shared-slice-known Inv-loop μ-loop → tie.In-loop Inv-loop μ-loop
+at-turn c = c .before
+
 loop-holds : tie.Need-loop-holds Inv-loop μ-loop
 loop-holds c = (omega arith, λ k h. omega arith)
 
@@ -32,24 +39,24 @@ loop-again : tie.Need-loop-again Inv-loop μ-loop
 loop-again c = (
   omega arith,
   λ k h. elim (decLt k i) [
-    | yes l ↦ omega (arith, or-add-and seen x, and-le-r seen x, c .before .before .loop .inv .1 k l)
+    | yes l ↦ omega (arith, or-add-and seen x, and-le-r seen x, at-turn c .before .loop .inv .1 k l)
     | no l ↦ let here : k ≡ i = omega arith in rw here (omega (arith, or-add-and seen x, and-le-l seen x))
   ],
 )
   where
     i : ℕ
-    i = c .before .before .loop .i
+    i = at-turn c .before .loop .i
 
     seen : ℕ
-    seen = c .before .before .loop .seen
+    seen = at-turn c .before .loop .seen
 
     x : ℕ
-    x = getD (c .before .before .before .args .c .now) i 0
+    x = getD (at-start (at-turn c .before) .args .c .now) i 0
 
 returns : tie.Need-returns Inv-loop μ-loop
-returns c few = λ k. elim (decLt k (length (c .before .before .args .c .now))) [
+returns c few = λ k. elim (decLt k (length (at-start (c .before) .args .c .now))) [
   | yes l ↦ omega (arith, c .before .loop .inv .1 k (omega arith), ltb-true (c .before .loop .seen) 2 few)
-  | no l ↦ let past : length (c .before .before .args .c .now) ≤ k = omega arith in rw (List·getD-eq-default (c .before .before .args .c .now) 0 past) (omega arith)
+  | no l ↦ let past : length (at-start (c .before) .args .c .now) ≤ k = omega arith in rw (List·getD-eq-default (at-start (c .before) .args .c .now) 0 past) (omega arith)
 ]
 
 pub all-bits-spec : {M : Type 1} → statement M

@@ -8,6 +8,13 @@ use Rattle.laws.proofs.Parts.{fresh-count}
 use Rattle.interleaver.proofs.fours.interleave_bits.Statement.{statement}
 use Rattle.interleaver.proofs.fours.interleave_bits.Tie as tie
 
+-- the ways back
+abbrev at-start : tie.After-slice-known → tie.Start
+at-start c = c .before .before
+
+abbrev at-then : tie.After-y → tie.Then1
+at-then c = c .before
+
 -- the room that is lent: a quarter's length, rounded up to fours
 lent : (K : ℕ) {n : ℕ} → K % 8 ≡ 0 → K ≤ 6144 → (K / 4 + 3) / 4 * 4 ≡ n → (K ≤ 4 * n) × (n % 4 ≡ 0) × (n ≤ 1536)
 lent K h most e = (omega arith, omega arith, omega arith)
@@ -22,12 +29,13 @@ array-borrow-prefix-y : tie.Need-array-borrow-prefix-y
 array-borrow-prefix-y c = search needs
 
 slice-aggregate-by-fours : tie.Need-slice-aggregate-by-fours
-slice-aggregate-by-fours c = fresh-count {A = ℕ} 0 64 _ (c .before .if1 .taken)
+slice-aggregate-by-fours c = fresh-count {A = ℕ} 0 64 _ (at-then c .if1 .taken)
 
 by-fours-requires : tie.Need-by-fours-requires
 by-fours-requires c κs =
-    let start = c .before .before .before .before .before in
-    let room = lent _ (start .pre .0 .eights) (start .pre .0 .most) (fresh-count {A = ℕ} 0 64 _ (c .before .before .if1 .taken)) in
+    let then = at-then (c .before) in
+    let start = at-start (then .before) in
+    let room = lent _ (start .pre .0 .eights) (start .pre .0 .most) (fresh-count {A = ℕ} 0 64 _ (then .if1 .taken)) in
     (start .pre .0, start .pre .1, room .0, room .1, room .2)
 
 array-borrow-prefix-y-2 : tie.Need-array-borrow-prefix-y-2
@@ -38,7 +46,8 @@ slice-aggregate-by-fours-2 c = fresh-count {A = ℕ} 0 1536 _ (omega arith)
 
 by-fours-requires-2 : tie.Need-by-fours-requires-2
 by-fours-requires-2 c κs =
-    let start = c .before .before .before .before .before in
+    let other = c .before .before in
+    let start = at-start (other .before) in
     let room = lent _ (start .pre .0 .eights) (start .pre .0 .most) (fresh-count {A = ℕ} 0 1536 _ (omega (arith, start .pre .0 .most))) in
     (start .pre .0, start .pre .1, room .0, room .1, room .2)
 

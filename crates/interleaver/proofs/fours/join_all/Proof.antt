@@ -16,12 +16,28 @@ Inv-loop c out₀ q b₀ d₀ e₀ at₀ out b d e at = (q ≡ length c / 4) × 
 abbrev μ-loop : tie.MeasureT-loop
 μ-loop c out₀ q b₀ d₀ e₀ at₀ out b d e at = length c - at
 
--- a quarter is left in every turn
-turn : (c : tie.In-loop Inv-loop μ-loop) → c .before .loop .at < length (c .before .before .before .before .args .c .now)
-turn c = omega (arith, c .before .before .before .before .pre .room, c .before .loop .inv .1 .filling .writing .long, c .loop-test .taken)
+-- the ways back
+abbrev at-start-from-loop-holds : tie.After-slice-known Inv-loop μ-loop → tie.Start Inv-loop μ-loop
+at-start-from-loop-holds c = c .before .before
 
-left : (c : tie.In-loop Inv-loop μ-loop) → c .before .loop .at + length (c .before .before .before .before .args .c .now) / 4 ≤ length (c .before .loop .out)
-left c = omega (arith, c .before .loop .inv .1 .here (turn c), c .before .before .before .before .pre .room, c .before .loop .inv .1 .filling .writing .long)
+abbrev at-start : tie.At-loop Inv-loop μ-loop → tie.Start Inv-loop μ-loop
+at-start c = at-start-from-loop-holds (c .before)
+
+abbrev at-turn : tie.After-join-arg Inv-loop μ-loop → tie.In-loop Inv-loop μ-loop
+at-turn c = c .before
+
+abbrev at-out : tie.After-slice-known2 Inv-loop μ-loop → tie.After-out Inv-loop μ-loop
+at-out c = c .before
+
+abbrev at-join : tie.After-slice-known2 Inv-loop μ-loop → tie.After-join Inv-loop μ-loop
+at-join c = at-out c .before
+
+-- a quarter is left in every turn
+turn : (c : tie.In-loop Inv-loop μ-loop) → c .before .loop .at < length (at-start (c .before) .args .c .now)
+turn c = omega (arith, at-start (c .before) .pre .room, c .before .loop .inv .1 .filling .writing .long, c .loop-test .taken)
+
+left : (c : tie.In-loop Inv-loop μ-loop) → c .before .loop .at + length (at-start (c .before) .args .c .now) / 4 ≤ length (c .before .loop .out)
+left c = omega (arith, c .before .loop .inv .1 .here (turn c), at-start (c .before) .pre .room, c .before .loop .inv .1 .filling .writing .long)
 
 mul-d : tie.Need-mul-d Inv-loop μ-loop
 mul-d c = omega arith
@@ -30,7 +46,7 @@ mul-e : tie.Need-mul-e Inv-loop μ-loop
 mul-e c = omega arith
 
 loop-holds : tie.Need-loop-holds Inv-loop μ-loop
-loop-holds c = (refl, joining.start (c .before .before .pre))
+loop-holds c = (refl, joining.start (at-start-from-loop-holds c .pre))
 
 add-end : tie.Need-add-end Inv-loop μ-loop
 add-end c = omega arith
@@ -45,22 +61,25 @@ part-join-end : tie.Need-part-join-end Inv-loop μ-loop
 part-join-end c = left c
 
 join-requires : tie.Need-join-requires Inv-loop μ-loop
-join-requires c κs = joining.joinable (c .before .before .before .before .before .pre) (c .before .before .loop .inv .1) (turn (c .before)) (length-mid _ _ _ (left (c .before)))
+join-requires c κs =
+    let test = at-turn c in
+    joining.joinable (at-start (test .before) .pre) (test .before .loop .inv .1) (turn test) (length-mid _ _ _ (left test))
 
 loop-less : tie.Need-loop-less Inv-loop μ-loop
 loop-less c = omega arith
 
 loop-again : tie.Need-loop-again Inv-loop μ-loop
 loop-again c =
-    let lent = c .before .before .before in
-    let test = lent .before in
-    (refl, joining.next (test .before .before .before .before .pre) (test .before .loop .inv .1) (turn test) (length-mid _ _ _ (left test)) (c .before .out .given .0 ∙ length-mid _ _ _ (left test)) (c .before .before .join .ensures))
+    let test = at-turn (at-join c .before) in
+    (refl, joining.next (at-start (test .before) .pre) (test .before .loop .inv .1) (turn test) (length-mid _ _ _ (left test)) (at-out c .out .given .0 ∙ length-mid _ _ _ (left test)) (at-join c .join .ensures))
 
 same-length : tie.Need-same-length Inv-loop μ-loop
 same-length c = c .before .loop .inv .1 .filling .writing .long
 
 returns : tie.Need-returns Inv-loop μ-loop
-returns c = joining.finish (c .before .before .before .before .pre) (omega (arith, c .before .before .before .before .pre .room, c .before .loop .inv .1 .filling .writing .long, c .loop-test .left)) (c .before .loop .inv .1)
+returns c =
+    let start = at-start (c .before) in
+    joining.finish (start .pre) (omega (arith, start .pre .room, c .before .loop .inv .1 .filling .writing .long, c .loop-test .left)) (c .before .loop .inv .1)
 
 pub join-all-spec : {M : Type 1} → statement M
 join-all-spec =

@@ -16,15 +16,31 @@ Inv-loop f1 y out₀ shift₀ at₀ out shift at = Spreading f1 y out₀ out shi
 abbrev μ-loop : tie.MeasureT-loop
 μ-loop f1 y out₀ shift₀ at₀ out shift at = length out₀ - at
 
--- a quarter is left in every turn
-turn : (c : tie.In-loop Inv-loop μ-loop) → c .before .loop .at < 4 * length (c .before .before .before .before .args .y .now)
-turn c = omega (arith, c .before .before .before .before .pre .2, c .before .loop .inv .filling .writing .long, c .loop-test .taken)
+-- the ways back
+abbrev at-start-from-loop-holds : tie.After-slice-known Inv-loop μ-loop → tie.Start Inv-loop μ-loop
+at-start-from-loop-holds c = c .before .before
 
-left : (c : tie.In-loop Inv-loop μ-loop) → c .before .loop .at + length (c .before .before .before .before .args .y .now) ≤ length (c .before .loop .out)
-left c = omega (arith, spreading.room (c .before .loop .inv) (turn c), c .before .before .before .before .pre .2, c .before .loop .inv .filling .writing .long)
+abbrev at-start : tie.At-loop Inv-loop μ-loop → tie.Start Inv-loop μ-loop
+at-start c = at-start-from-loop-holds (c .before)
+
+abbrev at-turn : tie.After-spread-arg Inv-loop μ-loop → tie.In-loop Inv-loop μ-loop
+at-turn c = c .before
+
+abbrev at-out : tie.After-slice-known2 Inv-loop μ-loop → tie.After-out Inv-loop μ-loop
+at-out c = c .before
+
+abbrev at-spread : tie.After-slice-known2 Inv-loop μ-loop → tie.After-spread Inv-loop μ-loop
+at-spread c = at-out c .before
+
+-- a quarter is left in every turn
+turn : (c : tie.In-loop Inv-loop μ-loop) → c .before .loop .at < 4 * length (at-start (c .before) .args .y .now)
+turn c = omega (arith, at-start (c .before) .pre .2, c .before .loop .inv .filling .writing .long, c .loop-test .taken)
+
+left : (c : tie.In-loop Inv-loop μ-loop) → c .before .loop .at + length (at-start (c .before) .args .y .now) ≤ length (c .before .loop .out)
+left c = omega (arith, spreading.room (c .before .loop .inv) (turn c), at-start (c .before) .pre .2, c .before .loop .inv .filling .writing .long)
 
 loop-holds : tie.Need-loop-holds Inv-loop μ-loop
-loop-holds c = spreading.start (c .before .before .pre .2)
+loop-holds c = spreading.start (at-start-from-loop-holds c .pre .2)
 
 add-end : tie.Need-add-end Inv-loop μ-loop
 add-end c = omega arith
@@ -39,10 +55,9 @@ part-spread-end : tie.Need-part-spread-end Inv-loop μ-loop
 part-spread-end c = left c
 
 spread-requires : tie.Need-spread-requires Inv-loop μ-loop
-spread-requires c κs = (
-  spreading.low (c .before .before .loop .inv) (turn (c .before)),
-  length-mid _ _ _ (left (c .before)) ∙ omega arith,
-)
+spread-requires c κs =
+    let test = at-turn c in
+    (spreading.low (test .before .loop .inv) (turn test), length-mid _ _ _ (left test) ∙ omega arith)
 
 add-shift : tie.Need-add-shift Inv-loop μ-loop
 add-shift c = omega arith
@@ -52,15 +67,14 @@ loop-less c = omega arith
 
 loop-again : tie.Need-loop-again Inv-loop μ-loop
 loop-again c =
-    let lent = c .before .before .before in
-    let test = lent .before in
-    spreading.next (test .before .loop .inv) (turn test) refl (c .before .out .given .0 ∙ length-mid _ _ _ (left test)) (c .before .before .spread .ensures)
+    let test = at-turn (at-spread c .before) in
+    spreading.next (test .before .loop .inv) (turn test) refl (at-out c .out .given .0 ∙ length-mid _ _ _ (left test)) (at-spread c .spread .ensures)
 
 same-length : tie.Need-same-length Inv-loop μ-loop
 same-length c = c .before .loop .inv .filling .writing .long
 
 returns : tie.Need-returns Inv-loop μ-loop
-returns c = spreading.finish (omega (arith, c .before .before .before .before .pre .2, c .before .loop .inv .filling .writing .long, c .loop-test .left)) (c .before .loop .inv)
+returns c = spreading.finish (omega (arith, at-start (c .before) .pre .2, c .before .loop .inv .filling .writing .long, c .loop-test .left)) (c .before .loop .inv)
 
 pub spread-all-spec : {M : Type 1} → statement M
 spread-all-spec =

@@ -15,6 +15,13 @@ Inv-loop column least n₀ i₀ n i = Counted least column i n
 abbrev μ-loop : tie.MeasureT-loop
 μ-loop column least n₀ i₀ n i = length column - i
 
+-- the ways back
+abbrev at-start : tie.At-loop Inv-loop μ-loop → tie.Start Inv-loop μ-loop
+at-start c = c .before .before
+
+abbrev at-turn : tie.After-below Inv-loop μ-loop → tie.In-loop Inv-loop μ-loop
+at-turn c = c .before .before
+
 loop-holds : tie.Need-loop-holds Inv-loop μ-loop
 loop-holds c = counted-start _ _
 
@@ -28,7 +35,10 @@ below-requires : tie.Need-below-requires Inv-loop μ-loop
 below-requires c κs = search needs
 
 add-n : tie.Need-add-n Inv-loop μ-loop
-add-n c = omega (arith, c .below .ensures, below-least (c .before .before .before .before .before .args .least) (getD (c .before .before .before .before .before .args .column .now) (c .before .before .before .loop .i) 0))
+add-n c =
+    let loop = at-turn c .before in
+    let start = at-start loop in
+    omega (arith, c .below .ensures, below-least (start .args .least) (getD (start .args .column .now) (loop .loop .i) 0))
 
 add-i : tie.Need-add-i Inv-loop μ-loop
 add-i c = search needs
@@ -37,7 +47,9 @@ loop-less : tie.Need-loop-less Inv-loop μ-loop
 loop-less c = search needs
 
 loop-again : tie.Need-loop-again Inv-loop μ-loop
-loop-again c = rw (add-one (c .before .before .before .loop .i)) (counted-next _ _ (c .before .before .loop-test .taken) (c .below .ensures) (c .before .before .before .loop .inv))
+loop-again c =
+    let turn = at-turn c in
+    rw (add-one (turn .before .loop .i)) (counted-next _ _ (turn .loop-test .taken) (c .below .ensures) (turn .before .loop .inv))
 
 cast-result : tie.Need-cast-result Inv-loop μ-loop
 cast-result c = search needs

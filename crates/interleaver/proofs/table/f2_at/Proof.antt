@@ -18,7 +18,9 @@ entry-requires c κs = search needs
 
 returns : tie.Need-returns
 unfolding f2At f2Table
-returns c = c .entry .ensures ∙ getD-take 8 f2Table (c .before .before .before .args .row) 0 (c .before .before .if1 .taken)
+returns c =
+    let short = c .before .before in
+    c .entry .ensures ∙ getD-take 8 f2Table (short .before .args .row) 0 (short .if1 .taken)
 
 slice-aggregate-entry-2 : tie.Need-slice-aggregate-entry-2
 slice-aggregate-entry-2 c = search needs
@@ -29,8 +31,9 @@ entry-requires-2 c κs = search needs
 returns-2 : tie.Need-returns-2
 unfolding f2At f2Table
 returns-2 c =
-    let row = c .before .before .before .args .row in
-    let on : 8 + (row - 8) ≡ row = omega (arith, c .before .before .if1 .left) in
+    let long = c .before .before in
+    let row = long .before .args .row in
+    let on : 8 + (row - 8) ≡ row = omega (arith, long .if1 .left) in
     c .entry2 .ensures ∙ getD-drop 8 f2Table (row - 8) 0 ∙ ap (λ (i : ℕ). getD f2Table i 0) on
 
 pub f2-at-spec : {M : Type 1} → statement M

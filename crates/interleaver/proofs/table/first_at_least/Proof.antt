@@ -15,6 +15,10 @@ Inv-loop column least row₀ row = Searched least column row
 abbrev μ-loop : tie.MeasureT-loop
 μ-loop column least row₀ row = length column - row
 
+-- the ways back
+abbrev at-turn : tie.After-shared-slice-known Inv-loop μ-loop → tie.In-loop Inv-loop μ-loop
+at-turn c = c .before
+
 loop-holds : tie.Need-loop-holds Inv-loop μ-loop
 loop-holds c = start _ _
 
@@ -25,10 +29,10 @@ shared-slice-read-size : tie.Need-shared-slice-read-size Inv-loop μ-loop
 shared-slice-read-size c = search needs
 
 cast-size : tie.Need-cast-size Inv-loop μ-loop
-cast-size c = omega (arith, c .shared-slice-known .given (c .before .before .loop .row))
+cast-size c = omega (arith, c .shared-slice-known .given (at-turn c .before .loop .row))
 
 returns : tie.Need-returns Inv-loop μ-loop
-returns c = found-here _ _ (c .before .before .loop-test .taken) (c .if1 .taken) (c .before .before .before .loop .inv)
+returns c = let turn = at-turn (c .before) in found-here _ _ (turn .loop-test .taken) (c .if1 .taken) (turn .before .loop .inv)
 
 add-row : tie.Need-add-row Inv-loop μ-loop
 add-row c = search needs
@@ -37,7 +41,9 @@ loop-less : tie.Need-loop-less Inv-loop μ-loop
 loop-less c = search needs
 
 loop-again : tie.Need-loop-again Inv-loop μ-loop
-loop-again c = rw (add-one (c .before .before .before .loop .row)) (next _ _ (c .before .before .loop-test .taken) (c .if1 .left) (c .before .before .before .loop .inv))
+loop-again c =
+    let turn = at-turn (c .before) in
+    rw (add-one (turn .before .loop .row)) (next _ _ (turn .loop-test .taken) (c .if1 .left) (turn .before .loop .inv))
 
 returns-2 : tie.Need-returns-2 Inv-loop μ-loop
 returns-2 c = found-none _ _ (c .loop-test .left) (c .before .loop .inv)

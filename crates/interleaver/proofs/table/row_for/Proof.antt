@@ -8,6 +8,10 @@ use Rattle.interleaver.proofs.Search.{in-short, in-long, in-none, count
 use Rattle.interleaver.proofs.table.row_for.Statement.{statement}
 use Rattle.interleaver.proofs.table.row_for.Tie as tie
 
+-- the ways back
+abbrev at-long : tie.After-count-below → tie.Else2
+at-long c = c .before .before
+
 slice-aggregate-first-at-least : tie.Need-slice-aggregate-first-at-least
 slice-aggregate-first-at-least c = search needs
 
@@ -32,7 +36,7 @@ count-below-requires c κs = search needs
 
 add-t13 : tie.Need-add-t13
 unfolding sizeTable
-add-t13 c = omega (arith, c .count-below .ensures, count-few (c .before .before .before .before .args .least))
+add-t13 c = omega (arith, c .count-below .ensures, count-few (at-long c .before .before .args .least))
 
 slice-aggregate-entry : tie.Need-slice-aggregate-entry
 slice-aggregate-entry c = search needs
@@ -42,7 +46,9 @@ entry-requires c κs = search needs
 
 returns-3 : tie.Need-returns-3
 unfolding sizeTable
-returns-3 c = in-long (c .before .before .before .before .before .if1 .left) (c .before .before .count-below .ensures) (c .entry .ensures)
+returns-3 c =
+    let counted = c .before .before in
+    in-long (at-long counted .before .if1 .left) (counted .count-below .ensures) (c .entry .ensures)
 
 pub row-for-spec : {M : Type 1} → statement M
 row-for-spec =

@@ -16,8 +16,9 @@ four-requires-2 c κs = search needs
 
 returns : tie.Need-returns
 returns c =
-    let bits = c .before .before .before .args .bits .now in
-    joined bits 4 4 0 (omega arith) (c .before .four .ensures) (c .four2 .ensures) .1 ∙ take-all 8 bits (omega arith)
+    let first = c .before in
+    let bits = first .before .before .args .bits .now in
+    joined bits 4 4 0 (omega arith) (first .four .ensures) (c .four2 .ensures) .1 ∙ take-all 8 bits (omega arith)
 
 pub eight-spec : {M : Type 1} → statement M
 eight-spec = tie.close (tie.spec four-requires four-requires-2 returns)

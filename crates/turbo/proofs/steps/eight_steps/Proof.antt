@@ -29,10 +29,11 @@ returns c =
     let put = c .before .before in
     let divide = put .before .before in
     let load = divide .before in
-    let a = load .before .before .before .args in
+    let start = load .before .before .before in
+    let a = start .args in
     let told : times 16 24 (divide .divided .result) ≡ load .eight .result ⊕ a .held ⊕ a .held / 2 ^ 8 = divide .divided .ensures in
     let fits : divide .divided .result < 2 ^ 64 = omega arith in
-    let small : a .held < 2 ^ 24 = load .before .before .before .pre .0 in (
+    let small : a .held < 2 ^ 24 = start .pre .0 in (
       shr-lt 24 40 fits,
       (
         put .put-eight .ensures ∙ sym (eight-outputs (a .held) (divide .divided .result) small fits (load .eight .result) told (load .eight .ensures)),

@@ -16,6 +16,19 @@ Inv-loop first₀ second₀ end s₀ t₀ i₀ first second s t i =
 abbrev μ-loop : tie.MeasureT-loop
 μ-loop first₀ second₀ end s₀ t₀ i₀ first second s t i = end - i
 
+-- the ways back
+abbrev at-turn : tie.After-eight-steps-arg Inv-loop μ-loop → tie.In-loop Inv-loop μ-loop
+at-turn c = c .before
+
+abbrev at-eight-steps : tie.After-eight-steps-arg2 Inv-loop μ-loop → tie.After-eight-steps Inv-loop μ-loop
+at-eight-steps c = c .before .before .before
+
+abbrev at-registers-of : tie.After-registers-of2 Inv-loop μ-loop → tie.After-registers-of Inv-loop μ-loop
+at-registers-of c = c .before
+
+abbrev at-end : tie.After-registers-of2 Inv-loop μ-loop → tie.After-loop Inv-loop μ-loop
+at-end c = at-registers-of c .before
+
 whole-eights-requires : tie.Need-whole-eights-requires Inv-loop μ-loop
 whole-eights-requires c κs = tt
 
@@ -36,7 +49,7 @@ part-eight-steps-end c = omega arith
 
 eight-steps-requires : tie.Need-eight-steps-requires Inv-loop μ-loop
 eight-steps-requires c κs =
-    let p = c .before .before .loop .inv in
+    let p = at-turn c .before .loop .inv in
     (omega arith, lent (p .0) (omega arith))
 
 add-eight-steps-2 : tie.Need-add-eight-steps-2 Inv-loop μ-loop
@@ -53,7 +66,7 @@ part-eight-steps-end-2 c = omega arith
 
 eight-steps-requires-2 : tie.Need-eight-steps-requires-2 Inv-loop μ-loop
 eight-steps-requires-2 c κs =
-    let p = c .before .before .before .before .before .before .loop .inv in
+    let p = at-turn (at-eight-steps c .before) .before .loop .inv in
     (omega arith, lent (p .1) (omega arith))
 
 add-i : tie.Need-add-i Inv-loop μ-loop
@@ -64,9 +77,11 @@ loop-less c = omega arith
 
 loop-again : tie.Need-loop-again Inv-loop μ-loop
 loop-again c =
-    let second = c .before .before .eight-steps2 .ensures in
-    let first = c .before .before .before .before .before .before .eight-steps .ensures in
-    let p = c .before .before .before .before .before .before .before .before .before .loop .inv in (
+    let at-second = c .before .before in
+    let at-first = at-eight-steps (at-second .before) in
+    let second = at-second .eight-steps2 .ensures in
+    let first = at-first .eight-steps .ensures in
+    let p = at-turn (at-first .before) .before .loop .inv in (
       turn (p .0) (omega arith) (first .0) (first .1 .0) (first .1 .1),
       turn (p .1) (omega arith) (second .0) (second .1 .0) (second .1 .1),
       p .2,
@@ -81,14 +96,14 @@ registers-of-requires-2 : tie.Need-registers-of-requires-2 Inv-loop μ-loop
 registers-of-requires-2 c κs = tt
 
 same-length : tie.Need-same-length Inv-loop μ-loop
-same-length c = c .before .before .before .loop .inv .0 .long
+same-length c = at-end c .before .loop .inv .0 .long
 
 same-length-2 : tie.Need-same-length-2 Inv-loop μ-loop
-same-length-2 c = c .before .before .before .loop .inv .1 .long
+same-length-2 c = at-end c .before .loop .inv .1 .long
 
 returns : tie.Need-returns Inv-loop μ-loop
 returns c =
-    let loop = c .before .before .before in
+    let loop = at-end c .before in
     let a = loop .before .before .before .before .args in
     let one = loop .loop .inv .0 in
     let two = loop .loop .inv .1 in
@@ -97,7 +112,7 @@ returns c =
       (
         two .outputs ∙ ap (λ (n : ℕ). encodedFront n (a .second .now)) all,
         (
-          c .before .registers-of .ensures ∙ one .registers ∙ ap (λ (n : ℕ). frontEnd n (a .first .now)) all,
+          at-registers-of c .registers-of .ensures ∙ one .registers ∙ ap (λ (n : ℕ). frontEnd n (a .first .now)) all,
           c .registers-of2 .ensures ∙ two .registers ∙ ap (λ (n : ℕ). frontEnd n (a .second .now)) all,
         ),
       ),

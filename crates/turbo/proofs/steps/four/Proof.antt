@@ -17,8 +17,9 @@ two-requires-2 c κs = search needs
 
 returns : tie.Need-returns
 returns c =
-    let a = c .before .before .before .args in
-    joined (a .bits .now) 2 2 (a .from) (omega arith) (c .before .two .ensures) (c .two2 .ensures)
+    let first = c .before in
+    let a = first .before .before .args in
+    joined (a .bits .now) 2 2 (a .from) (omega arith) (first .two .ensures) (c .two2 .ensures)
 
 pub four-spec : {M : Type 1} → statement M
 four-spec = tie.close (tie.spec two-requires add-two two-requires-2 returns)
