@@ -1,7 +1,7 @@
 -- Laws of a line that is read in pieces: the next one in what is read, one that a read went on with, and that both stand within the text.
 -- Assumes nothing.
-use mathlib.Core.Path.{_≡_, refl}
-use mathlib.Core.Bool.{Bool, true, false, cond}
+use mathlib.Core.Path.{_≡_, refl, sym, _∙_}
+use mathlib.Core.Bool.{Bool, true, false, cond, true≢false}
 use mathlib.Core.List.{List}
 use Prim.Native.Nat.{ℕ, _+_, _-_, _≤_, _<_}
 use native.Mathlib.Omega.{arith}
@@ -13,7 +13,7 @@ use Rattle.lines.proofs.Lines.{end-from, end-within}
 use Rattle.log_text.specs.Unfinished.{unfinished}
 use Rattle.log_text.proofs.Kept.{kept-length}
 use Rattle.log_input.specs.declared.Line.{Line}
-use Rattle.log_input.specs.Line.{Stands, nothingLeft, keptLine, lineIn, following, settled, textSettled, lineAfter, textAfter, lastLine, textEnded, lineWith, textWith, lineRead, textRead}
+use Rattle.log_input.specs.Line.{Stands, nothingLeft, keptLine, lineIn, following, settled, textSettled, lineAfter, textAfter, lastLine, textEnded, lineWith, textWith, lineRead, textRead, goesOn, outside, lineNow, textNow}
 
 module _ (text : List ℕ) where
   -- ---- within the text
@@ -114,3 +114,37 @@ module _ (text : List ℕ) where
         read-some some e =
             rw (lt-leb (length text) kept room, le-ltb (length text - kept) count fits, ne-eqb count 0 some, e)
             (refl, (refl, in-stands 0 kept (kept + count) false (omega arith) (omega arith) (omega (arith, room, fits))))
+
+  -- ---- the line with what a read brought
+
+  inside-stands : (line : Line) → outside line (length text) ≡ false → In line
+  unfolding outside
+  inside-stands line = go (ltb (line .to) (line .from)) refl (ltb (line .end) (line .to)) refl
+    where
+      go : (t : Bool) → ltb (line .to) (line .from) ≡ t → (u : Bool) → ltb (line .end) (line .to) ≡ u → cond t true (cond u true (ltb (length text) (line .end))) ≡ false → In line
+      go true e u f h = absurd (true≢false h)
+      go false e true f h = absurd (true≢false h)
+      go false e false f h =
+          record {
+            starts = ltb-false (line .to) (line .from) e;
+            ends = ltb-false (line .end) (line .to) f;
+            fits = ltb-false (length text) (line .end) h;
+          }
+
+  module _ (line : Line) (count : ℕ) {out : Bool} (told : out ≡ outside line (length text)) where
+    -- it, and the text then
+    abbrev Now : Line → List ℕ → Type 0
+    Now next text′ = (next ≡ lineNow line count text) × ((text′ ≡ textNow line count text) × Stands next (length text′))
+
+    pub now-none : {next : Line} → out ≡ true → next ≡ nothingLeft → Now next text
+    unfolding lineNow textNow
+    now-none o e = rw (← told, o, e) (refl, (refl, none-stands))
+
+    module _ (in-text : out ≡ false) {on : Bool} (goes : on ≡ goesOn line) where
+      pub now-read : on ≡ true → {next : Line} {text′ : List ℕ} → Read (line .end) count next text′ → Now next text′
+      unfolding lineNow textNow
+      now-read o read = rw (← told, in-text, ← goes, o) read
+
+      pub now-same : on ≡ false → Now line text
+      unfolding lineNow textNow
+      now-same o = rw (← told, in-text, ← goes, o) (refl, (refl, inside-stands line (sym told ∙ in-text)))

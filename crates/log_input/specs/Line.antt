@@ -35,6 +35,10 @@ keptLine kept = record { from = 0; to = kept; end = kept; over = false }
 unfoldable pub goesOn : Line → Bool
 goesOn line = cond (ltb (line .to) (line .end)) false (not (line .over))
 
+-- nothing left, where the input is over
+unfoldable pub noneLeft : Line → Bool
+noneLeft line = cond (line .over) (eqb (line .end) 0) false
+
 -- the line at `from` of a text that is read up to `end`, where no newline stands before `seen`
 unfoldable pub lineIn : List ℕ → ℕ → ℕ → ℕ → Bool → Line
 lineIn text from seen end over = record { from = from; to = lineEnd (take end text) seen; end = end; over = over }
@@ -90,3 +94,19 @@ lineRead kept count text =
 
 unfoldable pub textRead : ℕ → ℕ → List ℕ → List ℕ
 textRead kept count text = cond (leb (length text) kept) text (cond (ltb (length text - kept) count) text (textWith kept count text))
+
+-- ---- the line with what a read brought
+
+-- it does not lie within a text of so many bytes
+unfoldable pub outside : Line → ℕ → Bool
+outside line size =
+    cond (ltb (line .to) (line .from)) true (cond (ltb (line .end) (line .to)) true (ltb size (line .end)))
+
+-- a read goes behind a line that goes on, and no other
+unfoldable pub lineNow : Line → ℕ → List ℕ → Line
+lineNow line count text =
+    cond (outside line (length text)) nothingLeft (cond (goesOn line) (lineRead (line .end) count text) line)
+
+unfoldable pub textNow : Line → ℕ → List ℕ → List ℕ
+textNow line count text =
+    cond (outside line (length text)) text (cond (goesOn line) (textRead (line .end) count text) text)

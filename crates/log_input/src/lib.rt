@@ -2,7 +2,7 @@
 ghost use mathlib.Core.Path.{_≡_};
 ghost use Prim.Native.Nat.{_≤_, _<_};
 ghost use lib.ListN.{length};
-ghost use Rattle.log_input.specs.Line.{Stands, unreadLine, nothingLeft, goesOn, lineIn, following, settled, textSettled, lineAfter, textAfter, lastLine, textEnded, lineRead, textRead};
+ghost use Rattle.log_input.specs.Line.{Stands, unreadLine, nothingLeft, goesOn, noneLeft, lineIn, following, settled, textSettled, lineAfter, textAfter, lastLine, textEnded, lineRead, textRead, outside, lineNow, textNow};
 
 // A line of the text, from `from` up to `to`, where the text is read up to `end`: unfinished where `to` is `end`, and nothing is left where `end` is 0.
 // `over` once the input is.
@@ -36,6 +36,16 @@ pub fn goes_on(line: Line) -> bool
         return false;
     }
     !line.over
+}
+
+// Whether no line is left.
+pub fn nothing_is_left(line: Line) -> bool
+    ensures { λ r. ⌜ r ≡ noneLeft line ⌝ }
+{
+    if line.over {
+        return line.end == 0;
+    }
+    false
 }
 
 // The line after this one in what is read. One that is unfinished there is moved to the text's front, so that a read has room behind it. Of a line that
@@ -110,9 +120,38 @@ fn settle(line: Line, text: &mut [u8]) -> Line
     }
 }
 
+// The line after a read that brought so many bytes, none at the input's end: they stand behind it, if it goes on. Of a line that does not stand within the
+// text nothing is left.
+pub fn line_now(line: Line, count: usize, text: &mut [u8]) -> Line
+    ensures { λ r. ⌜ r ≡ lineNow line count (now (text .entry)) ⌝ }
+    ensures { λ r. ⌜ now (text .exit) ≡ textNow line count (now (text .entry)) ⌝ }
+    ensures { λ r. ⌜ Stands r (length (now (text .exit))) ⌝ }
+{
+    if outside(line, text.len()) {
+        return nothing_left();
+    }
+    if goes_on(line) {
+        return line_read(line.end, count, text);
+    }
+    line
+}
+
+// Whether a line does not stand within a text of so many bytes.
+fn outside(line: Line, size: usize) -> bool
+    ensures { λ r. ⌜ r ≡ outside line size ⌝ }
+{
+    if line.to < line.from {
+        return true;
+    }
+    if line.end < line.to {
+        return true;
+    }
+    size < line.end
+}
+
 // The line of which so many bytes are kept at the text's front, after a read behind them that brought so many more, none at the input's end. Where
 // there is no room behind them, or not so much, nothing is left.
-pub fn line_read(kept: usize, count: usize, text: &mut [u8]) -> Line
+fn line_read(kept: usize, count: usize, text: &mut [u8]) -> Line
     ensures { λ r. ⌜ r ≡ lineRead kept count (now (text .entry)) ⌝ }
     ensures { λ r. ⌜ now (text .exit) ≡ textRead kept count (now (text .entry)) ⌝ }
     ensures { λ r. ⌜ Stands r (length (now (text .exit))) ⌝ }

@@ -3,151 +3,76 @@ use libc::STDERR_FILENO;
 use libc::STDIN_FILENO;
 use libc::STDOUT_FILENO;
 use log_input::Line;
-use slots::State;
-ghost use Prim.Native.Nat.{_+_, _≤_, _<_};
+ghost use Prim.Native.Nat.{_≤_};
 ghost use lib.ListN.{length};
-ghost use Rattle.log_input.specs.Line.{Stands};
-
-// The state and the form of the rooms after the lines that are answered; `going` until an answer can't be written.
-struct Log {
-    state: State,
-    four: bool,
-    going: bool,
-}
 
 fn main() {
-    let mut text = text_room();
-    let mut plain = plain_room();
-    let mut packed = packed_room();
-    let mut out = answer_room();
+    let mut text = text_buffer();
+    let mut plain = plain_store();
+    let mut packed = packed_store();
+    let mut out = answer_buffer();
     replay_log(&mut text, &mut plain, &mut packed, &mut out);
 }
 
-// Room for the longest line that is read, and for what comes behind it.
-fn text_room() -> [u8; 262144] {
+// For the longest line that is read, and what comes behind it.
+fn text_buffer() -> [u8; 262144] {
     [0; 262144]
 }
 
-// Room for S·M at most 3; a larger S·M meets number 5.
-fn plain_room() -> [u8; 55584] {
+// For rooms with S·M at most 3; a larger S·M meets number 5.
+fn plain_store() -> [u8; 55584] {
     [0; 55584]
 }
 
 // The same for rooms with four places a byte.
-fn packed_room() -> [u8; 13896] {
+fn packed_store() -> [u8; 13896] {
     [0; 13896]
 }
 
-// Room for the longest answer: a codeword of 172,800 bits with `ok`, a tab and a newline.
-fn answer_room() -> [u8; 172804] {
+// For the longest answer: a codeword of 172,800 bits with `ok`, a tab and a newline.
+fn answer_buffer() -> [u8; 172804] {
     [0; 172804]
 }
 
 // Answers the log's lines. A proved loop has to end, and nothing says that an input does: so it counts its turns down, from a number that no run uses
 // up.
 fn replay_log(text: &mut [u8], plain: &mut [u8], packed: &mut [u8], out: &mut [u8]) {
-    let mut log = begun();
-    let mut line = first_line(text);
-    let mut turns = turns_left(u64::MAX, log.going, line.end);
+    let mut log = log_answers::begun();
+    let mut first = true;
+    let mut turns = u64::MAX;
     while 0 < turns {
-        log = answer(log, line, text, plain, packed, out);
-        line = next_line(line, text);
-        turns = turns_left(turns, log.going, line.end);
+        let count = read_on(log.line, first, text);
+        log = log_answers::turn(log, count, text, plain, packed, out);
+        let written = log.step.written;
+        let going = put_out(&out[..written]);
+        first = false;
+        turns = log_answers::turns_left(turns, going, log.line);
     }
 }
 
-// Before the first `new` the state is that of a refused New.
-fn begun() -> Log {
-    let outcome = slot_calls::new(0, 0);
-    let state = outcome.state;
-    Log {
-        state,
-        four: false,
-        going: true,
-    }
-}
-
-// None where no answer can be written or no line is left.
-fn turns_left(turns: u64, going: bool, end: usize) -> u64
-    requires { ⌜ 0 < turns ⌝ }
-    ensures { λ r. ⌜ r < turns ⌝ }
+// One read behind a line that goes on: how many bytes came, 0 at the end. The first of a log tells of its line ends.
+fn read_on(line: Line, first: bool, text: &mut [u8]) -> usize
+    requires { ⌜ line .end ≤ length (now text) ⌝ }
 {
-    if !going {
+    if !log_input::goes_on(line) {
         return 0;
     }
-    if end == 0 {
-        return 0;
+    let kept = line.end;
+    let got = libc::read(STDIN_FILENO, &mut text[kept..]);
+    let count = io::count(got, &text[kept..]);
+    if first {
+        tell_line_ends(&text[..count]);
     }
-    turns - 1
+    count
 }
 
-// The first read. A log whose first line ends in a carriage return is told of, once: its lines are no calls.
-fn first_line(text: &mut [u8]) -> Line
-    ensures { λ r. ⌜ Stands r (length (now (text .exit))) ⌝ }
-{
-    let unread = log_input::unread();
-    let line = next_line(unread, text);
-    let end = line.end;
-    tell_line_ends(&text[..end]);
-    line
-}
-
+// A log whose first line ends in a carriage return is told of, once, at the first read: its lines are no calls.
 fn tell_line_ends(text: &[u8]) {
     if log_text::ends_in_return(text) {
         io::write_all(
             STDERR_FILENO,
             b"replay: the log's lines end in carriage returns; they are refused with 15\n",
         );
-    }
-}
-
-// One read to the place `have` and what follows it: how many bytes came, 0 at the end.
-fn read_more(text: &mut [u8], have: usize) -> usize
-    requires { ⌜ have ≤ length (now text) ⌝ }
-    ensures { λ r. ⌜ have + r ≤ length (now (text .exit)) ⌝ }
-{
-    let got = libc::read(STDIN_FILENO, &mut text[have..]);
-    io::count(got, &text[have..])
-}
-
-// The line after this one, or this one, if it is unfinished, gone on with.
-fn next_line(line: Line, text: &mut [u8]) -> Line
-    ensures { λ r. ⌜ Stands r (length (now (text .exit))) ⌝ }
-{
-    let next = log_input::line_after(line, text);
-    if !log_input::goes_on(next) {
-        return next;
-    }
-    let kept = next.end;
-    let count = read_more(text, kept);
-    log_input::line_read(kept, count, text)
-}
-
-// Makes the call or the change that a line asks for and writes its answer; an unfinished line waits.
-fn answer(
-    log: Log,
-    line: Line,
-    text: &[u8],
-    plain: &mut [u8],
-    packed: &mut [u8],
-    out: &mut [u8],
-) -> Log
-    requires { ⌜ Stands line (length (now text)) ⌝ }
-{
-    let from = line.from;
-    let to = line.to;
-    if to == line.end {
-        return log;
-    }
-    let state = log.state;
-    let step = yard::replay_line(state, log.four, &text[from..to], plain, packed, out);
-    let after = step.state;
-    let written = step.written;
-    let going = put_out(&out[..written]);
-    Log {
-        state: after,
-        four: step.four,
-        going,
     }
 }
 

@@ -1,4 +1,4 @@
--- Laws of a line's BITS, read into a room.
+-- Laws of a line's BITS, read into a buffer.
 -- Assumes nothing.
 use mathlib.Core.Path.{_≡_, refl}
 use mathlib.Core.Bool.{Bool, true, false, cond}
@@ -12,12 +12,12 @@ use borrow.Author.Tests.{le-leb, leb-true}
 use Rattle.requests.specs.Words.{bitOf}
 use Rattle.requests.specs.Request.{bitsFrom, bitsOver}
 
--- a line's BITS fit into a room as long as the line
+-- a line's BITS fit into a buffer as long as the line
 bits-fit : (l : List ℕ) (from : ℕ) (out : List ℕ) → length l ≤ length out → length (bitsFrom l from) ≤ length out
 unfolding bitsFrom
 bits-fit l from out h = rw (length-map (drop from l) bitOf, length-drop from l) (omega arith)
 
--- what `read_bits` gave back: its count is within the room, and a line as short as that has given all its BITS
+-- what `read_bits` gave back: its count is within the buffer, and a line as short as that has given all its BITS
 module _ (l : List ℕ) (from : ℕ) (out : List ℕ) {count : ℕ} (c : count ≡ cond (leb (length (bitsFrom l from)) (length out)) (length (bitsFrom l from)) 0) where
   pub count-fits : count ≤ length out
   count-fits = rw c (go (leb (length (bitsFrom l from)) (length out)) refl)

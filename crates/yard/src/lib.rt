@@ -98,13 +98,13 @@ fn call_line(
     if line.len() <= from {
         return call_with(state, four, request, terminal, &line[..0], store, out);
     }
-    let mut given = bits_room();
+    let mut given = bits_buffer();
     let count = requests::read_bits(line, from, &mut given);
     call_with(state, four, request, terminal, &given[..count], store, out)
 }
 
-// Room for the BITS of the longest line.
-fn bits_room() -> [u8; 200000]
+// For the BITS of the longest line.
+fn bits_buffer() -> [u8; 200000]
     ensures { λ r. ⌜ r ≡ replicate longestLine 0 ⌝ }
 {
     [0; 200000]

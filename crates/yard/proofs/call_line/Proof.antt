@@ -15,11 +15,11 @@ use Rattle.yard.proofs.call_line.Tie as tie
 abbrev at-start : tie.After-n → tie.Start
 at-start c = c .before .before .before .before
 
-abbrev at-bits-room : tie.After-read-bits → tie.After-bits-room
-at-bits-room c = c .before .before
+abbrev at-bits-buffer : tie.After-read-bits → tie.After-bits-buffer
+at-bits-buffer c = c .before .before
 
 abbrev at-start-from-read-bits : tie.After-read-bits → tie.Start
-at-start-from-read-bits c = at-start (at-bits-room c .before .before)
+at-start-from-read-bits c = at-start (at-bits-buffer c .before .before)
 
 abbrev at-read-bits : tie.After-given2 → tie.After-read-bits
 at-read-bits c = c .before
@@ -52,8 +52,8 @@ returns c =
     let start = at-start (then1 .before) in
     line-called (now (start .args .line)) (start .pre) (λ short. none-given (now (start .args .line)) (start .args .request .bits) (then1 .if1 .taken)) _ _ _ _ (call-with .call-with .ensures)
 
-bits-room-requires : tie.Need-bits-room-requires
-bits-room-requires c κs = search needs
+bits-buffer-requires : tie.Need-bits-buffer-requires
+bits-buffer-requires c κs = search needs
 
 slice-aggregate-read-bits : tie.Need-slice-aggregate-read-bits
 slice-aggregate-read-bits c = search needs
@@ -65,7 +65,7 @@ array-share-prefix-given : tie.Need-array-share-prefix-given
 array-share-prefix-given c =
     let bits = at-read-bits c .read-bits in
     let start = at-start-from-read-bits (at-read-bits c) in
-    omega (arith, count-fits (now (start .args .line)) (start .args .request .bits) (at-bits-room (at-read-bits c) .bits-room .result) (bits .ensures .0), bits .kept .1 .1 .0)
+    omega (arith, count-fits (now (start .args .line)) (start .args .request .bits) (at-bits-buffer (at-read-bits c) .bits-buffer .result) (bits .ensures .0), bits .kept .1 .1 .0)
 
 slice-aggregate-call-with-2 : tie.Need-slice-aggregate-call-with-2
 slice-aggregate-call-with-2 c = front-count _ _ (array-share-prefix-given (at-given2 c))
@@ -86,7 +86,7 @@ returns-2 c =
     let bits = read-bits .read-bits in
     let start = at-start-from-read-bits read-bits in
     line-called (now (start .args .line)) (start .pre)
-    (λ short. given-bits (now (start .args .line)) (start .args .request .bits) _ (bits .ensures .0) (bits .ensures .1) (omega (arith, short, fresh longestLine (at-bits-room read-bits .bits-room .ensures))))
+    (λ short. given-bits (now (start .args .line)) (start .args .request .bits) _ (bits .ensures .0) (bits .ensures .1) (omega (arith, short, fresh longestLine (at-bits-buffer read-bits .bits-buffer .ensures))))
     _ _ _ _ (call-with2 .call-with2 .ensures)
 
 pub call-line-spec : {M : Type 1} → statement M
@@ -100,7 +100,7 @@ call-line-spec =
     same-length
     same-length-2
     returns
-    bits-room-requires
+    bits-buffer-requires
     slice-aggregate-read-bits
     read-bits-requires
     array-share-prefix-given
