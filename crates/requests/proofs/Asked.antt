@@ -8,9 +8,9 @@ use native.Mathlib.Omega.{arith}
 use lib.Dec.{leb, ltb}
 use lib.ListN.{length, getD}
 use borrow.Author.Tests.{leb-true, ltb-false}
+use Rattle.line_words.specs.Words.{wordAt}
 use Rattle.requests.specs.declared.Verb.{Verb}
 use Rattle.requests.specs.declared.Verb.the-variants.{Nothing, Unreadable}
-use Rattle.requests.specs.Words.{wordAt}
 use Rattle.requests.specs.Verbs.{formOf, verbOf}
 use Rattle.requests.specs.Numbers.{field, fields, numberAt}
 use Rattle.requests.specs.Request.{longestLine, isSilent, rightWords, rightTerminal, rightBits, wellFormed, bare, askedFor, requestOf}

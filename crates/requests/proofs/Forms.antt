@@ -9,10 +9,10 @@ use native.Mathlib.Omega.{arith}
 use lib.Dec.{eqb}
 use lib.ListN.{length}
 use mir.Val.{boolByte}
+use Rattle.line_words.specs.Words.{wordsOf, wordAt}
 use Rattle.requests.specs.declared.Verb.{Verb}
 use Rattle.requests.specs.declared.Verb.the-variants.{New, Open, OpenDown, Close, Receive, Read, Streams, Build, BuildDown, Sizes, Worst, Pack, Unpack, Nothing, Unreadable}
 use Rattle.requests.specs.declared.Form.{Form}
-use Rattle.requests.specs.Words.{wordsOf, wordAt}
 use Rattle.requests.specs.Verbs.{formOf}
 use Rattle.requests.specs.Numbers.{saysNumber, saidFrom, fields}
 use Rattle.requests.specs.Request.{wellFormed, bare, askedFor}

@@ -12,7 +12,7 @@ use lib.ListN.{length, getD, drop, set, length-set, length-map, length-drop, dro
 use lib.Seq.{drop-cons}
 use borrow.Author.Tests.{le-leb, lt-leb}
 use Rattle.laws.proofs.Writing.{Writing, start, same, push, finish}
-use Rattle.requests.specs.Words.{bitOf}
+use Rattle.line_words.specs.Words.{bitOf}
 use Rattle.requests.specs.Request.{bitsFrom, bitsOver}
 
 module _ (l : List ℕ) (from : ℕ) where

@@ -1,5 +1,3 @@
-pub mod Words
 pub mod Verbs
 pub mod Numbers
 pub mod Request
-pub mod inner

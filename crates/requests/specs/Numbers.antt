@@ -7,8 +7,8 @@ use lib.Dec.{eqb, ltb}
 use Rattle.lines.specs.declared.Line.{Line}
 use Rattle.lines.specs.declared.Line.the-variants.{Read, Unreadable}
 use Rattle.lines.specs.Line.{lineOf}
+use Rattle.line_words.specs.Words.{wordAt}
 use Rattle.requests.specs.declared.Form.{Form}
-use Rattle.requests.specs.Words.{wordAt}
 
 unfoldable pub isNumber : Line → Bool
 isNumber (Read n) = true

@@ -5,11 +5,11 @@ use mathlib.Core.List.{List, _++_, map}
 use Prim.Native.Nat.{ℕ, _+_, _-_}
 use lib.Dec.{eqb, leb, ltb}
 use lib.ListN.{length, drop, getD, replicate}
+use Rattle.line_words.specs.Words.{wordsOf, wordAt, isRun, bitOf}
 use Rattle.requests.specs.declared.Verb.{Verb}
 use Rattle.requests.specs.declared.Verb.the-variants.{Nothing, Unreadable}
 use Rattle.requests.specs.declared.Form.{Form}
 use Rattle.requests.specs.declared.Request.{Request}
-use Rattle.requests.specs.Words.{wordsOf, wordAt, isRun, bitOf}
 use Rattle.requests.specs.Verbs.{verbOf, formOf}
 use Rattle.requests.specs.Numbers.{saidFrom, numberAt, fields}
 

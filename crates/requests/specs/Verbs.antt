@@ -3,10 +3,10 @@
 use mathlib.Core.Bool.{Bool, true, false, cond}
 use mathlib.Core.List.{List, [], _∷_}
 use Prim.Native.Nat.{ℕ}
+use Rattle.line_words.specs.Words.{sameBytes}
 use Rattle.requests.specs.declared.Verb.{Verb}
 use Rattle.requests.specs.declared.Verb.the-variants.{New, Open, OpenDown, Close, Receive, Read, Streams, Build, BuildDown, Sizes, Worst, Pack, Unpack, Nothing, Unreadable}
 use Rattle.requests.specs.declared.Form.{Form}
-use Rattle.requests.specs.Words.{sameBytes}
 
 -- calls without a state: `build`, `build-down`, `sizes`, `worst`; no other word is known
 unfoldable pub stateless : List ℕ → Verb

@@ -1,6 +1,5 @@
 // A line of the yard's log, read into the call that it stands for.
 mod verbs;
-mod words;
 
 use lines::Line;
 ghost use mathlib.Core.Path.{_≡_};
@@ -72,7 +71,7 @@ pub fn read_request(line: &[u8]) -> Request
     if LONGEST < line.len() {
         return bare(Verb::Unreadable);
     }
-    asked_for(line, verbs::verb_of(words::word(line, 0)))
+    asked_for(line, verbs::verb_of(line_words::word(line, 0)))
 }
 
 // The call that a line with this verb asks for.
@@ -83,7 +82,7 @@ fn asked_for(line: &[u8], verb: Verb) -> Request
     if !well_formed(line, form) {
         return bare(Verb::Unreadable);
     }
-    let last = words::word(line, form.numbers + 1);
+    let last = line_words::word(line, form.numbers + 1);
     let bits = line.len() - last.len();
     Request {
         verb,
@@ -126,7 +125,7 @@ fn right_words(line: &[u8], form: Form) -> bool
     requires { ⌜ form .numbers ≤ 9 ⌝ }
     ensures { λ r. ⌜ r ≡ rightWords (now (line .entry)) form ⌝ }
 {
-    words::word_count(line) == form.numbers + 1 + form.bits as usize
+    line_words::word_count(line) == form.numbers + 1 + form.bits as usize
         && said_from(line, form, 1, form.numbers)
 }
 
@@ -140,7 +139,7 @@ fn right_bits(line: &[u8], form: Form) -> bool
     requires { ⌜ form .numbers ≤ 9 ⌝ }
     ensures { λ r. ⌜ r ≡ rightBits (now (line .entry)) form ⌝ }
 {
-    !form.bits || words::is_run(words::word(line, form.numbers + 1))
+    !form.bits || line_words::is_run(line_words::word(line, form.numbers + 1))
 }
 
 // Whether n words from word i on say numbers.
@@ -174,7 +173,7 @@ fn digits_at(form: Form, i: usize) -> usize
 fn says_number(line: &[u8], form: Form, i: usize) -> bool
     ensures { λ r. ⌜ r ≡ saysNumber (now (line .entry)) form i ⌝ }
 {
-    match lines::read_number(words::word(line, i), digits_at(form, i)) {
+    match lines::read_number(line_words::word(line, i), digits_at(form, i)) {
         Line::Read(_) => true,
         Line::Unreadable => false,
     }
@@ -184,7 +183,7 @@ fn says_number(line: &[u8], form: Form, i: usize) -> bool
 fn number_at(line: &[u8], form: Form, i: usize) -> usize
     ensures { λ r. ⌜ r ≡ numberAt (now (line .entry)) form i ⌝ }
 {
-    match lines::read_number(words::word(line, i), digits_at(form, i)) {
+    match lines::read_number(line_words::word(line, i), digits_at(form, i)) {
         Line::Read(n) => n,
         Line::Unreadable => 0,
     }
@@ -233,7 +232,7 @@ pub fn read_bits(line: &[u8], from: usize, out: &mut [u8]) -> usize
     }
     let mut i = 0;
     while i < count {
-        out[i] = words::bit_of(line[from + i]);
+        out[i] = line_words::bit_of(line[from + i]);
         i += 1;
     }
     count

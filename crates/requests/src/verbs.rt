@@ -1,10 +1,10 @@
 // The verbs of a log: the word of each, and what follows it.
 use crate::Form;
 use crate::Verb;
-use crate::words::same_bytes;
+use line_words::same_bytes;
 ghost use mathlib.Core.Path.{_≡_};
 ghost use mathlib.Core.Bool.{cond};
-ghost use Rattle.requests.specs.Words.{sameBytes};
+ghost use Rattle.line_words.specs.Words.{sameBytes};
 ghost use Rattle.requests.specs.Verbs.{stateless, verbOf, form, noForm, formOf};
 
 // The verb that a word names.

@@ -19,7 +19,7 @@ use Rattle.requests.specs.declared.Form.{Form}
 use Rattle.requests.specs.declared.Request.{Request}
 use Rattle.requests.specs.declared.Verb.{Verb}
 use Rattle.requests.specs.declared.Verb.the-variants.{Nothing, Unreadable as NoCall}
-use Rattle.requests.specs.Words.{wordAt}
+use Rattle.line_words.specs.Words.{wordAt}
 use Rattle.requests.specs.Verbs.{verbOf, formOf}
 use Rattle.requests.specs.Numbers.{valueOf, digitsAt, numberAt, field, fields}
 use Rattle.requests.specs.Request.{longestLine, isSilent, wellFormed, bare, askedFor, requestOf}

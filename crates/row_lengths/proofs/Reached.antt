@@ -14,7 +14,7 @@ use Rattle.slots.specs.declared.State.{State}
 use Rattle.lines.specs.Line.{isDigit, readOn, tooLong, leadingZero, lineOf}
 use Rattle.lines.specs.Text.{onto}
 use Rattle.requests.specs.declared.Verb.the-variants.{Build}
-use Rattle.requests.specs.Words.{wordsOf, wordAt, sameBytes, allDigits, isRun, bitOf}
+use Rattle.line_words.specs.Words.{wordsOf, wordAt, sameBytes, allDigits, isRun, bitOf}
 use Rattle.requests.specs.Verbs.{stateless, verbOf, formOf}
 use Rattle.requests.specs.Numbers.{isNumber, valueOf, digitsAt, saysNumber, numberAt, saidFrom, field, fields}
 use Rattle.requests.specs.Request.{isSilent, rightWords, rightTerminal, rightBits, wellFormed, askedFor, requestOf, bitsFrom}

@@ -9,7 +9,7 @@ use lib.Dec.{leb}
 use lib.ListN.{length, take, drop, length-drop, length-map, drop-of-length-le}
 use lib.Seq.{take-append-seam}
 use borrow.Author.Tests.{le-leb, leb-true}
-use Rattle.requests.specs.Words.{bitOf}
+use Rattle.line_words.specs.Words.{bitOf}
 use Rattle.requests.specs.Request.{bitsFrom, bitsOver}
 
 -- a line's BITS fit into a buffer as long as the line

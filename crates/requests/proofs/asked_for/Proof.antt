@@ -4,8 +4,8 @@ use mathlib.Core.Path.{sym, _∙_}
 use native.Mathlib.Omega.{arith}
 use borrow.Author.Tests.{not-true, not-false}
 use borrow.Author.Needs.{needs}
+use Rattle.line_words.proofs.WordLaws.{word-short}
 use Rattle.requests.proofs.Forms.{few, asked, not-asked}
-use Rattle.requests.proofs.WordLaws.{word-short}
 use Rattle.requests.proofs.asked_for.Statement.{statement}
 use Rattle.requests.proofs.asked_for.Tie as tie
 

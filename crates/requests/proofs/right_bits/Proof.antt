@@ -2,7 +2,7 @@
 -- Assumes nothing.
 use mathlib.Core.Path.{_∙_, ap}
 use borrow.Author.Needs.{needs}
-use Rattle.requests.specs.Words.{isRun}
+use Rattle.line_words.specs.Words.{isRun}
 use Rattle.requests.specs.Request.{rightBits}
 use Rattle.requests.proofs.right_bits.Statement.{statement}
 use Rattle.requests.proofs.right_bits.Tie as tie

@@ -5,9 +5,9 @@ use native.Mathlib.Omega.{arith}
 use denote.Ref.{now}
 use borrow.Author.Tests.{eq-eqb, ne-eqb}
 use borrow.Author.Needs.{needs}
+use Rattle.line_words.proofs.WordLaws.{byte-le}
 use Rattle.requests.specs.Request.{rightWords}
 use Rattle.requests.proofs.Forms.{counted}
-use Rattle.requests.proofs.WordLaws.{byte-le}
 use Rattle.requests.proofs.right_words.Statement.{statement}
 use Rattle.requests.proofs.right_words.Tie as tie
 

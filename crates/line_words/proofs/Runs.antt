@@ -11,7 +11,7 @@ use lib.ListN.{length, getD, drop, drop-of-length-le}
 use lib.Seq.{drop-cons}
 use borrow.Author.Tests.{le-leb, lt-leb, eq-eqb, ne-eqb}
 use Rattle.lines.specs.Line.{isDigit}
-use Rattle.requests.specs.Words.{sameBytes, allDigits, isRun}
+use Rattle.line_words.specs.Words.{sameBytes, allDigits, isRun}
 
 -- runs of two lengths differ
 pub lengths-differ : (a b : List ℕ) → (length a ≡ length b → ⊥) → false ≡ sameBytes a b

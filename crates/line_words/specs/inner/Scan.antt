@@ -6,7 +6,7 @@ use Prim.Native.Nat.{ℕ, _+_}
 use lib.Dec.{ltb}
 use lib.ListN.{length, drop, getD}
 use Rattle.bytes.specs.Bytes.{indexOf}
-use Rattle.requests.specs.Words.{blank, wordsOf}
+use Rattle.line_words.specs.Words.{blank, wordsOf}
 
 -- the place of the next blank from place `from` on, or of the line's end
 unfoldable pub blankFrom : List ℕ → ℕ → ℕ

@@ -1,4 +1,4 @@
--- `requests::words::word_end` meets its contract: that of `bytes::scan::find` on the rest of the line.
+-- `line_words::word_end` meets its contract: that of `bytes::scan::find` on the rest of the line.
 -- Assumes nothing.
 use mathlib.Core.Path.{_∙_, ap}
 use mathlib.Core.List.{List}
@@ -8,10 +8,10 @@ use lib.Seq.{take-length}
 use denote.Ref.{now}
 use borrow.Author.Needs.{needs}
 use Rattle.bytes.specs.Bytes.{indexOf, slice}
-use Rattle.requests.specs.Words.{blank}
-use Rattle.requests.specs.inner.Scan.{blankFrom}
-use Rattle.requests.proofs.words.word_end.Statement.{statement}
-use Rattle.requests.proofs.words.word_end.Tie as tie
+use Rattle.line_words.specs.Words.{blank}
+use Rattle.line_words.specs.inner.Scan.{blankFrom}
+use Rattle.line_words.proofs.word_end.Statement.{statement}
+use Rattle.line_words.proofs.word_end.Tie as tie
 
 find-requires : tie.Need-find-requires
 find-requires c κs = search needs

@@ -1,10 +1,10 @@
--- `requests::words::bit_of` meets its contract: a byte below the digit 0 stands for 0.
+-- `line_words::bit_of` meets its contract: a byte below the digit 0 stands for 0.
 -- Assumes nothing.
 use mathlib.Core.Path.{refl}
 use native.Mathlib.Omega.{arith}
-use Rattle.requests.specs.Words.{bitOf}
-use Rattle.requests.proofs.words.bit_of.Statement.{statement}
-use Rattle.requests.proofs.words.bit_of.Tie as tie
+use Rattle.line_words.specs.Words.{bitOf}
+use Rattle.line_words.proofs.bit_of.Statement.{statement}
+use Rattle.line_words.proofs.bit_of.Tie as tie
 
 returns : tie.Need-returns
 unfolding bitOf

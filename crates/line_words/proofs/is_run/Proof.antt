@@ -1,11 +1,11 @@
--- `requests::words::is_run` meets its contract: a loop over the bytes, with the laws of `Runs`.
+-- `line_words::is_run` meets its contract: a loop over the bytes, with the laws of `Runs`.
 -- Assumes nothing.
 use Prim.Native.Nat.{_-_}
 use native.Mathlib.Omega.{arith}
 use lib.ListN.{length}
-use Rattle.requests.proofs.Runs.{Passing, start-run, none-run, next-run, low, high, finish-run}
-use Rattle.requests.proofs.words.is_run.Statement.{statement}
-use Rattle.requests.proofs.words.is_run.Tie as tie
+use Rattle.line_words.proofs.Runs.{Passing, start-run, none-run, next-run, low, high, finish-run}
+use Rattle.line_words.proofs.is_run.Statement.{statement}
+use Rattle.line_words.proofs.is_run.Tie as tie
 
 abbrev Inv-loop : tie.InvT-loop
 Inv-loop bytes i₀ i = Passing bytes i

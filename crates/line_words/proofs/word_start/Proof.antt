@@ -1,9 +1,9 @@
--- `requests::words::word_start` meets its contract: a loop from word to word, with the laws of `WordLaws`.
+-- `line_words::word_start` meets its contract: a loop from word to word, with the laws of `WordLaws`.
 -- Assumes nothing.
 use native.Mathlib.Omega.{arith}
-use Rattle.requests.proofs.WordLaws.{Seeking, seek, step, gone, reached}
-use Rattle.requests.proofs.words.word_start.Statement.{statement}
-use Rattle.requests.proofs.words.word_start.Tie as tie
+use Rattle.line_words.proofs.WordLaws.{Seeking, seek, step, gone, reached}
+use Rattle.line_words.proofs.word_start.Statement.{statement}
+use Rattle.line_words.proofs.word_start.Tie as tie
 
 abbrev Inv-loop : tie.InvT-loop
 Inv-loop line i at₀ left₀ at left = Seeking line i at left

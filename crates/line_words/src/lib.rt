@@ -2,8 +2,8 @@
 ghost use mathlib.Core.Path.{_≡_};
 ghost use lib.ListN.{length};
 ghost use Prim.Native.Nat.{_≤_};
-ghost use Rattle.requests.specs.Words.{wordsOf, wordAt, sameBytes, isRun, bitOf};
-ghost use Rattle.requests.specs.inner.Scan.{blankFrom, firstFrom};
+ghost use Rattle.line_words.specs.Words.{wordsOf, wordAt, sameBytes, isRun, bitOf};
+ghost use Rattle.line_words.specs.inner.Scan.{blankFrom, firstFrom};
 
 const BLANK: u8 = 32;
 
@@ -12,7 +12,7 @@ const ZERO: u8 = 48;
 const NINE: u8 = 57;
 
 // How many words a line has: one more than it has blanks.
-pub(crate) fn word_count(line: &[u8]) -> usize
+pub fn word_count(line: &[u8]) -> usize
     ensures { λ r. ⌜ r ≡ length (wordsOf (now (line .entry))) ⌝ }
 {
     let mut n = 1;
@@ -50,7 +50,7 @@ fn word_start(line: &[u8], i: usize) -> usize
 }
 
 // Word i of a line, empty where the line has fewer words.
-pub(crate) fn word(line: &[u8], i: usize) -> &[u8]
+pub fn word(line: &[u8], i: usize) -> &[u8]
     ensures { λ r. ⌜ now r ≡ wordAt (now (line .entry)) i ⌝ }
 {
     let from = word_start(line, i);
@@ -62,7 +62,7 @@ pub(crate) fn word(line: &[u8], i: usize) -> &[u8]
 }
 
 // Whether the bytes are those of a name.
-pub(crate) fn same_bytes(given: &[u8], name: &[u8]) -> bool
+pub fn same_bytes(given: &[u8], name: &[u8]) -> bool
     ensures { λ r. ⌜ r ≡ sameBytes (now (given .entry)) (now (name .entry)) ⌝ }
 {
     if given.len() != name.len() {
@@ -79,7 +79,7 @@ pub(crate) fn same_bytes(given: &[u8], name: &[u8]) -> bool
 }
 
 // Whether the bytes are a run of digits, and at least one.
-pub(crate) fn is_run(bytes: &[u8]) -> bool
+pub fn is_run(bytes: &[u8]) -> bool
     ensures { λ r. ⌜ r ≡ isRun (now (bytes .entry)) ⌝ }
 {
     if bytes.len() == 0 {
@@ -100,7 +100,7 @@ pub(crate) fn is_run(bytes: &[u8]) -> bool
 }
 
 // The byte that a digit stands for.
-pub(crate) fn bit_of(digit: u8) -> u8
+pub fn bit_of(digit: u8) -> u8
     ensures { λ r. ⌜ r ≡ bitOf digit ⌝ }
 {
     if digit < ZERO { 0 } else { digit - ZERO }

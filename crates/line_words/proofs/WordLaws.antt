@@ -13,8 +13,8 @@ use mir.Val.{boolByte}
 use borrow.Author.Tests.{lt-ltb, le-ltb, ltb-true, ltb-false}
 use Rattle.bytes.specs.Bytes.{indexOf, indexAfter}
 use Rattle.lines.specs.Text.{onto}
-use Rattle.requests.specs.Words.{blank, wordsOf, wordAt}
-use Rattle.requests.specs.inner.Scan.{blankFrom, wordsFrom, firstFrom}
+use Rattle.line_words.specs.Words.{blank, wordsOf, wordAt}
+use Rattle.line_words.specs.inner.Scan.{blankFrom, wordsFrom, firstFrom}
 
 pub byte-le : (b : Bool) → boolByte b ≤ 1
 byte-le true = omega arith

@@ -1,4 +1,4 @@
--- `requests::words::word` meets its contract: the part of the line from the word's start to its blank.
+-- `line_words::word` meets its contract: the part of the line from the word's start to its blank.
 -- Assumes nothing.
 use mathlib.Core.Path.{sym, _∙_, ap}
 use Prim.Native.Nat.{ℕ, _-_}
@@ -6,10 +6,10 @@ use native.Mathlib.Omega.{arith}
 use lib.ListN.{take, drop}
 use denote.Ref.{now}
 use borrow.Author.Needs.{needs}
-use Rattle.requests.specs.inner.Scan.{blankFrom}
-use Rattle.requests.proofs.WordLaws.{first-past, first-within}
-use Rattle.requests.proofs.words.word.Statement.{statement}
-use Rattle.requests.proofs.words.word.Tie as tie
+use Rattle.line_words.specs.inner.Scan.{blankFrom}
+use Rattle.line_words.proofs.WordLaws.{first-past, first-within}
+use Rattle.line_words.proofs.word.Statement.{statement}
+use Rattle.line_words.proofs.word.Tie as tie
 
 word-start-requires : tie.Need-word-start-requires
 word-start-requires c κs = search needs

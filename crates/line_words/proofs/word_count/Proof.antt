@@ -1,14 +1,14 @@
--- `requests::words::word_count` meets its contract: a loop that counts blanks, with the laws of `WordLaws`.
+-- `line_words::word_count` meets its contract: a loop that counts blanks, with the laws of `WordLaws`.
 -- Assumes nothing.
 use Prim.Native.Nat.{_-_}
 use native.Mathlib.Omega.{arith}
 use lib.Dec.{eqb}
 use lib.ListN.{length, getD}
 use denote.Ref.{now}
-use Rattle.requests.specs.Words.{blank}
-use Rattle.requests.proofs.WordLaws.{byte-le, Counting, start, next, finish}
-use Rattle.requests.proofs.words.word_count.Statement.{statement}
-use Rattle.requests.proofs.words.word_count.Tie as tie
+use Rattle.line_words.specs.Words.{blank}
+use Rattle.line_words.proofs.WordLaws.{byte-le, Counting, start, next, finish}
+use Rattle.line_words.proofs.word_count.Statement.{statement}
+use Rattle.line_words.proofs.word_count.Tie as tie
 
 abbrev Inv-loop : tie.InvT-loop
 Inv-loop line n₀ i₀ n i = Counting line n i

@@ -1,11 +1,11 @@
--- `requests::words::same_bytes` meets its contract: a loop over the bytes, with the laws of `Runs`.
+-- `line_words::same_bytes` meets its contract: a loop over the bytes, with the laws of `Runs`.
 -- Assumes nothing.
 use Prim.Native.Nat.{_-_}
 use native.Mathlib.Omega.{arith}
 use lib.ListN.{length}
-use Rattle.requests.proofs.Runs.{Comparing, start, next, differ, finish, lengths-differ}
-use Rattle.requests.proofs.words.same_bytes.Statement.{statement}
-use Rattle.requests.proofs.words.same_bytes.Tie as tie
+use Rattle.line_words.proofs.Runs.{Comparing, start, next, differ, finish, lengths-differ}
+use Rattle.line_words.proofs.same_bytes.Statement.{statement}
+use Rattle.line_words.proofs.same_bytes.Tie as tie
 
 abbrev Inv-loop : tie.InvT-loop
 Inv-loop given name i₀ i = Comparing given name i
