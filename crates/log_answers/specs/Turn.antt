@@ -4,7 +4,7 @@ use mathlib.Core.Bool.{Bool, false, cond}
 use mathlib.Core.List.{List}
 use Prim.Native.Nat.{ℕ, _-_}
 use lib.Dec.{eqb}
-use lib.ListN.{length, take, drop}
+use lib.ListN.{take, drop}
 use Rattle.slots.specs.Calls.{newOutcome}
 use Rattle.log_input.specs.declared.Line.{Line}
 use Rattle.log_input.specs.Line.{unreadLine, lineNow, textNow, lineAfter, textAfter, noneLeft}

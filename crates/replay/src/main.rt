@@ -59,7 +59,7 @@ fn read_on(line: Line, first: bool, text: &mut [u8]) -> usize
     }
     let kept = line.end;
     let got = libc::read(STDIN_FILENO, &mut text[kept..]);
-    let count = io::count(got, &text[kept..]);
+    let count = io::count(got, text);
     if first {
         tell_line_ends(&text[..count]);
     }

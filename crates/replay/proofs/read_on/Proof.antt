@@ -23,15 +23,6 @@ part-read-end c = search needs
 read-requires : tie.Need-read-requires
 read-requires c κs = tt
 
-sub-count : tie.Need-sub-count
-sub-count c = search needs
-
-part-count-start : tie.Need-part-count-start
-part-count-start c = search needs
-
-part-count-end : tie.Need-part-count-end
-part-count-end c = search needs
-
 count-requires : tie.Need-count-requires
 count-requires c κs = tt
 
@@ -66,9 +57,6 @@ read-on-spec =
     part-read-start
     part-read-end
     read-requires
-    sub-count
-    part-count-start
-    part-count-end
     count-requires
     slice-reshare-prefix-tell-line-ends
     slice-aggregate-tell-line-ends
