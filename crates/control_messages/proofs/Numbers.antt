@@ -21,37 +21,37 @@ use Rattle.control_messages.specs.Working.{Sized}
 
 -- ---- building
 
-module _ (a : List ℕ) (E room : ℕ) where
-  pub bad-payload-is : badPayload (length a) ≡ true → 20 ≡ controlNumber a E room
+module _ (a : List ℕ) (E lent : ℕ) where
+  pub bad-payload-is : badPayload (length a) ≡ true → 20 ≡ controlNumber a E lent
   unfolding controlNumber controlRules firstOf
   bad-payload-is e = simp e
 
   module _ (size : badPayload (length a) ≡ false) where
-    pub bad-length-is : badLength E ≡ true → 3 ≡ controlNumber a E room
+    pub bad-length-is : badLength E ≡ true → 3 ≡ controlNumber a E lent
     unfolding controlNumber controlRules firstOf
     bad-length-is e = simp (size, e)
 
     module _ (some : badLength E ≡ false) where
-      pub short-output-is : room < E → 5 ≡ controlNumber a E room
+      pub short-output-is : lent < E → 5 ≡ controlNumber a E lent
       unfolding controlNumber controlRules firstOf
-      short-output-is e = simp (size, some, lt-ltb room E e)
+      short-output-is e = simp (size, some, lt-ltb lent E e)
 
-      module _ (enough : E ≤ room) where
-        pub bad-bits-is : badBits a ≡ true → 2 ≡ controlNumber a E room
+      module _ (enough : E ≤ lent) where
+        pub bad-bits-is : badBits a ≡ true → 2 ≡ controlNumber a E lent
         unfolding controlNumber controlRules firstOf
-        bad-bits-is e = simp (size, some, le-ltb room E enough, e)
+        bad-bits-is e = simp (size, some, le-ltb lent E enough, e)
 
-        pub accepted-is : badBits a ≡ false → 0 ≡ controlNumber a E room
+        pub accepted-is : badBits a ≡ false → 0 ≡ controlNumber a E lent
         unfolding controlNumber controlRules firstOf
-        accepted-is e = simp (size, some, le-ltb room E enough, e)
+        accepted-is e = simp (size, some, le-ltb lent E enough, e)
 
 no-truth : true ≡ false → ⊥
 no-truth q = let z : _≡_ {A = ℕ} 0 1 = cc in omega arith
 
 -- what number 0 tells
-pub record Accepted (a : List ℕ) (E room : ℕ) : Type 0 where
+pub record Accepted (a : List ℕ) (E lent : ℕ) : Type 0 where
   pub size : Sized (length a + 16)
-  pub fits : E ≤ room
+  pub fits : E ≤ lent
   pub bits : AreBits a
 
 either : (n m : ℕ) → (eqb n 0 || ltb m n) ≡ false → (0 < n) × (n ≤ m)
@@ -61,13 +61,13 @@ either n m e = go (eqb n 0) refl e
     go true t f = absurd (no-truth f)
     go false t f = (omega (arith, eqb-false n 0 t), ltb-false m n f)
 
-pub accepted : (a : List ℕ) (E room : ℕ) → controlNumber a E room ≡ 0 → Accepted a E room
+pub accepted : (a : List ℕ) (E lent : ℕ) → controlNumber a E lent ≡ 0 → Accepted a E lent
 unfolding controlNumber controlRules badPayload
-accepted a E room h =
-    let clear = passed (controlRules a E room) refl h tt in
+accepted a E lent h =
+    let clear = passed (controlRules a E lent) refl h tt in
     let size = either (length a) 64 (clear (payloadRule (length a)) (search listed)) in record {
       size = record { least = omega (arith, size .0); most = omega (arith, size .1) };
-      fits = ltb-false room E (clear (outputRule E room) (search listed));
+      fits = ltb-false lent E (clear (outputRule E lent) (search listed));
       bits = given-bits a (clear (bitsRule a) (search listed));
     }
 

@@ -18,14 +18,14 @@ pub(crate) fn crc_attachment(payload: &[u8], terminal: u16, bits: &mut [u8])
     check_bits::put_check_bits_16(check, &mut bits[end..]);
 }
 
-// The last six of the bits, with which the encoder's register starts, over the front of `room`, and behind them the bits.
-pub(crate) fn with_lead(bits: &[u8], room: &mut [u8])
-    requires { ⌜ (6 ≤ length (now bits)) × (length (now bits) + 6 ≤ length (now room)) ⌝ }
-    ensures { λ _. ⌜ take (length (now (bits .entry)) + 6) (now (room .exit)) ≡ withLead (now (bits .entry)) ⌝ }
+// The last six of the bits, with which the encoder's register starts, over the front of `led`, and behind them the bits.
+pub(crate) fn with_lead(bits: &[u8], led: &mut [u8])
+    requires { ⌜ (6 ≤ length (now bits)) × (length (now bits) + 6 ≤ length (now led)) ⌝ }
+    ensures { λ _. ⌜ take (length (now (bits .entry)) + 6) (now (led .exit)) ≡ withLead (now (bits .entry)) ⌝ }
 {
     let from = bits.len() - 6;
-    bytes::copy(&bits[from..], &mut room[..6]);
-    bytes::copy(bits, &mut room[6..]);
+    bytes::copy(&bits[from..], &mut led[..6]);
+    bytes::copy(bits, &mut led[6..]);
 }
 
 // The bits as a number, the first highest.

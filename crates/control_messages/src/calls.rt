@@ -29,8 +29,8 @@ pub fn build(payload: &[u8], terminal: u16, e: usize, out: &mut [u8]) -> u8
 }
 
 // The refusals of building in their order.
-fn build_number(payload: &[u8], e: usize, room: usize) -> u8
-    ensures { λ r. ⌜ r ≡ controlNumber (now (payload .entry)) e room ⌝ }
+fn build_number(payload: &[u8], e: usize, lent: usize) -> u8
+    ensures { λ r. ⌜ r ≡ controlNumber (now (payload .entry)) e lent ⌝ }
 {
     if (payload.len() == 0) | (64 < payload.len()) {
         return 20;
@@ -38,7 +38,7 @@ fn build_number(payload: &[u8], e: usize, room: usize) -> u8
     if (e == 0) | (4096 < e) {
         return 3;
     }
-    if room < e {
+    if lent < e {
         return 5;
     }
     if codeword::bad_bits(payload) {

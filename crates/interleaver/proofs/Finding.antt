@@ -12,7 +12,7 @@ use Rattle.laws.specs.Lists.{tab}
 use Rattle.interleaver.specs.declared.fours.Start.{Start}
 use Rattle.interleaver.specs.Place.{quadratic}
 use Rattle.interleaver.specs.Into.{bitBy}
-use Rattle.interleaver.specs.inner.Quarters.{less, firstFour}
+use Rattle.interleaver.specs.inner.Quarters.{less, doubled, firstFour}
 use Rattle.interleaver.proofs.Filling as F
 use Rattle.interleaver.proofs.Filling.{Filling}
 use Rattle.interleaver.proofs.Strides as S
@@ -56,7 +56,7 @@ module _ {K f1 f2 : ℕ} {w y₀ : List ℕ} where
       last = omega (arith, f .turn)
 
   pub start : {r : Start} → 0 < K → r ≡ firstFour K f1 f2 → Finding K f1 f2 w y₀ (r .step) y₀ (r .g0) (r .g1) (r .g2) (r .g3) 0 (r .p1) (r .p2) (r .p3) 0
-  unfolding quadratic firstFour
+  unfolding quadratic doubled firstFour
   start some e = rw e record {
     filling = F.start refl;
     zeroth = S.start K f1 f2 some none refl;

@@ -24,7 +24,7 @@ pub(crate) fn all_bits(c: &[u8]) -> bool
     seen < 2
 }
 
-// The interleaved bits of `c` over `out`, with a room of a quarter's length, or two more, so that it is found four at a time.
+// The interleaved bits of `c` over `out`, with an array of a quarter's length, or two more, so that it is found four at a time.
 pub(crate) fn interleave_bits(f1: usize, f2: usize, c: &[u8], out: &mut [u8])
     requires { ⌜ Quartered (now c) (now out) × Countable (length (now c)) f1 f2 ⌝ }
     ensures { λ _. ⌜ now (out .exit) ≡ bitsBy (length (now (c .entry))) f1 f2 (now (c .entry)) ⌝ }
@@ -39,7 +39,7 @@ pub(crate) fn interleave_bits(f1: usize, f2: usize, c: &[u8], out: &mut [u8])
     }
 }
 
-// The same in a lent room `y`. The joined bits stand in `out` until they are found.
+// The same in a lent slice `y`. The joined bits stand in `out` until they are found.
 fn by_fours(f1: usize, f2: usize, c: &[u8], y: &mut [u8], out: &mut [u8])
     requires { ⌜ Quartered (now c) (now out) × Countable (length (now c)) f1 f2 × (length (now c) ≤ 4 * length (now y)) × (length (now y) % 4 ≡ 0) × (length (now y) ≤ 1536) ⌝ }
     ensures { λ _. ⌜ now (out .exit) ≡ bitsBy (length (now (c .entry))) f1 f2 (now (c .entry)) ⌝ }

@@ -35,7 +35,7 @@ keptLine kept = record { from = 0; to = kept; end = kept; over = false }
 unfoldable pub goesOn : Line → Bool
 goesOn line = cond (ltb (line .to) (line .end)) false (not (line .over))
 
--- nothing left, where the input is over
+-- the input is over, and no byte is left of it
 unfoldable pub noneLeft : Line → Bool
 noneLeft line = cond (line .over) (eqb (line .end) 0) false
 

@@ -4,8 +4,8 @@ ghost use Prim.Native.Nat.{_≤_, _<_};
 ghost use lib.ListN.{length};
 ghost use Rattle.log_input.specs.Line.{Stands, unreadLine, nothingLeft, goesOn, noneLeft, lineIn, following, settled, textSettled, lineAfter, textAfter, lastLine, textEnded, lineRead, textRead, outside, lineNow, textNow};
 
-// A line of the text, from `from` up to `to`, where the text is read up to `end`: unfinished where `to` is `end`, and nothing is left where `end` is 0.
-// `over` once the input is.
+// A line of the text, from `from` up to `to`, where the text is read up to `end`: unfinished where `to` is `end`. `over` once the input is: then
+// nothing is left where `end` is 0.
 pub struct Line {
     pub from: usize,
     pub to: usize,
@@ -49,7 +49,7 @@ pub fn nothing_is_left(line: Line) -> bool
 }
 
 // The line after this one in what is read. One that is unfinished there is moved to the text's front, so that a read has room behind it. Of a line that
-// does not stand within the text nothing is left.
+// ends past the text nothing is left.
 pub fn line_after(line: Line, text: &mut [u8]) -> Line
     ensures { λ r. ⌜ r ≡ lineAfter line (now (text .entry)) ⌝ }
     ensures { λ r. ⌜ now (text .exit) ≡ textAfter line (now (text .entry)) ⌝ }

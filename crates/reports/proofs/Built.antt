@@ -30,73 +30,73 @@ use Rattle.reports.proofs.Shape.{passed-on, earlier, Shaped, shaped}
 
 -- the rules behind those that both calls look at first
 abbrev others : List ℕ → ℕ → List ℕ → Grant → ℕ → List Rule
-others o control a g room =
+others o control a g lent =
     lengthRule (blocks (length a + 24)) (g .modulation) (g .layers) (g .bits)
     ∷ versionRule (g .version)
-    ∷ outputRule (g .layers * control + g .bits) room
+    ∷ outputRule (g .layers * control + g .bits) lent
     ∷ bitsRule o
     ∷ bitsRule a
     ∷ []
 
 -- ---- number by number
 
-module _ (o : List ℕ) (control : ℕ) (a : List ℕ) (g : Grant) (room : ℕ) {n : ℕ}
+module _ (o : List ℕ) (control : ℕ) (a : List ℕ) (g : Grant) (lent : ℕ) {n : ℕ}
     (e : n ≡ firstOf (shapeRules (length a) (g .modulation) (g .layers) (length o) control)) (z : n ≡ 0) where
-  after : reportBuildNumber o control a g room ≡ firstOf (others o control a g room)
+  after : reportBuildNumber o control a g lent ≡ firstOf (others o control a g lent)
   unfolding reportBuildNumber buildRules shapeRules
-  after = passed-on (shapeRules (length a) (g .modulation) (g .layers) (length o) control) (others o control a g room) tt e z
+  after = passed-on (shapeRules (length a) (g .modulation) (g .layers) (length o) control) (others o control a g lent) tt e z
 
   abbrev tooLong : Bool
   tooLong = badLength (blocks (length a + 24)) (g .modulation) (g .layers) (g .bits)
 
-  pub bad-data-is : tooLong ≡ true → 3 ≡ reportBuildNumber o control a g room
+  pub bad-data-is : tooLong ≡ true → 3 ≡ reportBuildNumber o control a g lent
   unfolding firstOf
   bad-data-is h = sym (after ∙ simp h)
 
   module _ (data-fits : tooLong ≡ false) where
-    pub bad-version-is : 3 < g .version → 4 ≡ reportBuildNumber o control a g room
+    pub bad-version-is : 3 < g .version → 4 ≡ reportBuildNumber o control a g lent
     unfolding firstOf badVersion
     bad-version-is h = sym (after ∙ simp (data-fits, lt-ltb 3 (g .version) h))
 
     module _ (version : g .version ≤ 3) where
-      pub short-output-is : room < g .layers * control + g .bits → 5 ≡ reportBuildNumber o control a g room
+      pub short-output-is : lent < g .layers * control + g .bits → 5 ≡ reportBuildNumber o control a g lent
       unfolding firstOf badVersion
-      short-output-is h = sym (after ∙ simp (data-fits, le-ltb 3 (g .version) version, lt-ltb room (g .layers * control + g .bits) h))
+      short-output-is h = sym (after ∙ simp (data-fits, le-ltb 3 (g .version) version, lt-ltb lent (g .layers * control + g .bits) h))
 
-      module _ (enough : g .layers * control + g .bits ≤ room) where
-        pub bad-report-is : badBits o ≡ true → 2 ≡ reportBuildNumber o control a g room
+      module _ (enough : g .layers * control + g .bits ≤ lent) where
+        pub bad-report-is : badBits o ≡ true → 2 ≡ reportBuildNumber o control a g lent
         unfolding firstOf badVersion
-        bad-report-is h = sym (after ∙ simp (data-fits, le-ltb 3 (g .version) version, le-ltb room (g .layers * control + g .bits) enough, h))
+        bad-report-is h = sym (after ∙ simp (data-fits, le-ltb 3 (g .version) version, le-ltb lent (g .layers * control + g .bits) enough, h))
 
         module _ (report : badBits o ≡ false) where
-          pub bad-bits-is : badBits a ≡ true → 2 ≡ reportBuildNumber o control a g room
+          pub bad-bits-is : badBits a ≡ true → 2 ≡ reportBuildNumber o control a g lent
           unfolding firstOf badVersion
-          bad-bits-is h = sym (after ∙ simp (data-fits, le-ltb 3 (g .version) version, le-ltb room (g .layers * control + g .bits) enough, report, h))
+          bad-bits-is h = sym (after ∙ simp (data-fits, le-ltb 3 (g .version) version, le-ltb lent (g .layers * control + g .bits) enough, report, h))
 
-          pub accepted-report : badBits a ≡ false → 0 ≡ reportBuildNumber o control a g room
+          pub accepted-report : badBits a ≡ false → 0 ≡ reportBuildNumber o control a g lent
           unfolding firstOf badVersion
-          accepted-report h = sym (after ∙ simp (data-fits, le-ltb 3 (g .version) version, le-ltb room (g .layers * control + g .bits) enough, report, h))
+          accepted-report h = sym (after ∙ simp (data-fits, le-ltb 3 (g .version) version, le-ltb lent (g .layers * control + g .bits) enough, report, h))
 
 -- ---- what number 0 tells
 
-pub record Accepted (o : List ℕ) (control : ℕ) (a : List ℕ) (g : Grant) (room : ℕ) : Type 0 where
+pub record Accepted (o : List ℕ) (control : ℕ) (a : List ℕ) (g : Grant) (lent : ℕ) : Type 0 where
   pub shape : Shaped (length a) (g .modulation) (g .layers) (length o) control
-  pub codeword-fits : plain.buildNumber a g (room - g .layers * control) ≡ 0
-  pub enough : g .layers * control + g .bits ≤ room
+  pub codeword-fits : plain.buildNumber a g (lent - g .layers * control) ≡ 0
+  pub enough : g .layers * control + g .bits ≤ lent
   pub report-bits : AreBits o
 
-pub accepted : (o : List ℕ) (control : ℕ) (a : List ℕ) (g : Grant) (room : ℕ) → reportBuildNumber o control a g room ≡ 0 → Accepted o control a g room
+pub accepted : (o : List ℕ) (control : ℕ) (a : List ℕ) (g : Grant) (lent : ℕ) → reportBuildNumber o control a g lent ≡ 0 → Accepted o control a g lent
 unfolding reportBuildNumber buildRules shapeRules badVersion
-accepted o control a g room h =
-    let shape = shaped (length a) (g .modulation) (g .layers) (length o) control refl (earlier (shapeRules (length a) (g .modulation) (g .layers) (length o) control) (others o control a g room) tt h) in
-    let clear = passed (buildRules o control a g room) refl h tt in
-    let long : g .layers * control + g .bits ≤ room = ltb-false room (g .layers * control + g .bits) (clear (outputRule (g .layers * control + g .bits) room) (search listed)) in
+accepted o control a g lent h =
+    let shape = shaped (length a) (g .modulation) (g .layers) (length o) control refl (earlier (shapeRules (length a) (g .modulation) (g .layers) (length o) control) (others o control a g lent) tt h) in
+    let clear = passed (buildRules o control a g lent) refl h tt in
+    let long : g .layers * control + g .bits ≤ lent = ltb-false lent (g .layers * control + g .bits) (clear (outputRule (g .layers * control + g .bits) lent) (search listed)) in
     let length-fits = clear (lengthRule (blocks (length a + 24)) (g .modulation) (g .layers) (g .bits)) (search listed) in
     record {
       shape = shape;
       codeword-fits =
           sym
-          (accepted-is a g (room - g .layers * control) (shape .size)
+          (accepted-is a g (lent - g .layers * control) (shape .size)
           (allocation-of _ _ _ _ (shape .symbol) length-fits)
           (ltb-false 3 (g .version) (clear (versionRule (g .version)) (search listed)))
           (omega arith)

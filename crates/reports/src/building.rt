@@ -26,8 +26,8 @@ pub fn build(report: &[u8], control: usize, block: &[u8], grant: Grant, out: &mu
 }
 
 // The refusals in their order.
-fn build_number(report: &[u8], control: usize, block: &[u8], grant: Grant, room: usize) -> u8
-    ensures { λ r. ⌜ r ≡ reportBuildNumber (now (report .entry)) control (now (block .entry)) grant room ⌝ }
+fn build_number(report: &[u8], control: usize, block: &[u8], grant: Grant, lent: usize) -> u8
+    ensures { λ r. ⌜ r ≡ reportBuildNumber (now (report .entry)) control (now (block .entry)) grant lent ⌝ }
 {
     let number = shape_number(
         block.len(),
@@ -45,7 +45,7 @@ fn build_number(report: &[u8], control: usize, block: &[u8], grant: Grant, room:
     if grant.version > 3 {
         return 4;
     }
-    if room < grant.layers * control + grant.bits {
+    if lent < grant.layers * control + grant.bits {
         return 5;
     }
     if codeword::bad_bits(report) {

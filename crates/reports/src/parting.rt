@@ -58,11 +58,11 @@ fn read_run(
     o: usize,
     control: usize,
     received: &[u8],
-    room: usize,
+    lent: usize,
 ) -> Read
-    ensures { λ r. ⌜ r ≡ readRun a q n o control (now (received .entry)) room ⌝ }
+    ensures { λ r. ⌜ r ≡ readRun a q n o control (now (received .entry)) lent ⌝ }
 {
-    let number = part_number(a, q, n, o, control, received, room);
+    let number = part_number(a, q, n, o, control, received, lent);
     if number != 0 {
         return Read { number, message: 0 };
     }
@@ -88,9 +88,9 @@ fn part_number(
     o: usize,
     control: usize,
     received: &[u8],
-    room: usize,
+    lent: usize,
 ) -> u8
-    ensures { λ r. ⌜ r ≡ firstOf (partRules a q n o control (now (received .entry)) room) ⌝ }
+    ensures { λ r. ⌜ r ≡ firstOf (partRules a q n o control (now (received .entry)) lent) ⌝ }
 {
     let number = shape_number(a, q, n, o, control);
     if number != 0 {
@@ -100,7 +100,7 @@ fn part_number(
     if bad_data(a, q, n, g) {
         return 3;
     }
-    if room < o {
+    if lent < o {
         return 5;
     }
     if codeword::bad_bits(received) {

@@ -40,7 +40,7 @@ pub struct Tails {
     pub second: Tail,
 }
 
-// Whether rooms of these lengths are for the streams of a code block of the row's size, and its filler is within it.
+// Whether slices of these lengths are for the streams of a code block of the row's size, and its filler is within it.
 fn is_encodable(row: usize, filler: usize, n0: usize, n1: usize, n2: usize) -> bool
     ensures { λ r. ⌜ r ≡ encodable row filler n0 n1 n2 ⌝ }
 {

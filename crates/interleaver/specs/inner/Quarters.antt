@@ -61,7 +61,7 @@ firstFour K f1 f2 = record {
   g1 = backFrom K f1 f2 1;
   g2 = backFrom K f1 f2 2;
   g3 = backFrom K f1 f2 3;
-  step = 32 * f2 % K;
+  step = doubled K f2 .step;
 }
 
 -- bit number s of entry i

@@ -16,6 +16,12 @@ abbrev μ-loop : tie.MeasureT-loop
 μ-loop text from out₀ next₀ written₀ out next written = length text - next
 
 -- the ways back
+abbrev at-start : tie.At-loop Inv-loop μ-loop → tie.Start Inv-loop μ-loop
+at-start c = c .before .before .before
+
+abbrev at-loop : tie.After-line-end Inv-loop μ-loop → tie.At-loop Inv-loop μ-loop
+at-loop c = c .before .before .before
+
 abbrev at-line-end : tie.After-put-row Inv-loop μ-loop → tie.After-line-end Inv-loop μ-loop
 at-line-end c = c .before .before .before
 
@@ -35,11 +41,11 @@ line-end-requires : tie.Need-line-end-requires Inv-loop μ-loop
 line-end-requires c κs = tt
 
 -- a line ends between its start and the text's end
-started : (c : tie.After-line-end Inv-loop μ-loop) → c .before .before .before .loop .next ≤ c .line-end .result
-started c = rw (c .line-end .ensures) (end-from _ _)
+started : (c : tie.After-line-end Inv-loop μ-loop) → at-loop c .loop .next ≤ c .line-end .result
+started c = let loop = at-loop c in omega (arith, c .line-end .ensures, end-from (now (at-start loop .args .text)) (loop .loop .next))
 
-ended : (c : tie.After-line-end Inv-loop μ-loop) → c .line-end .result ≤ length (now (c .before .before .before .before .before .before .args .text))
-ended c = rw (c .line-end .ensures) (end-within _ _ (omega arith))
+ended : (c : tie.After-line-end Inv-loop μ-loop) → c .line-end .result ≤ length (now (at-start (at-loop c) .args .text))
+ended c = let loop = at-loop c in omega (arith, c .line-end .ensures, end-within (now (at-start loop .args .text)) (loop .loop .next) (omega arith))
 
 sub-put-row : tie.Need-sub-put-row Inv-loop μ-loop
 sub-put-row c = started c
@@ -61,8 +67,9 @@ loop-less c = omega (arith, c .line-next .ensures, started (at-line-end (at-put-
 
 loop-again : tie.Need-loop-again Inv-loop μ-loop
 loop-again c =
-    let inv = at-line-end (at-put-row c) .before .before .before .loop .inv in
-    let end = at-line-end (at-put-row c) .line-end .ensures in
+    let line = at-line-end (at-put-row c) in
+    let inv = at-loop line .loop .inv in
+    let end = line .line-end .ensures in
     let row = at-put-row c .put-row in
     turn _ inv (omega arith) (omega arith) end (c .line-next .ensures) (row .ensures) (row .kept .1 .0)
 

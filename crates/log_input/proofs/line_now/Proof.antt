@@ -10,6 +10,9 @@ use Rattle.log_input.proofs.line_now.Tie as tie
 abbrev at-start : tie.After-outside → tie.Start
 at-start c = c .before .before
 
+abbrev at-else1 : tie.After-goes-on → tie.Else1
+at-else1 c = c .before
+
 outside-requires : tie.Need-outside-requires
 outside-requires c κs = search needs
 
@@ -36,16 +39,18 @@ returns-2 c =
     let line-read = c .before .before in
     let then2 = line-read .before .before in
     let goes-on = then2 .before in
-    let outside = goes-on .before .before in
+    let else1 = at-else1 goes-on in
+    let outside = else1 .before in
     let args = at-start outside .args in
-    now-read (now (args .text)) (args .line) (args .count) (outside .outside .ensures) (goes-on .before .if1 .left) (goes-on .goes-on .ensures) (then2 .if2 .taken) (line-read .line-read .ensures)
+    now-read (now (args .text)) (args .line) (args .count) (outside .outside .ensures) (else1 .if1 .left) (goes-on .goes-on .ensures) (then2 .if2 .taken) (line-read .line-read .ensures)
 
 returns-3 : tie.Need-returns-3
 returns-3 c =
     let goes-on = c .before in
-    let outside = goes-on .before .before in
+    let else1 = at-else1 goes-on in
+    let outside = else1 .before in
     let args = at-start outside .args in
-    now-same (now (args .text)) (args .line) (args .count) (outside .outside .ensures) (goes-on .before .if1 .left) (goes-on .goes-on .ensures) (c .if2 .left)
+    now-same (now (args .text)) (args .line) (args .count) (outside .outside .ensures) (else1 .if1 .left) (goes-on .goes-on .ensures) (c .if2 .left)
 
 pub line-now-spec : {M : Type 1} → statement M
 line-now-spec =

@@ -18,11 +18,17 @@ abbrev μ-loop : tie.MeasureT-loop
 μ-loop text₀ plain₀ packed₀ out₀ log₀ first₀ turns₀ text plain packed out log first turns = turns
 
 -- the ways back
+abbrev at-loop : tie.After-read-on Inv-loop μ-loop → tie.In-loop Inv-loop μ-loop
+at-loop c = c .before .before
+
 abbrev at-turn : tie.After-slice-known9 Inv-loop μ-loop → tie.After-turn Inv-loop μ-loop
 at-turn c = c .before .before .before .before .before .before .before .before
 
 abbrev at-read-on : tie.After-slice-known9 Inv-loop μ-loop → tie.After-read-on Inv-loop μ-loop
 at-read-on c = at-turn c .before .before .before .before .before .before .before
+
+abbrev at-answer : tie.After-turns-left Inv-loop μ-loop → tie.After-slice-known9 Inv-loop μ-loop
+at-answer c = c .before .before .before
 
 begun-requires : tie.Need-begun-requires Inv-loop μ-loop
 begun-requires c κs = tt
@@ -50,13 +56,13 @@ turns-left-requires : tie.Need-turns-left-requires Inv-loop μ-loop
 turns-left-requires c κs = tt
 
 loop-less : tie.Need-loop-less Inv-loop μ-loop
-loop-less c = c .turns-left .ensures .1 (at-read-on (c .before .before .before) .before .before .loop-test .taken)
+loop-less c = c .turns-left .ensures .1 (at-loop (at-read-on (at-answer c)) .loop-test .taken)
 
 loop-again : tie.Need-loop-again Inv-loop μ-loop
 loop-again c =
-    let turn = at-turn (c .before .before .before) .turn in
-    let read-on = at-read-on (c .before .before .before) in
-    let inv = read-on .before .before .before .loop .inv in
+    let turn = at-turn (at-answer c) .turn in
+    let read-on = at-read-on (at-answer c) in
+    let inv = at-loop read-on .before .loop .inv in
     let kept = turn .kept in (
       turn .ensures .1 .1 .1 .1 .1 .0 .fits,
       kept .1 .1 .0 ∙ read-on .read-on .kept .1 .1 .0 ∙ inv .1,

@@ -17,8 +17,8 @@ use Rattle.control_messages.proofs.attachment.with_lead.Tie as tie
 abbrev at-start : tie.After-copy-arg2 → tie.Start
 at-start c = c .before .before .before .before
 
-as-long : (c room : List ℕ) → 6 ≤ length c → 6 ≤ length room → length (take 6 room) ≡ length (take (length c - (length c - 6)) (drop (length c - 6) c))
-as-long c room h l = rw (last-part c, length-drop, length-take-le 6 room l) (omega arith)
+as-long : (c led : List ℕ) → 6 ≤ length c → 6 ≤ length led → length (take 6 led) ≡ length (take (length c - (length c - 6)) (drop (length c - 6) c))
+as-long c led h l = rw (last-part c, length-drop, length-take-le 6 led l) (omega arith)
 
 sub-from : tie.Need-sub-from
 sub-from c = search needs
@@ -36,10 +36,10 @@ slice-relend-prefix-copy : tie.Need-slice-relend-prefix-copy
 slice-relend-prefix-copy c = search needs
 
 slice-aggregate-copy : tie.Need-slice-aggregate-copy
-slice-aggregate-copy c = front-count 6 (at-start c .args .room .now) (omega arith)
+slice-aggregate-copy c = front-count 6 (at-start c .args .led .now) (omega arith)
 
 copy-requires : tie.Need-copy-requires
-copy-requires c κs = let start = at-start c in omega (arith, as-long (start .args .bits .now) (start .args .room .now) (start .pre .0) (omega arith))
+copy-requires c κs = let start = at-start c in omega (arith, as-long (start .args .bits .now) (start .args .led .now) (start .pre .0) (omega arith))
 
 sub-copy-2 : tie.Need-sub-copy-2
 sub-copy-2 c = search needs
@@ -61,8 +61,8 @@ returns c =
     let all = c .before .before in
     let six = all .before .before .before .before in
     let start = at-start (six .before) in
-    led-put (start .args .bits .now) (drop 6 (start .args .room .now)) _ (start .pre .0)
-    (all-copied _ _ (six .copy .ensures .1) (as-long (start .args .bits .now) (start .args .room .now) (start .pre .0) (omega arith)) ∙ last-part (start .args .bits .now))
+    led-put (start .args .bits .now) (drop 6 (start .args .led .now)) _ (start .pre .0)
+    (all-copied _ _ (six .copy .ensures .1) (as-long (start .args .bits .now) (start .args .led .now) (start .pre .0) (omega arith)) ∙ last-part (start .args .bits .now))
     (copied (start .args .bits .now) _ (all .copy2 .ensures .1))
 
 pub with-lead-spec : {M : Type 1} → statement M

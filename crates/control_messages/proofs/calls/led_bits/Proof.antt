@@ -13,10 +13,10 @@ use Rattle.control_messages.proofs.calls.led_bits.Statement.{statement}
 use Rattle.control_messages.proofs.calls.led_bits.Tie as tie
 
 -- what stands in `bits` is attached, so that this many are led
-led : (a bits room : List ℕ) (t : ℕ) → bits ≡ attached a t → take (length bits + 6) room ≡ withLead bits → take (length a + 22) room ≡ withLead (attached a t)
-led a bits room t e h =
+led : (a bits out : List ℕ) (t : ℕ) → bits ≡ attached a t → take (length bits + 6) out ≡ withLead bits → take (length a + 22) out ≡ withLead (attached a t)
+led a bits out t e h =
     let long : length a + 22 ≡ length bits + 6 = omega (arith, ap length e, length-attached a t) in
-    ap (λ (n : ℕ). take n room) long ∙ h ∙ ap withLead e
+    ap (λ (n : ℕ). take n out) long ∙ h ∙ ap withLead e
 
 crc-attachment-requires : tie.Need-crc-attachment-requires
 crc-attachment-requires c κs = search needs

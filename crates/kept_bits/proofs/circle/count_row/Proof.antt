@@ -26,8 +26,11 @@ abbrev μ-loop : tie.MeasureT-loop
 abbrev at-start : tie.At-loop Inv-loop μ-loop → tie.Start Inv-loop μ-loop
 at-start c = c .before .before
 
+abbrev at-column : tie.After-column-unit-at Inv-loop μ-loop → tie.After-column-at Inv-loop μ-loop
+at-column c = c .before
+
 abbrev at-turn : tie.After-column-unit-at Inv-loop μ-loop → tie.In-loop Inv-loop μ-loop
-at-turn c = c .before .before
+at-turn c = at-column c .before
 
 abbrev at-unit : tie.After-struct-known Inv-loop μ-loop → tie.After-column-unit-at Inv-loop μ-loop
 at-unit c = c .before .before
@@ -50,7 +53,7 @@ head c =
     let t = at-turn c in
     let d = at-start (t .before) .args .d in
     ap (λ (u : Unit). u .begin) (c .column-unit-at .ensures)
-    ∙ ap (λ (q : ℕ). columnWithin d 0 q .begin) (c .before .column-at .ensures)
+    ∙ ap (λ (q : ℕ). columnWithin d 0 q .begin) (at-column c .column-at .ensures)
     ∙ column-first d (t .before .loop .p) (lies t .0)
 
 found : (c : tie.After-column-unit-at Inv-loop μ-loop) → let e = at-start (at-turn c .before) .args in c .column-unit-at .result .begin .0 + e .row < length (e .circle .now)

@@ -20,8 +20,11 @@ at-rows-of c = c .before
 abbrev at-column-at : tie.After-rows-before → tie.After-column-at
 at-column-at c = c .before
 
-abbrev at-rows-before : tie.After-struct-known2 → tie.After-rows-before
-at-rows-before c = c .before .before
+abbrev at-rows-before : tie.After-struct-known → tie.After-rows-before
+at-rows-before c = c .before
+
+abbrev at-both : tie.After-struct-known2 → tie.After-struct-known
+at-both c = c .before
 
 -- the rows that were found, and the function's entry
 abbrev entry : tie.After-rows-before → tie.Start
@@ -65,24 +68,24 @@ mul-t11 : tie.Need-mul-t11
 mul-t11 c = omega (arith, begun c)
 
 add-t11 : tie.Need-add-t11
-add-t11 c = let b = c .before in omega (arith, found b .few, found b .high, begun b)
+add-t11 c = let b = at-rows-before c in omega (arith, found b .few, found b .high, begun b)
 
 mul-t11-2 : tie.Need-mul-t11-2
-mul-t11-2 c = let b = c .before in omega (arith, found b .few, found b .high)
+mul-t11-2 c = let b = at-rows-before c in omega (arith, found b .few, found b .high)
 
 add-t12 : tie.Need-add-t12
-add-t12 c = let b = c .before in omega (arith, found b .few, found b .high, found b .column)
+add-t12 c = let b = at-rows-before c in omega (arith, found b .few, found b .high, found b .column)
 
 sub-t13 : tie.Need-sub-t13
-sub-t13 c = found (c .before) .behind
+sub-t13 c = found (at-rows-before c) .behind
 
 add-t11-2 : tie.Need-add-t11-2
-add-t11-2 c = let b = at-rows-before c in omega (arith, found b .few, begun b)
+add-t11-2 c = let b = at-rows-before (at-both c) in omega (arith, found b .few, begun b)
 
 returns : tie.Need-returns
 unfolding columnUnit dummies
 returns c =
-    let b = at-rows-before c in
+    let b = at-rows-before (at-both c) in
     let a = at-column-at b in
     let s = entry b in
     simp (first-head (rows (s .args .d)) (s .args .c), b .rows-before .ensures, a .column-at .ensures, at-rows-of a .rows-of .ensures)

@@ -17,6 +17,9 @@ use Rattle.rate_matching.proofs.mapping.head_in.Tie as tie
 abbrev at-column : tie.After-result → tie.After-column-unit
 at-column c = c .before
 
+abbrev at-start : tie.After-pair-unit → tie.Start
+at-start c = c .before .before
+
 abbrev at-pair : tie.After-struct-known → tie.After-pair-unit
 at-pair c = c .before
 
@@ -34,7 +37,7 @@ pair-unit-requires : tie.Need-pair-unit-requires
 pair-unit-requires c κs = let s = c .before in (s .pre .1, s .pre .0, s .pre .3)
 
 -- where the pair begins
-begun : (c : tie.After-pair-unit) → let e = c .before .before .args in c .pair-unit .result .begin .0 ≡ columnHead (rows (e .d)) 1 (e .c)
+begun : (c : tie.After-pair-unit) → let e = at-start c .args in c .pair-unit .result .begin .0 ≡ columnHead (rows (e .d)) 1 (e .c)
 unfolding pairUnit
 begun c = ap (λ (x : Unit). x .begin .0) (c .pair-unit .ensures)
 
@@ -44,14 +47,14 @@ sub-t7 c = omega arith
 add-t8 : tie.Need-add-t8
 unfolding rows
 add-t8 c =
-    let s = at-pair c .before .before in
+    let s = at-start (at-pair c) in
     let R = rows (s .args .d) in
     omega (arith, begun (at-pair c), pair-head R (s .args .c), mul-le-mul-right (2 * R) (s .pre .3), s .pre .1, s .pre .2)
 
 returns-2 : tie.Need-returns-2
 returns-2 c =
     let u = at-pair c in
-    let e = u .before .before .args in
+    let e = at-start u .args in
     ap circlePlace (ap (λ (n : ℕ). n + (e .stream - 1)) (begun u) ∙ by-turns (rows (e .d)) (e .stream) (e .c) (u .before .if1 .left))
 
 pub head-in-spec : {M : Type 1} → statement M

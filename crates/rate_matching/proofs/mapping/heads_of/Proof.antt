@@ -21,6 +21,9 @@ abbrev μ-loop : tie.MeasureT-loop
 μ-loop d stream first width heads₀ p₀ heads p = 32 - p
 
 -- the ways back
+abbrev at-start : tie.After-head-in Inv-loop μ-loop → tie.Start Inv-loop μ-loop
+at-start c = c .before
+
 abbrev at-first : tie.After-head-in2 Inv-loop μ-loop → tie.After-head-in Inv-loop μ-loop
 at-first c = c .before
 
@@ -37,32 +40,32 @@ abbrev at-units : tie.At-loop Inv-loop μ-loop → tie.After-head-in2 Inv-loop �
 at-units c = at-next (c .before)
 
 -- where the first two units begin
-begins : (c : tie.After-head-in2 Inv-loop μ-loop) → let e = at-first c .before .args in
+begins : (c : tie.After-head-in2 Inv-loop μ-loop) → let e = at-start (at-first c) .args in
     (at-first c .head-in .result .0 ≡ columnHead (rows (e .d)) (e .stream) 0) × (c .head-in2 .result .0 ≡ columnHead (rows (e .d)) (e .stream) 1)
 begins c = (ap (λ (x : CirclePlace). x .0) (at-first c .head-in .ensures), ap (λ (x : CirclePlace). x .0) (c .head-in2 .ensures))
 
-few : (c : tie.After-head-in2 Inv-loop μ-loop) → let e = at-first c .before .args in (columnHead (rows (e .d)) (e .stream) 0 ≤ 6177) × (headWidth (rows (e .d)) (e .stream) ≤ 386)
+few : (c : tie.After-head-in2 Inv-loop μ-loop) → let e = at-start (at-first c) .args in (columnHead (rows (e .d)) (e .stream) 0 ≤ 6177) × (headWidth (rows (e .d)) (e .stream) ≤ 386)
 unfolding rows
-few c = let s = at-first c .before in first-few (rows (s .args .d)) (s .args .stream) (omega (arith, s .pre .1)) (s .pre .2)
+few c = let s = at-start (at-first c) in first-few (rows (s .args .d)) (s .args .stream) (omega (arith, s .pre .1)) (s .pre .2)
 
-wide : (c : tie.After-head-in2 Inv-loop μ-loop) → let e = at-first c .before .args in c .head-in2 .result .0 - at-first c .head-in .result .0 ≡ headWidth (rows (e .d)) (e .stream)
-wide c = let e = at-first c .before .args in ap₂ (λ (a b : ℕ). b - a) (begins c .0) (begins c .1) ∙ first-wide (rows (e .d)) (e .stream)
+wide : (c : tie.After-head-in2 Inv-loop μ-loop) → let e = at-start (at-first c) .args in c .head-in2 .result .0 - at-first c .head-in .result .0 ≡ headWidth (rows (e .d)) (e .stream)
+wide c = let e = at-start (at-first c) .args in ap₂ (λ (a b : ℕ). b - a) (begins c .0) (begins c .1) ∙ first-wide (rows (e .d)) (e .stream)
 
 -- and the unit of the column
 far : (c : tie.After-column-at Inv-loop μ-loop) → let u = at-units (at-turn c .before) in c .column-at .result * (u .head-in2 .result .0 - at-first u .head-in .result .0) ≤ 12352
 far c =
     let t = at-turn c in
     let u = at-units (t .before) in
-    let e = at-first u .before .args in
+    let e = at-start (at-first u) .args in
     let low : c .column-at .result < 32 = rw (c .column-at .ensures) (column-rule (t .before .loop .p) (t .loop-test .taken) .0) in
     omega (arith, ap (λ (n : ℕ). c .column-at .result * n) (wide u), mul-le-mul-right (headWidth (rows (e .d)) (e .stream)) low, few u .1)
 
 unit : (c : tie.After-column-at Inv-loop μ-loop) → let u = at-units (at-turn c .before) in
-    let e = at-first u .before .args in
+    let e = at-start (at-first u) .args in
     at-first u .head-in .result .0 + c .column-at .result * (u .head-in2 .result .0 - at-first u .head-in .result .0) ≡ columnHead (rows (e .d)) (e .stream) (column (at-turn c .before .loop .p))
 unit c =
     let u = at-units (at-turn c .before) in
-    let e = at-first u .before .args in
+    let e = at-start (at-first u) .args in
     ap₂ (λ (a b : ℕ). a + c .column-at .result * (b - a)) (begins u .0) (begins u .1)
     ∙ side-by-side (rows (e .d)) (e .stream) (c .column-at .result)
     ∙ ap (columnHead (rows (e .d)) (e .stream)) (c .column-at .ensures)
@@ -71,10 +74,10 @@ head-in-requires : tie.Need-head-in-requires Inv-loop μ-loop
 head-in-requires c κs = (c .pre .0, c .pre .1, c .pre .2, omega arith)
 
 head-in-requires-2 : tie.Need-head-in-requires-2 Inv-loop μ-loop
-head-in-requires-2 c κs = let s = c .before in (s .pre .0, s .pre .1, s .pre .2, omega arith)
+head-in-requires-2 c κs = let s = at-start c in (s .pre .0, s .pre .1, s .pre .2, omega arith)
 
 sub-width : tie.Need-sub-width Inv-loop μ-loop
-sub-width c = let u = at-next c in let e = at-first u .before .args in omega (arith, begins u, heads-rise (rows (e .d)) (e .stream))
+sub-width c = let u = at-next c in let e = at-start (at-first u) .args in omega (arith, begins u, heads-rise (rows (e .d)) (e .stream))
 
 loop-holds : tie.Need-loop-holds Inv-loop μ-loop
 loop-holds c = finding-start refl
