@@ -36,6 +36,7 @@ start {L} {r} {out} h = let none_yet : L - L ≡ 0 = omega arith in record { fit
 
 pub next : {L r : ℕ} {out₀ out : List ℕ} {power : ℕ} → 0 < power → Putting L r out₀ out power
     → Putting L r out₀ (set out (L - 1 - (power - 1)) (bit_and (r / 2 ^ (power - 1)) 1)) (power - 1)
+next {L = L} {r = r} {out₀ = out₀} {out = out} {power = zero} h w = elim h [ ]
 next {L} {r} {out₀} {out} {power = suc n} h w = rw one_less record {
   fits = rw length-set w.fits;
   small = omega (arith, w.small);

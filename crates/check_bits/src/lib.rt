@@ -1,4 +1,6 @@
 // Check bits of clause 5.1.1: the remainder of a run of bits, and its bits put at the front of a slice.
+#![tactic(auto)]
+
 mod table;
 
 ghost use Rattle.std.specs.Prelude.{◌≡◌, ◌++◌, ◌+◌, ◌*◌, ◌%◌, ◌^◌, ◌≤◌, ◌<◌, length, get_or, take, drop};

@@ -52,7 +52,9 @@ pub decided_holds : (bs : List ℕ) → decided bs ≡ true → (among (holding 
 unfolding decided holding among all_are
 decided_holds [] h = absurd (false≢true h)
 decided_holds (b ∷ bs) h =
-    rw h (ap (λ (t : Bool). t || among b bs) (eq-eqb b b refl), λ c m. all_among b (b ∷ bs) (ap₂ ◌&&◌ (eq-eqb b b refl) h) c m)
+    let held : holding (b ∷ bs) ≡ b = rw h in
+    subst (λ (x : ℕ). (among x (b ∷ bs) ≡ true) × ((c : ℕ) → among c (b ∷ bs) ≡ true → c ≡ x)) (sym held)
+    (ap (λ (t : Bool). t || among b bs) (eq-eqb b b refl), λ c m. all_among b (b ∷ bs) (ap₂ ◌&&◌ (eq-eqb b b refl) h) c m)
 
 -- where two bits differ nothing is decided
 pub contradicted : (bs : List ℕ) (b c : ℕ) → among b bs ≡ true → among c bs ≡ true → (b ≡ c → ⊥) → decided bs ≡ false

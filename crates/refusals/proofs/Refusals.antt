@@ -94,6 +94,7 @@ pub ruleset listed = (here, later, farther)
 -- 0: no rule applies
 none_of : (rs : List Rule) → T (numbered rs) → first_of rs ≡ 0 → (r : Rule) → Listed r rs → r.bad ≡ false
 unfolding first_of
+none_of [] t e r w = elim w [ ]
 none_of (a ∷ rs) t e r w = by a.bad refl (numbered_cons a rs t).0 e (none_of rs (numbered_cons a rs t).1) r w
   where
     by : (b : Bool) → a.bad ≡ b → eqb a.number 0 ≡ false → given b a.number (first_of rs) ≡ 0

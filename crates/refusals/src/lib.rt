@@ -1,4 +1,5 @@
 // Refusals in order: a chain of or_else gives the number of the first rule that applies.
+#![tactic(auto)]
 
 ghost use Rattle.std.specs.Prelude.{◌≡◌};
 ghost use Rattle.refusals.specs.Refusals.{or_else};

@@ -88,17 +88,17 @@ pub parities_bits : {s : Registers} (c : List ℕ) → BitRegisters s → AreBit
 unfolding parities
 parities_bits [] h b i = b i
 parities_bits (x ∷ c) h b zero = parity_bit h (b 0)
-parities_bits (x ∷ c) h b (suc i) = parities_bits c (next_bits h (b 0)) (λ k. b (suc k)) i
+parities_bits {s = s} (x ∷ c) h b (suc i) = parities_bits {s = next s (x)} c (next_bits h (b 0)) (λ k. b (suc k)) i
 
 pub after_bits : {s : Registers} (c : List ℕ) → BitRegisters s → AreBits c → BitRegisters (after s c)
 unfolding after
 after_bits [] h b = h
-after_bits (x ∷ c) h b = after_bits c (next_bits h (b 0)) (λ k. b (suc k))
+after_bits {s = s} (x ∷ c) h b = after_bits {s = next s (x)} c (next_bits h (b 0)) (λ k. b (suc k))
 
 pub tailed_bits : {s : Registers} (n : ℕ) → BitRegisters s → BitRegisters (tailed n s)
 unfolding tailed
 tailed_bits zero h = h
-tailed_bits (suc n) h = tailed_bits n (next_bits h (feedback_bit h))
+tailed_bits {s = s} (suc n) h = tailed_bits {s = next s (feedback s)} n (next_bits h (feedback_bit h))
 
 pub x_tail_bit : {s : Registers} (n : ℕ) → BitRegisters s → x_tail n s < 2
 unfolding x_tail
