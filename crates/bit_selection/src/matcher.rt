@@ -195,11 +195,11 @@ fn repeat(ring: &[u8], out: &mut [u8])
     let mut left = out.len();
     while n <= left {
         let end = i + n;
-        bytes::copy(ring, &mut out[i..end]);
+        octets::copy(ring, &mut out[i..end]);
         i = end;
         left -= n;
     }
-    bytes::copy(&ring[..left], &mut out[i..]);
+    octets::copy(&ring[..left], &mut out[i..]);
 }
 
 // The same of a ring that is short beside `out`, by copies of many turns at once.

@@ -6,7 +6,7 @@ pub use allocation::{bad_allocation, bad_bits, bad_symbol, share_of};
 pub use buffer::share_for;
 
 // What a terminal is told to send, or is to be sent: Q_m, N_L, the redundancy version and G.
-#[derive(Drop)]
+#[derive(Clone, Copy)]
 pub struct Grant {
     pub modulation: usize,
     pub layers: usize,

@@ -11,7 +11,7 @@ pub(crate) fn crc_attachment(payload: &[u8], terminal: u16, bits: &mut [u8])
     ensures { bits.new ≡ attached payload.now terminal }
 {
     let end = payload.len();
-    bytes::copy(payload, &mut bits[..end]);
+    octets::copy(payload, &mut bits[..end]);
     let check = check_bits::crc16(0, payload) ^ (terminal as u32);
     check_bits::put_check_bits_16(check, &mut bits[end..]);
 }
@@ -22,8 +22,8 @@ pub(crate) fn with_lead(bits: &[u8], led: &mut [u8])
     ensures { take (length bits.now + 6) led.new ≡ with_lead bits.now }
 {
     let from = bits.len() - 6;
-    bytes::copy(&bits[from..], &mut led[..6]);
-    bytes::copy(bits, &mut led[6..]);
+    octets::copy(&bits[from..], &mut led[..6]);
+    octets::copy(bits, &mut led[6..]);
 }
 
 // The bits as a number, the first highest.

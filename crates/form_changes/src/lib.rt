@@ -11,14 +11,14 @@ use slot_calls::states::PER_BLOCK;
 use slots::State;
 
 // What a line asks of the form of the rooms: whether it changes it, and whether to four places a byte.
-#[derive(Drop)]
+#[derive(Clone, Copy)]
 pub struct Change {
     pub changes: bool,
     pub packs: bool,
 }
 
 // The form of the rooms after such a line, and the length of the row that answers it.
-#[derive(Drop)]
+#[derive(Clone, Copy)]
 pub struct FormStep {
     pub four: bool,
     pub written: usize,

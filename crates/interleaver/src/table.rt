@@ -55,7 +55,7 @@ const F2_LONG: [u16; 180] = [
 ];
 
 // A row that was searched for, counted from 0, and its K.
-#[derive(Drop)]
+#[derive(Clone, Copy)]
 pub struct Found {
     pub row: usize,
     pub size: usize,

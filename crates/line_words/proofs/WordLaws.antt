@@ -11,7 +11,7 @@ use lib.ListN.{length, get_or, take, drop, length-drop, drop_of_length-le}
 use lib.Seq.{drop-cons, drop-drop}
 use mir.Val.{bool_byte}
 use borrow.Author.Tests.{lt-ltb, le-ltb, ltb-true, ltb-false}
-use Rattle.bytes.specs.Bytes.{index_of, index_after}
+use Rattle.octets.specs.Bytes.{index_of, index_after}
 use Rattle.lines.specs.Text.{onto}
 use Rattle.line_words.specs.Words.{blank, words_of, word_at}
 use Rattle.line_words.specs.inner.Scan.{blank_from, words_from, first_from}

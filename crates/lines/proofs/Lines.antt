@@ -9,7 +9,7 @@ use lib.Dec.{eqb, leb}
 use lib.ListN.{length, take, drop, length-drop, drop_of_length-le}
 use lib.Seq.{drop-drop}
 use borrow.Author.Tests.{leb-true, leb-false}
-use Rattle.bytes.specs.Bytes.{index_of, index_after}
+use Rattle.octets.specs.Bytes.{index_of, index_after}
 use Rattle.lines.specs.Row.{newline}
 use Rattle.lines.specs.Text.{onto, lines_of, line_end, line_at, line_next}
 

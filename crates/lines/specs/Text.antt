@@ -1,7 +1,7 @@
 -- The lines of a text, what the sizes program prints for a text, and what one call of sizes_rows writes of that (01, "The sizes program").
 -- Assumes nothing.
 use Rattle.std.specs.Prelude.{cond, List, [], ◌∷◌, ◌++◌, ℕ, zero, suc, ◌+◌, ◌-◌, min, eqb, leb, length, take, drop}
-use Rattle.bytes.specs.Bytes.{index_of}
+use Rattle.octets.specs.Bytes.{index_of}
 use Rattle.lines.specs.declared.Progress.{Progress}
 use Rattle.lines.specs.Row.{newline, row_of, sizes_row}
 

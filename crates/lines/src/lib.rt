@@ -9,14 +9,14 @@ ghost use Rattle.lines.specs.Text.{line_end, header, row_room, progress_of, rows
 use segmentation::SizesAnswer;
 
 // What a line says: a number, or nothing that can be read.
-#[derive(Drop)]
+#[derive(Clone, Copy)]
 pub enum Line {
     Read(usize),
     Unreadable,
 }
 
 // Where a call of sizes_rows stopped: the first line that it has not answered, and the bytes that it wrote.
-#[derive(Drop)]
+#[derive(Clone, Copy)]
 pub struct Progress {
     pub next: usize,
     pub written: usize,
@@ -96,7 +96,7 @@ pub fn line_end(text: &[u8], from: usize) -> usize
     if text.len() < from {
         return from;
     }
-    bytes::scan::find(text, from, text.len(), NEWLINE)
+    octets::find(text, from, text.len(), NEWLINE)
 }
 
 // The start of the next line, or the text's end. A text's last line may lack its newline.
@@ -119,7 +119,7 @@ pub fn put_bytes(given: &[u8], out: &mut [u8], at: usize) -> usize
         return at;
     }
     let end = at + given.len();
-    bytes::copy(given, &mut out[at..end]);
+    octets::copy(given, &mut out[at..end]);
     end
 }
 
@@ -129,7 +129,7 @@ pub fn put_decimal(n: usize, out: &mut [u8], at: usize) -> usize
     ensures out_after { out.new ≡ put_at at (decimal_of n) out.old }
 {
     let mut digits = [0u8; 20];
-    let count = io::decimal(n as u64, &mut digits);
+    let count = octets::decimal(n as u64, &mut digits);
     put_bytes(&digits[..count], out, at)
 }
 

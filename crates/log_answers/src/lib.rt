@@ -7,7 +7,7 @@ use log_input::Line;
 use yard::Step;
 
 // The step that the last line made, and the line to go on with.
-#[derive(Drop)]
+#[derive(Clone, Copy)]
 pub struct Log {
     pub step: Step,
     pub line: Line,

@@ -4,7 +4,7 @@ ghost use Rattle.log_input.specs.Line.{Stands, unread_line, nothing_left, goes_o
 
 // A line of the text, from `from` up to `to`, where the text is read up to `end`: unfinished where `to` is `end`. `over` once the input is: then
 // nothing is left where `end` is 0.
-#[derive(Drop)]
+#[derive(Clone, Copy)]
 pub struct Line {
     pub from: usize,
     pub to: usize,

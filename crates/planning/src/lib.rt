@@ -5,13 +5,13 @@ ghost use Rattle.planning.specs.Least.{least_symbols};
 ghost use Rattle.planning.specs.Worst.{worst_number, worst_answer, need_by, need_in, Planned};
 
 // The least G of each of three transmissions, and of one alone.
-#[derive(Drop)]
+#[derive(Clone, Copy)]
 pub struct Worst {
     pub three: usize,
     pub one: usize,
 }
 
-#[derive(Drop)]
+#[derive(Clone, Copy)]
 pub enum WorstAnswer {
     Given(Worst),
     Refused(u8),

@@ -10,15 +10,15 @@ pub use mapping::{
 pub use shortened::{cut_at, matchable, turn_length, turn_of};
 
 // Which stream, 0 to 2, and the place in it, which runs to D.
-#[derive(Drop)]
+#[derive(Clone, Copy)]
 pub struct StreamPlace(pub usize, pub usize);
 
 // A place on the circle, which runs to 96·R.
-#[derive(Drop)]
+#[derive(Clone, Copy)]
 pub struct CirclePlace(pub usize);
 
 // Where a stream place stands in the matrix of clause 5.1.4.1.1, which is written row by row.
-#[derive(Drop)]
+#[derive(Clone, Copy)]
 pub struct MatrixPlace {
     pub row: usize,
     pub column: usize,
@@ -27,7 +27,7 @@ pub struct MatrixPlace {
 // A unit of the circle: a column of stream 0, or a column of streams 1 and 2 by turns, which begins at `begin`. Every place from `both` to `end` holds a bit,
 // and `both` holds the stream place `first`; row for row the stream place is 32 further. Before it, where stream 1 has dummies and filler, stream 2 stands
 // alone at every second place from `alone` on, which holds the stream place `early`; a column of stream 0 has no such place.
-#[derive(Drop)]
+#[derive(Clone, Copy)]
 pub struct Unit {
     pub begin: CirclePlace,
     pub alone: CirclePlace,
@@ -39,7 +39,7 @@ pub struct Unit {
 
 // One turn of a circle by its 64 units, which are the 32 columns of stream 0 and the 32 of streams 1 and 2: from unit `start` to unit `whole`, then the
 // first `rest` bits of unit `whole`, which the cut shortens, then from unit 0 to unit `start`.
-#[derive(Drop)]
+#[derive(Clone, Copy)]
 pub struct Turn {
     pub start: usize,
     pub whole: usize,

@@ -130,7 +130,7 @@ fn release(
     if check_bits::crc24a(0, &b[..end]) != 0 {
         return Answer::Refused(12);
     }
-    bytes::copy(&b[..a], out);
+    octets::copy(&b[..a], out);
     Answer::Done
 }
 

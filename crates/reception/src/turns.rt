@@ -32,7 +32,7 @@ pub(crate) fn meet_turns(bits: &[u8], ring: &mut [u8])
     ensures { ring.new ≡ ring_of (length ring.old) bits.now }
 {
     let n = ring.len();
-    bytes::copy(&bits[..n], ring);
+    octets::copy(&bits[..n], ring);
     let mut i = n;
     while n <= bits.len() - i {
         let end = i + n;

@@ -13,7 +13,7 @@ pub fn control_bits(message: u32, out: &mut [u8])
     while at < out.len() {
         let end = turn_end(at, out.len());
         let some = end - at;
-        bytes::copy(&bits[..some], &mut out[at..end]);
+        octets::copy(&bits[..some], &mut out[at..end]);
         at = end;
     }
 }

@@ -9,7 +9,7 @@ ghost use Rattle.report_code.specs.inner.Counted.{Counted};
 use super::block::{packed, turn_end};
 
 // The counts of a 1 and of a 0 at each of the 32 places.
-#[derive(Drop)]
+#[derive(Clone, Copy)]
 pub struct Counts {
     pub ones: [u16; 32],
     pub zeros: [u16; 32],

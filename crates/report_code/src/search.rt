@@ -8,7 +8,7 @@ use super::block::coded_word;
 use super::counts::{counted, plane_distance, planes_of};
 
 // The nearest message, how far it is, and whether another is as near.
-#[derive(Drop)]
+#[derive(Clone, Copy)]
 pub struct Found {
     pub message: u32,
     pub distance: u32,

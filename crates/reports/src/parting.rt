@@ -9,7 +9,7 @@ ghost use Rattle.reports.specs.inner.Read.{read_run};
 use super::refused::{bad_data, shape_number};
 
 // The number of a refusal, or 0 and the message.
-#[derive(Drop)]
+#[derive(Clone, Copy)]
 pub struct Read {
     pub number: u8,
     pub message: u32,

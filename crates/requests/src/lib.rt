@@ -8,7 +8,7 @@ ghost use Rattle.requests.specs.Request.{is_silent, right_words, right_terminal,
 use lines::Line;
 
 // What a line asks for.
-#[derive(Drop)]
+#[derive(Clone, Copy)]
 pub enum Verb {
     New,
     Open,
@@ -31,7 +31,7 @@ pub enum Verb {
 
 // What follows a verb: so many numbers, the second of them a terminal or not, one of them soft bits (its word, 0 for none), and then
 // BITS or not.
-#[derive(Drop)]
+#[derive(Clone, Copy)]
 pub struct Form {
     pub known: bool,
     pub numbers: usize,
@@ -41,7 +41,7 @@ pub struct Form {
 }
 
 // A line as a call: the verb, its numbers (0 for those that its form has not), and where its BITS start.
-#[derive(Drop)]
+#[derive(Clone, Copy)]
 pub struct Request {
     pub verb: Verb,
     pub numbers: [usize; 9],

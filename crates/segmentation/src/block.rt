@@ -59,7 +59,7 @@ fn fill_both(zeros: usize, first: &[u8], second: &[u8], from: usize, to: usize, 
     let at = zeros + (b - a);
     let start = from - a;
     let end = to - b;
-    bytes::copy(&second[start..end], &mut c[at..]);
+    octets::copy(&second[start..end], &mut c[at..]);
 }
 
 fn least(x: usize, y: usize) -> usize
@@ -74,7 +74,7 @@ fn fill(zeros: usize, part: &[u8], c: &mut [u8])
     ensures { c.new ≡ filled_with zeros part.now c.old }
 {
     clear(&mut c[..zeros]);
-    bytes::copy(part, &mut c[zeros..]);
+    octets::copy(part, &mut c[zeros..]);
 }
 
 // Writes 0 over all of `c`.

@@ -9,7 +9,7 @@ ghost use Rattle.segmentation.specs.Sizes.{bad_size, segments_of, segments_for, 
 use interleaver::table::{Found, row_for, size_at};
 
 // The segmentation of a block, in the names of the clause.
-#[derive(Drop)]
+#[derive(Clone, Copy)]
 pub struct Segments {
     // C
     pub blocks: usize,
@@ -26,7 +26,7 @@ pub struct Segments {
 }
 
 // The six numbers that 01 lists for a block size A.
-#[derive(Drop)]
+#[derive(Clone, Copy)]
 pub struct Sizes {
     pub blocks: usize,
     pub longs: usize,
@@ -37,7 +37,7 @@ pub struct Sizes {
 }
 
 // What the call Sizes answers.
-#[derive(Drop)]
+#[derive(Clone, Copy)]
 pub enum SizesAnswer {
     Given(Sizes),
     Refused(u8),

@@ -2,7 +2,7 @@
 
 // A slot's head: closed, or open for a terminal with a block of `size` bits (A), each code block having `share` places of the soft buffer:
 // 18,528 in an uplink, the floor of N_IR / C in a downlink, 0 in a closed head.
-#[derive(Drop)]
+#[derive(Clone, Copy)]
 pub struct Head {
     pub opened: bool,
     pub terminal: u16,
@@ -11,7 +11,7 @@ pub struct Head {
 }
 
 // S slots, each for M code blocks; heads from S upward are ignored.
-#[derive(Drop)]
+#[derive(Clone, Copy)]
 pub struct State {
     pub slots: usize,
     pub blocks: usize,
@@ -19,7 +19,7 @@ pub struct State {
 }
 
 // What a call answers.
-#[derive(Drop)]
+#[derive(Clone, Copy)]
 pub enum Answer {
     // accepted, with nothing to tell
     Done,
@@ -32,7 +32,7 @@ pub enum Answer {
 }
 
 // An answer and the state to hand to the next call.
-#[derive(Drop)]
+#[derive(Clone, Copy)]
 pub struct Outcome {
     pub answer: Answer,
     pub state: State,

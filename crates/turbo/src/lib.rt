@@ -14,7 +14,7 @@ use interleaver::{block, table};
 const NULL: u8 = 2;
 
 // The shift register of a constituent encoder, the newest bit first.
-#[derive(Drop)]
+#[derive(Clone, Copy)]
 pub struct Registers {
     pub d1: u8,
     pub d2: u8,
@@ -22,7 +22,7 @@ pub struct Registers {
 }
 
 // The tail bits of a constituent encoder: x_K, x_K+1, x_K+2 and z_K, z_K+1, z_K+2.
-#[derive(Drop)]
+#[derive(Clone, Copy)]
 pub struct Tail {
     pub x0: u8,
     pub x1: u8,
@@ -33,7 +33,7 @@ pub struct Tail {
 }
 
 // The tails of the first and the second encoder.
-#[derive(Drop)]
+#[derive(Clone, Copy)]
 pub struct Tails {
     pub first: Tail,
     pub second: Tail,
@@ -82,7 +82,7 @@ fn complete(d: &mut [u8], filler: usize, tail: [u8; 4])
     ensures { d.new ≡ completed filler d.old tail }
 {
     let k = d.len() - 4;
-    bytes::copy(&tail, &mut d[k..]);
+    octets::copy(&tail, &mut d[k..]);
     set_absent(d, filler);
 }
 
@@ -94,7 +94,7 @@ fn encode_parities(row: usize, c: &[u8], d1: &mut [u8], d2: &mut [u8]) -> Tails
     ensures tails { (result.first ≡ tail_of (first_end c.now)) × (result.second ≡ tail_of (second_end row c.now)) }
 {
     let k = c.len();
-    bytes::copy(c, d1);
+    octets::copy(c, d1);
     block::interleave(row, c, &mut d2[..k]);
     let ends = steps::encode_both(d1, d2);
     Tails {

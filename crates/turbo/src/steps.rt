@@ -7,7 +7,7 @@ ghost use Rattle.turbo.specs.inner.Eight.{bytes_of, registers_of, times, eights,
 use crate::Registers;
 
 // The registers of both encoders after their last bits.
-#[derive(Drop)]
+#[derive(Clone, Copy)]
 pub struct Ends {
     pub first: Registers,
     pub second: Registers,

@@ -9,7 +9,7 @@ use requests::Request;
 use slots::State;
 
 // The state and the form of the rooms to hand to the next line, and the length of the row that answers this one.
-#[derive(Drop)]
+#[derive(Clone, Copy)]
 pub struct Step {
     pub state: State,
     pub four: bool,

@@ -6,7 +6,7 @@ use Prim.Native.Nat.{ℕ, ◌+◌}
 use lib.ListN.{drop}
 use lib.Seq.{take-length}
 use borrow.Author.Rules.{rules}
-use Rattle.bytes.specs.Bytes.{index_of, slice}
+use Rattle.octets.specs.Bytes.{index_of, slice}
 use Rattle.line_words.specs.Words.{blank}
 use Rattle.line_words.specs.inner.Scan.{blank_from}
 use Rattle.line_words.proofs.word_end.Statement.{statement}

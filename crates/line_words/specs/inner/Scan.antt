@@ -1,7 +1,7 @@
 -- How the words of a line are looked for, by places: what the contracts of the functions behind `word` name.
 -- Assumes nothing.
 use Rattle.std.specs.Prelude.{cond, List, [], ℕ, ◌+◌, ltb, length, drop, get_or}
-use Rattle.bytes.specs.Bytes.{index_of}
+use Rattle.octets.specs.Bytes.{index_of}
 use Rattle.line_words.specs.Words.{blank, words_of}
 
 -- the place of the next blank from place `from` on, or of the line's end

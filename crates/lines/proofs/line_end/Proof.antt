@@ -7,7 +7,7 @@ use native.Mathlib.Nat.{add-zero}
 use native.Mathlib.Omega.{arith}
 use lib.ListN.{length, drop, drop_of_length-le}
 use lib.Seq.{take-length}
-use Rattle.bytes.specs.Bytes.{index_of, slice}
+use Rattle.octets.specs.Bytes.{index_of, slice}
 use Rattle.lines.specs.Row.{newline}
 use Rattle.lines.specs.Text.{line_end}
 use borrow.Author.Rules.{rules}

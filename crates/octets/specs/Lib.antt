@@ -1,0 +1,3 @@
+-- What the contracts of octets cite.
+pub mod Bytes
+pub mod Digits
