@@ -370,7 +370,7 @@ def in_record(body, asked):
     stripped = body.rstrip()
     at = opening(stripped)
     if at is None:
-        return body
+        return in_parts(body, asked)
     parts, left = [], stripped[at:]
     while len(parts) < len(asked):
         tuple_ = parts_of(left.strip())
@@ -386,8 +386,23 @@ def in_record(body, asked):
         parts += tuple_[:-1]
         left = tuple_[-1]
     if len(parts) != len(asked):
-        return body
+        return in_parts(body, asked)
     return stripped[:at] + "record { " + "; ".join(f"{a} = {b}" for a, b in zip(asked, parts)) + " }"
+
+
+def in_parts(body, asked):
+    """A term of another form, with its parts told apart, or the body as it is where a tactic makes it."""
+    lets, last = "", body.strip()
+    m = re.match(r"((?:let .*? in\s+)+)(?!.*\blet\b)(.*)\Z", last, re.S)
+    if m:
+        lets, last = m[1], m[2]
+    if last.startswith(("let ", "elim", "omega", "search", "grind", "λ", "cc", "record")) or last == "tt":
+        return body
+    rewrite = re.match(r"(rw|simp) ", last)
+    if rewrite:
+        return body
+    path = lambda i: "".join([".1"] * i) + (".0" if i < len(asked) - 1 else "")
+    return " " + lets + "let told = " + last + " in record { " + "; ".join(f"{a} = told{path(i)}" for i, a in enumerate(asked)) + " }"
 
 
 def opening(text):

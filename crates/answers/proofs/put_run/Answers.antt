@@ -1,0 +1,30 @@
+-- `answers::put_run` meets its contract: where the row fits, its pieces are put one after another.
+-- Assumes nothing.
+use mathlib.Core.Path.{sym}
+use mathlib.Core.List.{[], ◌∷◌, ◌++◌}
+use Prim.Native.Nat.{◌+◌, ◌<◌}
+use native.Mathlib.Omega.{arith}
+use lib.ListN.{length}
+use Rattle.lines.specs.Row.{tab, newline, row_of, end_of}
+use Rattle.lines.proofs.Putting.{put_none, end_none}
+use Rattle.answers.specs.Rows.{ok, digits_of, run_row}
+use Rattle.answers.proofs.Runs.{run_length, begin, piece, row_put}
+use Rattle.answers.proofs.put_run.Goals as goal
+
+pub returns-then-out-lt4 : goal.returns-then-out-lt4
+returns-then-out-lt4 c =
+    let args = c.args in
+    let short : length args.out.now < 0 + length (run_row args.bits.now) = omega (arith, run_length args.bits.now) in
+    record { value = sym (end_none _ _ _ short); out_after = sym (put_none _ _ _ short) }
+
+pub returns-then-out-bits : goal.returns-then-out-bits
+returns-then-out-bits c =
+    let args = c.args in
+    let short : length args.out.now < 0 + length (run_row args.bits.now) = omega (arith, run_length args.bits.now) in
+    record { value = sym (end_none _ _ _ short); out_after = sym (put_none _ _ _ short) }
+
+pub returns : goal.returns
+unfolding run_row row_of end_of
+returns c = let args = c.args in
+    let whole = begin (run_row args.bits.now) args.out.now (omega (arith, run_length args.bits.now)) in
+    let told = row_put (piece (newline ∷ []) c.put_bytes.ensures (piece (digits_of args.bits.now) c.put_digits-end.ensures (piece (ok ++ (tab ∷ [])) c.put_bytes-from.ensures whole))) in record { value = told.0; out_after = told.1 }

@@ -1,0 +1,15 @@
+-- `answers::put_sizes` meets its contract: the row of the answer's case.
+-- Assumes nothing.
+use Rattle.segmentation.specs.Sizes.{number_of, values_of}
+use Rattle.lines.specs.Row.{row_of, end_of}
+use Rattle.answers.specs.Rows.{accepted_row, refusal_row}
+use Rattle.answers.specs.SizesRow.{sizes_row}
+use Rattle.answers.proofs.put_sizes.Goals as goal
+
+pub returns-in-Given : goal.returns-in-Given
+unfolding sizes_row accepted_row values_of row_of end_of
+returns-in-Given c = rw c.answer-1.given.1 c.put_told.ensures
+
+pub returns-in-Refused : goal.returns-in-Refused
+unfolding sizes_row refusal_row number_of values_of
+returns-in-Refused c = rw c.answer-in-Refused-1.given.1 c.put_refusal.ensures

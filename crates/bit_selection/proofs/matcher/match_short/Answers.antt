@@ -1,0 +1,19 @@
+-- `matcher::match_short` meets its contract: what is needed of it fits the room.
+-- Assumes nothing.
+use native.Mathlib.Omega.{arith}
+use Rattle.laws.proofs.Parts.{front_count}
+use Rattle.bit_selection.proofs.Block.{room_holds, matched_is}
+use Rattle.bit_selection.proofs.matcher.match_short.Goals as goal
+
+pub put_turn-end-requires : goal.put_turn-end-requires
+put_turn-end-requires c = (c.requires.0, room_holds _ _ c.requires.1, c.requires.2)
+
+pub slice_bounds-fill-end : goal.slice_bounds-fill-end
+slice_bounds-fill-end c = let p = c.put_turn-end in front_count _ p.new.1.1.1.1.1.1.0 p.ensures.inside
+
+pub fill-requires : goal.fill-requires
+fill-requires c = let p = c.put_turn-end in omega (arith, p.ensures.some, front_count _ p.new.1.1.1.1.1.1.0 p.ensures.inside)
+
+pub returns : goal.returns
+returns c =
+    matched_is _ _ _ _ _ _ c.args.out.now c.requires.0 c.put_turn-end.ensures c.fill.ensures

@@ -1,0 +1,11 @@
+-- `call_rows::put_codeword` meets its contract: the row of what Build gave.
+-- Assumes nothing.
+use Rattle.call_rows.proofs.Wrote.{fresh, build_row_lem}
+use Rattle.call_rows.proofs.put_codeword.Goals as goal
+
+pub put_built-requires : goal.put_built-requires
+put_built-requires c = (build_row_lem _ _ _ (fresh _ c.code_room-code.ensures) c.build-number.ensures.number c.build-number.ensures.output c.build-number.auto.out).0
+
+pub returns : goal.returns
+returns c =
+    rw (build_row_lem _ _ _ (fresh _ c.code_room-code.ensures) c.build-number.ensures.number c.build-number.ensures.output c.build-number.auto.out).1 at c.put_built.ensures

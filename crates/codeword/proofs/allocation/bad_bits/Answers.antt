@@ -1,0 +1,35 @@
+-- `bad_bits` meets its contract: the two halves and the odd byte left of them say what the whole list says.
+-- Assumes nothing.
+use mathlib.Core.Path.{◌∙◌}
+use mathlib.Core.Logic.{⊎_elim}
+use Prim.Native.Nat.{◌+◌, ◌/◌}
+use native.Mathlib.Omega.{arith}
+use lib.ListN.{length}
+use Rattle.laws.proofs.Parts.{front_count}
+use Rattle.codeword.proofs.Seen.{none_left, last_left, left_bad, left_good, same_length}
+use Rattle.codeword.proofs.allocation.bad_bits.Goals as goal
+
+pub returns-then-bits-end-gt1 : goal.returns-then-bits-end-gt1
+returns-then-bits-end-gt1 c =
+    let bits = c.args.bits.now in
+    left_bad bits (length bits / 2) (last_left bits _ (omega arith) (omega arith) ∙ c.if-bits-end-gt1.true)
+
+pub slice_bounds-bad_halves-end : goal.slice_bounds-bad_halves-end
+slice_bounds-bad_halves-end c = front_count _ _ (omega arith)
+
+pub bad_halves-requires : goal.bad_halves-requires
+bad_halves-requires c =
+    let bits = c.args.bits.now in
+    same_length bits (length bits / 2) (omega arith)
+
+pub returns : goal.returns
+returns c =
+    let bits = c.args.bits.now in
+    let h = length bits / 2 in
+    c.bad_halves.ensures
+    ∙ left_good bits h (
+    ⊎_elim
+    (λ w. last_left bits (h + h) w.0.true (omega arith) ∙ w.2.false)
+    (λ w. none_left bits (h + h) w.false)
+    c.else-end-bits.branch
+    )

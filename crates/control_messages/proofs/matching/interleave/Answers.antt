@@ -1,0 +1,75 @@
+use mathlib.Core.Logic.{inl, inr, ⊎_elim}
+use Prim.Native.Nat.{◌+◌, ◌-◌, ◌*◌, ◌%◌}
+use native.Mathlib.Nat.{zero-mul}
+use native.Mathlib.Omega.{arith}
+use Rattle.rate_matching.specs.SubBlocks.{rows, dummies}
+use Rattle.rate_matching.proofs.Columns.{table_below}
+use Rattle.control_messages.proofs.Interleaving.{Taking, taking_start, taking_ends, index_lt, room_lt, met, next_row, next_column, fewer_row, fewer_column, all_passed}
+use Rattle.control_messages.proofs.matching.interleave.Goals.{In-loop-c, Joined-dummies-y, Start}
+use Rattle.control_messages.proofs.matching.interleave.Goals as goal
+
+-- inside the loop
+module _ (c : In-loop-c) where
+  abbrev entry : Start
+  entry = c
+
+-- where the branches have met again
+after : (c : Joined-dummies-y)
+    → Taking (entry c).args.d (entry c).args.coded.now (entry c).args.true.now c.if-dummies-y.true c.if-dummies-y.n
+    (c.loop-c.c * rows (entry c).args.d + c.loop-c.q + 1)
+unfolding rows dummies
+after c =
+    let inv = c.loop-c.invariant in
+    met (entry c).requires.0 inv.0 c.loop-c-test.true inv.2 inv.3
+    (⊎_elim (λ f. inl (f.0.true, f.2, f.3)) (λ f. inr (f.0.false, f.1, f.2)) c.if-dummies-y.branch)
+
+pub loop-c-init : goal.loop-c-init
+loop-c-init c = (c.columns-columns.ensures, omega arith, omega arith, rw zero-mul (taking_start c.requires.0 c.requires.1))
+
+pub overflow_cast-y : goal.overflow_cast-y
+overflow_cast-y c = omega (arith, table_below ((c.loop-c.c + 16) % 32) c.loop-c.invariant.0 (omega arith))
+
+pub overflow_add-y-in-loop-c : goal.overflow_add-y-in-loop-c
+overflow_add-y-in-loop-c c = omega (arith, table_below ((c.loop-c.c + 16) % 32) c.loop-c.invariant.0 (omega arith))
+
+pub bounds-coded-y : goal.bounds-coded-y
+unfolding rows dummies
+bounds-coded-y c =
+    let inv = c.loop-c.invariant in
+    let size = (entry c).requires.0 in
+    omega (arith, size.most, index_lt size inv.0 c.loop-c-test.true inv.2 inv.3 c.if-dummies-y.true)
+
+pub bounds-taken-n : goal.bounds-taken-n
+unfolding rows dummies
+bounds-taken-n c =
+    let inv = c.loop-c.invariant in
+    let size = (entry c).requires.0 in
+    omega (arith, size.most, inv.3.room, room_lt size inv.0 c.loop-c-test.true inv.2 inv.3 c.if-dummies-y.true)
+
+pub overflow_add-n : goal.overflow_add-n
+overflow_add-n c = omega (arith, c.loop-c.invariant.3.few, (entry c).requires.0.most)
+
+pub loop-c-smaller-then-q-rows : goal.loop-c-smaller-then-q-rows
+loop-c-smaller-then-q-rows c = let inv = c.loop-c.invariant in fewer_column _ _ _ c.loop-c-test.true inv.2 c.if-q-rows.true
+
+pub loop-c-preserved-then-q-rows : goal.loop-c-preserved-then-q-rows
+unfolding rows
+loop-c-preserved-then-q-rows c =
+    let inv = c.loop-c.invariant in
+    (inv.0, omega arith, omega arith, next_column _ _ c.if-q-rows.true (after (goal.at.loop-c-preserved-then-q-rows c).Joined-dummies-y))
+
+pub loop-c-smaller : goal.loop-c-smaller
+loop-c-smaller c = let inv = c.loop-c.invariant in fewer_row _ _ _ c.loop-c-test.true inv.2
+
+pub loop-c-preserved : goal.loop-c-preserved
+unfolding rows
+loop-c-preserved c =
+    let inv = c.loop-c.invariant in
+    (inv.0, inv.1, omega arith, next_row _ _ (after (goal.at.loop-c-preserved c).Joined-dummies-y))
+
+pub shape_of-taken : goal.shape_of-taken
+shape_of-taken c = c.loop-c.invariant.3.told.long
+
+pub returns : goal.returns
+unfolding rows
+returns c = let inv = c.loop-c.invariant in taking_ends c.requires.0 (all_passed _ _ _ c.loop-c-test.false) inv.3

@@ -1,0 +1,30 @@
+-- `lines::put_answer` meets its contract: the row of the answer's case.
+-- Assumes nothing.
+use native.Mathlib.Omega.{arith}
+use Rattle.segmentation.specs.Sizes.{values_of, number_of}
+use Rattle.lines.specs.Row.{decimal_of, answer_fields}
+use Rattle.lines.proofs.Decimal.{decimal_length}
+use Rattle.lines.proofs.Putting.{looked}
+use Rattle.lines.proofs.Refusals.{row_put}
+use Rattle.lines.proofs.put_answer.Goals as goal
+
+pub put_refusal-requires : goal.put_refusal-requires
+put_refusal-requires c =
+    let args = c.args in
+    let short = decimal_length args.a c.ranges.a.fits in
+    let is_put = looked args.at (decimal_of args.a) args.out.now (omega (arith, short)) c.put_decimal-end.ensures in
+    omega (arith, short, is_put.0, c.put_decimal-end.auto.out)
+
+pub returns-in-Given : goal.returns-in-Given
+unfolding answer_fields values_of
+returns-in-Given c = rw c.answer-1.given.1 c.put_numbers.ensures
+
+pub returns-in-Refused : goal.returns-in-Refused
+unfolding answer_fields number_of
+returns-in-Refused c =
+    let args = c.args in
+    let short = decimal_length args.a c.ranges.a.fits in
+    let first-put = c.put_decimal-end.ensures in
+    let rest = c.put_refusal in
+    rw c.answer-in-Refused-1.given.1
+    (row_put args.at (decimal_of args.a) _ args.out.now (omega (arith, short)) first-put rest.ensures rest.auto.1.0)

@@ -1,0 +1,36 @@
+-- `lines::put_row` meets its contract: the row of the line's case.
+-- Assumes nothing.
+use mathlib.Core.Path.{sym, ◌∙◌, ap}
+use mathlib.Core.List.{List}
+use Prim.Native.Nat.{ℕ, ◌+◌}
+use native.Mathlib.Omega.{arith}
+use lib.ListN.{length}
+use Rattle.lines.specs.Put.{put_over}
+use Rattle.lines.specs.Row.{dash}
+use Rattle.lines.proofs.Putting.{looked}
+use Rattle.lines.proofs.Refusals.{row_put}
+use Rattle.lines.proofs.Rows.{row_read, row_unreadable}
+use Rattle.lines.proofs.put_row.Goals as goal
+
+pub put_refusal-requires : goal.put_refusal-requires
+put_refusal-requires c =
+    let args = c.args in
+    let is_put = looked args.at dash args.out.now (omega arith) c.put_bytes-end.ensures in
+    omega (arith, is_put.0, c.put_bytes-end.auto.out)
+
+pub returns-in-Read : goal.returns-in-Read
+returns-in-Read c =
+    let args = c.args in
+    let said = sym c.read_number.ensures ∙ c.a-1.given.1 in
+    let row = row_read args.line.now said c.sizes_for.ensures in
+    let put = c.put_answer.ensures in
+    record { value = put.0 ∙ ap (λ (w : List ℕ). args.at + length w) row; out_after = put.1 ∙ ap (λ (w : List ℕ). put_over args.at w args.out.now) row }
+
+pub returns-in-Unreadable : goal.returns-in-Unreadable
+returns-in-Unreadable c =
+    let args = c.args in
+    let said = sym c.read_number.ensures ∙ c.enum_told-1.given.1 in
+    let row = row_unreadable args.line.now said in
+    let rest = c.put_refusal in
+    let put = row_put args.at dash 15 args.out.now (omega arith) c.put_bytes-end.ensures rest.ensures rest.auto.1.0 in
+    record { value = put.0 ∙ ap (λ (w : List ℕ). args.at + length w) row; out_after = put.1 ∙ ap (λ (w : List ℕ). put_over args.at w args.out.now) row }

@@ -1,0 +1,18 @@
+-- `log_answers::begun` meets its contract.
+-- Assumes nothing.
+use mathlib.Core.Path.{ap, ◌∙◌}
+use mathlib.Core.Bool.{false}
+use Rattle.slots.specs.declared.Outcome.{Outcome}
+use Rattle.log_input.specs.declared.Line.{Line}
+use Rattle.log_answers.specs.declared.Log.{Log}
+use Rattle.log_answers.specs.Turn.{first_log}
+use Rattle.log_answers.proofs.begun.Goals as goal
+
+abbrev log_of : Outcome → Line → Log
+log_of o l = record { step = record { state = o.state-1; four = false; written = 0 }; line = l }
+
+pub returns : goal.returns
+unfolding first_log
+returns c =
+    let new = c.new-outcome in
+    ap (log_of new.result) c.unread.ensures ∙ ap (λ (o : Outcome). log_of o _) new.ensures

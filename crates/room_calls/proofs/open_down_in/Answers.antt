@@ -1,0 +1,11 @@
+-- `room_calls::open_down_in` meets its contract: the call of each form.
+-- Assumes nothing.
+use Rattle.packing.specs.Store.{places_in, in_form}
+use Rattle.room_calls.proofs.open_down_in.Goals as goal
+
+pub returns-then-four : goal.returns-then-four
+returns-then-four c = rw c.if-four.true c.open_down_packed.ensures
+
+pub returns-else-four : goal.returns-else-four
+unfolding places_in in_form
+returns-else-four c = rw c.if-four.false c.open_down.ensures

@@ -1,0 +1,10 @@
+-- `block::filler_of` meets its contract: each return is a case of it.
+-- Assumes nothing.
+use borrow.Author.Tests.{eq-eqb, ne_eqb}
+use Rattle.segmentation.proofs.block.filler_of.Goals as goal
+
+pub returns-then-r-eq0 : goal.returns-then-r-eq0
+returns-then-r-eq0 c = rw (eq-eqb _ _ c.if-r-eq0.true)
+
+pub returns-else-r-eq0 : goal.returns-else-r-eq0
+returns-else-r-eq0 c = rw (ne_eqb _ _ c.if-r-eq0.false)

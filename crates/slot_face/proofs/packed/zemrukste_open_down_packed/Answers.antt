@@ -1,0 +1,10 @@
+-- `packed::zemrukste_open_down_packed` meets its contract: Open for a downlink on the state that the bytes stand for and the places that the store keeps, and the head that it leaves.
+-- Assumes nothing.
+use Rattle.slot_face.proofs.Told.{numbered, handed}
+use Rattle.slot_face.proofs.packed.zemrukste_open_down_packed.Goals as goal
+
+pub returns : goal.returns
+returns c =
+    let made = c.state_in-state.ensures in
+    let told = rw made at c.open_down_packed-outcome.ensures.value in
+    record { number = numbered told c.finish.ensures.value; state = handed told _ _ c.finish.ensures.bytes_after; stored = rw made at c.open_down_packed-outcome.ensures.store_after }

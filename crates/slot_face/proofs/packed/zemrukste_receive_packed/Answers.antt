@@ -1,0 +1,10 @@
+-- `packed::zemrukste_receive_packed` meets its contract: Receive on the state that the bytes stand for and the places that the store keeps, and its answer in two numbers.
+-- Assumes nothing.
+use Rattle.slot_face.proofs.Told.{numbered, valued}
+use Rattle.slot_face.proofs.packed.zemrukste_receive_packed.Goals as goal
+
+pub returns : goal.returns
+returns c =
+    let made = c.state_in.ensures in
+    let told = rw made at c.receive_packed-outcome.ensures.answer in
+    record { number = numbered told c.tell.ensures.value; stored = rw made at c.receive_packed-outcome.ensures.stored; count = valued told _ c.tell.ensures.count_after }

@@ -1,0 +1,42 @@
+-- `turbo::encode_parities` meets its contract: the bits are copied to the front of one stream, interleaved into the front of the other, and
+-- encoded there.
+-- Assumes nothing.
+use mathlib.Core.Path.{◌≡◌, refl, sym, ◌∙◌, ap}
+use mathlib.Core.List.{List, ◌++◌}
+use Prim.Native.Nat.{ℕ, ◌%◌}
+use native.Mathlib.Omega.{arith}
+use lib.ListN.{length, drop}
+use Rattle.interleaver.specs.Place.{interleaved}
+use Rattle.interleaver.proofs.Into.{length_interleaved}
+use Rattle.interleaver.proofs.Rows.{row_keeps}
+use Rattle.laws.proofs.Copied.{copied}
+use Rattle.laws.proofs.Parts.{front_count}
+use Rattle.turbo.specs.Streams.{first_end, second_end}
+use Rattle.turbo.specs.Encode.{tail_of}
+use Rattle.turbo.proofs.Completing.{front_interleaved}
+use Rattle.turbo.proofs.InEights.{begun, reached, front_outputs, front_after}
+use Rattle.turbo.proofs.encode_parities.Goals as goal
+
+pub slice_bounds-interleave-end-2 : goal.slice_bounds-interleave-end-2
+slice_bounds-interleave-end-2 c = front_count _ _ (omega arith)
+
+pub returns : goal.returns
+unfolding first_end second_end
+returns c =
+    let row = c.args.row in
+    let bits = c.args.c.now in
+    let d2 = c.args.d2.now in
+    let whole : length bits % 8 ≡ 0 = ap (λ (n : ℕ). n % 8) c.requires.1 ∙ (row_keeps row c.requires.0).bytes in
+    let front = front_interleaved row bits d2 c.requires.0 c.requires.1 (omega arith) c.interleave.ensures in
+    let first = begun bits c.args.d1.now refl c.requires.2 (copied bits _ c.copy.ensures.after) in
+    let second =
+    begun (interleaved row bits) d2 (length_interleaved row bits ∙ sym c.requires.1) c.requires.3 (ap (λ (l : List ℕ). l ++ drop (length bits) d2) front) in
+    let all = reached whole first second in
+    let said = c.encode_both-ends.ensures in record {
+      first = said.0 ∙ front_outputs all first;
+      second = said.1.0 ∙ front_outputs all second;
+      tails = (
+        c.Tail-of.ensures ∙ ap tail_of (said.1.1.0 ∙ front_after all first),
+        c.tail_of-2.ensures ∙ ap tail_of (said.1.1.1 ∙ front_after all second),
+      );
+    }

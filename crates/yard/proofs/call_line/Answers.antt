@@ -1,0 +1,26 @@
+-- `yard::call_line` meets its contract: the call has the line's BITS, by the laws of `Given` and `Calls`.
+-- Assumes nothing.
+use native.Mathlib.Omega.{arith}
+use Rattle.laws.proofs.Parts.{front_count}
+use Rattle.requests.specs.Request.{longest_line}
+use Rattle.call_rows.proofs.Wrote.{fresh}
+use Rattle.yard.proofs.Given.{count_fits, given_bits, none_given}
+use Rattle.yard.proofs.Calls.{line_called}
+use Rattle.yard.proofs.call_line.Goals as goal
+
+pub returns-then-line-from : goal.returns-then-line-from
+returns-then-line-from c = let told = line_called c.args.line.now c.requires (λ short. none_given c.args.line.now c.args.request.bits c.if-line-from.true) _ _ _ _ c.call_with.ensures in record { value = told.0; store_after = told.1.0; out_after = told.1.1 }
+
+pub slice_bounds-given-end : goal.slice_bounds-given-end
+slice_bounds-given-end c =
+    let bits = c.read_bits-count in
+    omega (arith, count_fits c.args.line.now c.args.request.bits c.bits_buffer-given.result bits.ensures.0, bits.auto.1.1.0)
+
+pub slice_bounds-call_with-end-2 : goal.slice_bounds-call_with-end-2
+slice_bounds-call_with-end-2 c = front_count _ _ (array-share-prefix-given c)
+
+pub returns : goal.returns
+returns c = let bits = c.read_bits-count in
+    let told = line_called c.args.line.now c.requires
+    (λ short. given_bits c.args.line.now c.args.request.bits _ bits.ensures.0 bits.ensures.1 (omega (arith, short, fresh longest_line c.bits_buffer-given.ensures)))
+    _ _ _ _ c.call_with-2.ensures in record { value = told.0; store_after = told.1.0; out_after = told.1.1 }
