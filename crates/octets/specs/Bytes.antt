@@ -1,5 +1,5 @@
 -- Where a byte stands in a list of bytes.
-use Rattle.std.specs.Prelude.{Bool, true, false, List, [], ◌∷◌, ℕ, zero, suc, eqb}
+use Rattle.std.specs.Prelude.{Bool, true, false, List, [], ◌∷◌, ℕ, suc, eqb}
 
 -- the place in a list whose head is looked at first: 0 where the head is the one, else one behind its place in the rest
 unfoldable pub index_after : Bool → ℕ → ℕ

@@ -1,5 +1,5 @@
 -- No such byte has been passed, so that the place of the first one is as it was from the start.
-use Rattle.std.proofs.Common.{◌≡◌, ℕ, List, ◌+◌, ◌≤◌, ◌<◌, ◌-◌, length, take, drop, slice_index}
+use Rattle.std.proofs.Common.{◌≡◌, ℕ, List, ◌+◌, ◌≤◌, ◌<◌, ◌-◌, take, drop, slice_index}
 use Rattle.octets.specs.Bytes.{index_of}
 use Rattle.octets.proofs.find.Given as goal
 
