@@ -1,4 +1,6 @@
 // The answers of a replayed log as rows of text: `ok` or `refused`, and what comes with it, parted by tabs.
+#![tactic(auto)]
+
 ghost use Rattle.std.specs.Prelude.{◌≡◌, ◌∷◌, [], ◌++◌, ◌+◌, ◌≤◌, leb, length};
 ghost use Rattle.lines.specs.Numbers.{numbers_row};
 ghost use Rattle.lines.specs.Put.{put_at, end_at};

@@ -1,4 +1,6 @@
 // The bits of one turn put on a code block's circle at the places that they were taken from: bit selection, clause 5.1.4.1.2, from the receiver's side.
+#![tactic(auto)]
+
 mod runs;
 mod units;
 

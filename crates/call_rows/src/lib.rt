@@ -1,4 +1,6 @@
 // The rows of the calls that give bits: Read, Streams and Build.
+#![tactic(auto)]
+
 ghost use Rattle.std.specs.Prelude.{◌≡◌, ◌+◌, ◌-◌, ◌*◌, ◌≤◌, length, take, drop, replicate};
 ghost use Rattle.codeword.specs.Shares.{grant};
 ghost use Rattle.packing.specs.Store.{places_in};

@@ -20,14 +20,14 @@ divide (suc n) g (a ∷ p) = divide n g (take_away a g p)
 abbrev pub LeavesNothing : List ℕ → List ℕ → List ℕ → Type 0
 LeavesNothing g a p = divide (length a) g (a ++ p) ≡ replicate (length g) 0
 
--- the powers of D in g_crc24a(D) and g_crc24b(D) as the clause lists them, the top term D^24 left off
+-- the powers of D in gCRC24A(D) and gCRC24B(D) as the clause lists them, the top term D^24 left off
 abbrev pub powers_crc24a : List ℕ
 powers_crc24a = 23 ∷ 18 ∷ 17 ∷ 14 ∷ 11 ∷ 10 ∷ 7 ∷ 6 ∷ 5 ∷ 4 ∷ 3 ∷ 1 ∷ 0 ∷ []
 
 abbrev pub powers_crc24b : List ℕ
 powers_crc24b = 23 ∷ 6 ∷ 5 ∷ 1 ∷ 0 ∷ []
 
--- those of g_crc16(D), its top term D^16 left off
+-- those of gCRC16(D), its top term D^16 left off
 abbrev pub powers_crc16 : List ℕ
 powers_crc16 = 12 ∷ 5 ∷ 0 ∷ []
 

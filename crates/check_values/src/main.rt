@@ -1,4 +1,6 @@
 // The published check values of the three generators: the check of the nine bytes 123456789, by the core.
+#![tactic(auto)]
+
 use libc::STDOUT_FILENO;
 
 fn main() {

@@ -7,7 +7,7 @@ use Rattle.codeword.specs.declared.Grant.{Grant}
 abbrev pub grant : ℕ → ℕ → ℕ → ℕ → Grant
 grant Q N v G = record { modulation = Q; layers = N; version = v; bits = G }
 
--- G' = G / (N_L-as-Q_m)
+-- G' = G / (N_L·Q_m)
 unfoldable pub symbols : ℕ → ℕ → ℕ → ℕ
 symbols Q N G = G / (N * Q)
 

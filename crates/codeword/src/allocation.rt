@@ -37,7 +37,7 @@ pub fn bad_symbol(q: usize, n: usize) -> bool
     bad_layers(n)
 }
 
-// Number 3 for C code blocks. Q and N are looked at before anything is divided by N.Q.
+// Number 3 for C code blocks. Q and N are looked at before anything is divided by N·Q.
 pub fn bad_allocation(blocks: usize, q: usize, n: usize, g: usize) -> bool
     ensures { result ≡ bad_allocation blocks q n g }
 {

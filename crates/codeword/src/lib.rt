@@ -1,4 +1,6 @@
 // The codeword of a transport block: clauses 5.1.4.1.2 (shares, the soft buffer) and 5.1.5, and what 01 asks of a grant.
+#![tactic(auto)]
+
 mod allocation;
 mod buffer;
 

@@ -1,4 +1,6 @@
 // Downlink control messages, clause 5.3.3 from the attached check onward: the message of a payload for a terminal, and whose a received one is.
+#![tactic(auto)]
+
 mod attachment;
 mod calls;
 mod coding;

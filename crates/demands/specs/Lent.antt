@@ -5,7 +5,7 @@ use Rattle.slots.specs.declared.State.{State}
 use Rattle.slots.specs.State.{head_at_lem}
 use Rattle.demands.specs.Ranges.{Shape}
 
--- S from 1 to 8, M from 1 to 5, and a store of at least S-as-M-18,528 bytes
+-- S from 1 to 8, M from 1 to 5, and a store of at least S·M·18,528 bytes
 pub record New (S M : ℕ) (store : List ℕ) : Type 0 where
   pub shape : Shape S M
   pub long : S * (M * 18528) ≤ length store

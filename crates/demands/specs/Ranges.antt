@@ -26,7 +26,7 @@ pub record Symbol (Q N : ℕ) : Type 0 where
   pub modulation : (Q ≡ 2) ⊎ ((Q ≡ 4) ⊎ (Q ≡ 6))
   pub layers : Within 1 4 N
 
--- G: at most 172,800, a multiple of N-as-Q, and G / (N-as-Q) at least C, the number of code blocks
+-- G: at most 172,800, a multiple of N·Q, and G / (N·Q) at least C, the number of code blocks
 pub record Length (C Q N G : ℕ) : Type 0 where
   pub most : G ≤ 172800
   pub multiple : G % (N * Q) ≡ 0

@@ -1,4 +1,6 @@
 // The face to C: what include/zemrukste.h declares beside the slots, thin over the proved libraries.
+#![tactic(auto)]
+
 mod control;
 
 ghost use Rattle.std.specs.Prelude.{◌++◌, ◌≡◌, length};

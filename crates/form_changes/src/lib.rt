@@ -1,4 +1,6 @@
 // Every room of a state changes its form, from one of two stores into the other (02, E7), and the line of the yard's log that asks for it is answered.
+#![tactic(auto)]
+
 mod line;
 
 ghost use Rattle.std.specs.Prelude.{◌≡◌, cond, not, true, false, ◌*◌, ◌≤◌, length};

@@ -1,4 +1,6 @@
 // The call that a line of the yard's log asks for, by its verb, on a state and the rooms in either form.
+#![tactic(auto)]
+
 ghost use Rattle.std.specs.Prelude.{◌≡◌, length};
 ghost use Rattle.slots.specs.Calls.{open_down_outcome, open_down_store};
 ghost use Rattle.packing.specs.Store.{places_in, in_form};

@@ -1,4 +1,6 @@
 // The row that tells the call of a line of the yard's log, by its verb.
+#![tactic(auto)]
+
 ghost use Rattle.std.specs.Prelude.{◌≡◌};
 ghost use Rattle.packing.specs.Store.{places_in};
 ghost use Rattle.lines.specs.Put.{put_at, end_at};

@@ -1,4 +1,6 @@
 // The words of a line: runs of bytes parted by single blanks.
+#![tactic(auto)]
+
 ghost use Rattle.std.specs.Prelude.{◌≡◌, length, ◌≤◌};
 ghost use Rattle.line_words.specs.Words.{words_of, word_at, same_bytes, is_run, bit_of};
 ghost use Rattle.line_words.specs.inner.Scan.{blank_from, first_from};

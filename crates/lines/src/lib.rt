@@ -1,4 +1,6 @@
 // Lines of decimal numbers in, tab-parted rows out: the text side of the sizes program of 01.
+#![tactic(auto)]
+
 ghost use Rattle.std.specs.Prelude.{◌≡◌, cond, ◌∷◌, [], map, ◌+◌, ◌*◌, ◌≤◌, min, length};
 ghost use Rattle.lines.specs.Line.{line_of, read_on};
 ghost use Rattle.lines.specs.Numbers.{put_numbers, end_numbers};

@@ -1,4 +1,6 @@
 // The answers to a log as it comes in: a turn takes what a read brought, answers the line that stands there and goes on to the next one.
+#![tactic(auto)]
+
 ghost use Rattle.std.specs.Prelude.{◌≡◌, ◌≤◌, ◌<◌, length};
 ghost use Rattle.log_input.specs.Line.{Stands};
 ghost use Rattle.log_answers.specs.Turn.{first_log, step_answered, plain_answered, packed_answered, out_answered, log_turned, text_turned, plain_turned, packed_turned, out_turned, turns_left};

@@ -1,4 +1,6 @@
 // The lines of a log as they come in from standard input: where the next one stands, what is kept of an unfinished one, what a read adds to it.
+#![tactic(auto)]
+
 ghost use Rattle.std.specs.Prelude.{◌≡◌, ◌≤◌, ◌<◌, length};
 ghost use Rattle.log_input.specs.Line.{Stands, unread_line, nothing_left, goes_on_lem, none_left, line_in, following, settled, text_settled, line_after, text_after, last_line, text_ended, line_read, text_read, outside, line_now, text_now};
 

@@ -1,4 +1,6 @@
 // The text of a log that is read in pieces: its unfinished line goes to the front, and the next read goes on behind it.
+#![tactic(auto)]
+
 ghost use Rattle.std.specs.Prelude.{◌≡◌, ◌++◌, ◌-◌, ◌≤◌, min, length, take, drop};
 ghost use Rattle.log_text.specs.Unfinished.{most_kept, unfinished, ends_in_return};
 

@@ -1,4 +1,6 @@
 // Rooms a quarter the size: four places in a byte, the first in the top two bits, and the change of form of one room, both ways.
+#![tactic(auto)]
+
 mod opening;
 mod small;
 

@@ -6,7 +6,7 @@ use Rattle.std.specs.Prelude.{ℕ, zero, suc, ◌+◌, ◌-◌, ◌*◌, ◌/◌
 unfoldable pub rounded_up : ℕ → ℕ → ℕ
 rounded_up step need = (need + (step - 1)) / step
 
--- the least G' that gives code block r of C so many times N-as-Q = step bits as it needs: the later code blocks have the larger shares
+-- the least G' that gives code block r of C so many times N·Q = step bits as it needs: the later code blocks have the larger shares
 unfoldable pub symbols_for : (ℕ → ℕ) → ℕ → ℕ → ℕ → ℕ
 symbols_for need C step r = C * rounded_up step (need r) - r
 

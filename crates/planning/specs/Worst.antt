@@ -49,7 +49,7 @@ need_by alone K F = cond alone (whole K F) (quarter K)
 unfoldable pub need_in : Bool → ℕ → ℕ → ℕ
 need_in alone A r = cond alone (need_of_one A r) (need_of_three A r)
 
--- a block of A bits, A in range, and an allocation unit of `step` = N-as-Q bits
+-- a block of A bits, A in range, and an allocation unit of `step` = N·Q bits
 pub record Planned (A step : ℕ) : Type 0 where
   pub size : bad_size A ≡ false
   pub some : 0 < step

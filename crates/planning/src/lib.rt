@@ -1,4 +1,6 @@
 // How many repeats at worst: the least G of three transmissions, versions 0, 1 and 3, and of one alone, that surely bring a block.
+#![tactic(auto)]
+
 ghost use Rattle.std.specs.Prelude.{◌≡◌, ◌+◌, ◌≤◌, max};
 ghost use Rattle.segmentation.specs.Segmentation.{blocks};
 ghost use Rattle.planning.specs.Least.{least_symbols};

@@ -1,4 +1,6 @@
 // The places of rate matching, clause 5.1.4.1: a place in a stream and a place on the circle are two types, crossed only by the mapping functions.
+#![tactic(auto)]
+
 mod mapping;
 mod shortened;
 pub mod table;

@@ -1,4 +1,6 @@
 // The call Read of 01, on rooms of either form.
+#![tactic(auto)]
+
 mod calls;
 mod room;
 

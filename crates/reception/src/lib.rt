@@ -1,4 +1,6 @@
 // The call Receive of 01, for an uplink and, with a circle that is cut, for a downlink (02).
+#![tactic(auto)]
+
 mod code_blocks;
 mod packed;
 mod parts;

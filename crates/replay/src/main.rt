@@ -1,4 +1,6 @@
 // Replays a log of the yard: each line of standard input is one call of 01 or a change of form, and its answer one line of standard output.
+#![tactic(auto)]
+
 ghost use Rattle.std.specs.Prelude.{◌≤◌, length};
 
 use libc::{STDERR_FILENO, STDIN_FILENO, STDOUT_FILENO};
@@ -17,7 +19,7 @@ fn text_buffer() -> [u8; 262144] {
     [0; 262144]
 }
 
-// For rooms with S.M at most 3; a larger S.M meets number 5.
+// For rooms with S·M at most 3; a larger S·M meets number 5.
 fn plain_store() -> [u8; 55584] {
     [0; 55584]
 }

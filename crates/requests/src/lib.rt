@@ -1,4 +1,6 @@
 // A line of the yard's log, read into the call that it stands for.
+#![tactic(auto)]
+
 mod verbs;
 
 ghost use Rattle.std.specs.Prelude.{◌≡◌, cond, ◌≤◌, leb, length};

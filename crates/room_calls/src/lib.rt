@@ -1,4 +1,6 @@
 // The calls on rooms in either form: a place a byte, or four places a byte.
+#![tactic(auto)]
+
 ghost use Rattle.std.specs.Prelude.{◌≡◌, length};
 ghost use Rattle.slots.specs.Calls.{open_outcome, open_store, open_down_outcome, open_down_store, receive_outcome, receive_store, read_outcome, read_output, streams_outcome, streams_output};
 ghost use Rattle.packing.specs.Store.{places_in, in_form};

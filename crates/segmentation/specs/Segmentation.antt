@@ -15,11 +15,11 @@ check_length B = cond (leb B Z) 0 24
 unfoldable pub blocks : ℕ → ℕ
 blocks B = cond (leb B Z) 1 ((B + 6119) / 6120)
 
--- B' = B + C-as-L
+-- B' = B + C·L
 unfoldable pub with_checks : ℕ → ℕ
 with_checks B = B + blocks B * check_length B
 
--- the first row from i on, among n, whose K has C-as-K ≥ need
+-- the first row from i on, among n, whose K has C·K ≥ need
 unfoldable pub first_row : ℕ → ℕ → ℕ → ℕ → ℕ
 first_row C need i zero = i
 first_row C need i (suc n) = elim (leb need (C * size_at i)) [ true ↦ i | false ↦ first_row C need (suc i) n ]
@@ -28,7 +28,7 @@ first_row C need i (suc n) = elim (leb need (C * size_at i)) [ true ↦ i | fals
 unfoldable pub long_row : ℕ → ℕ
 long_row B = first_row (blocks B) (with_checks B) 0 row_count
 
--- K+, the minimum K in table 5.1.3-3 such that C-as-K ≥ B'
+-- K+, the minimum K in table 5.1.3-3 such that C·K ≥ B'
 unfoldable pub long : ℕ → ℕ
 long B = size_at (long_row B)
 

@@ -1,4 +1,6 @@
 // Code block segmentation of clause 5.1.2.
+#![tactic(auto)]
+
 pub mod block;
 
 ghost use Rattle.std.specs.Prelude.{◌≡◌, ◌+◌, ◌*◌, ◌≤◌, ◌<◌};
@@ -145,11 +147,11 @@ fn several(b: usize) -> Segments
     }
 }
 
-// The first row of the table with typeof.blocks.K ≥ need.
+// The first row of the table with blocks·K ≥ need.
 fn first_row(blocks: usize, need: usize) -> Found
     requires { (0 < blocks) × (blocks ≤ 5) × (need ≤ blocks * 6144) }
     ensures { (result.row ≡ first_row blocks need 0 row_count) × (result.size ≡ size_at result.row) }
 {
-    // typeof.blocks.K ≥ need says the same as K ≥ the ceiling of need / blocks
+    // blocks·K ≥ need says the same as K ≥ the ceiling of need / blocks
     row_for((need + (blocks - 1)) / blocks)
 }

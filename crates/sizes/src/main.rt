@@ -1,4 +1,6 @@
 // The sizes program of 01: block sizes in, one a line, and for each a row of its segmentation out.
+#![tactic(auto)]
+
 ghost use Rattle.std.specs.Prelude.{◌≤◌, length};
 ghost use Rattle.lines.specs.Text.{row_room};
 

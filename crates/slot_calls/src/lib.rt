@@ -1,4 +1,6 @@
 // The calls New, Open for either link, and Close, and what every call on slots asks of a state first.
+#![tactic(auto)]
+
 mod opening;
 pub mod states;
 

@@ -1,4 +1,5 @@
 // The slots of 01: a state by value, and a store of rooms that the caller lends.
+#![tactic(auto)]
 
 // A slot's head: closed, or open for a terminal with a block of `size` bits (A), each code block having `share` places of the soft buffer:
 // 18,528 in an uplink, the floor of N_IR / C in a downlink, 0 in a closed head.

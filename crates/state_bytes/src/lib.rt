@@ -1,4 +1,6 @@
 // The state of the slots in the bytes that a C caller keeps, and what a call leaves in them.
+#![tactic(auto)]
+
 mod numbers;
 
 ghost use Rattle.std.specs.Prelude.{◌≡◌, cond, ◌+◌, ◌≤◌, length};

@@ -1,4 +1,6 @@
 // The call Streams of 01, on rooms of either form.
+#![tactic(auto)]
+
 ghost use Rattle.std.specs.Prelude.{◌≡◌, true, not, [], ◌∷◌, ◌++◌, ◌*◌, ◌≤◌, ltb, length, drop};
 ghost use Rattle.refusals.specs.Refusals.{rule, first_of};
 ghost use Rattle.slots.specs.declared.Answer.TheVariants.{Refused};

@@ -1,4 +1,6 @@
 // The turbo encoder of clause 5.1.3.2: from a code block to its three streams.
+#![tactic(auto)]
+
 mod steps;
 
 ghost use Rattle.std.specs.Prelude.{◌≡◌, cond, ◌++◌, ◌+◌, ◌≤◌, ◌<◌, length, drop};

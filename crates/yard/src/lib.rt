@@ -1,4 +1,6 @@
 // A line of the yard's log made one call of 01, or a change of form, and its answer a row.
+#![tactic(auto)]
+
 ghost use Rattle.std.specs.Prelude.{◌≡◌, length, replicate};
 ghost use Rattle.lines.specs.Put.{put_at};
 ghost use Rattle.requests.specs.Request.{request_of, longest_line};
