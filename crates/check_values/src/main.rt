@@ -1,21 +1,17 @@
 // The published check values of the three generators: the check of the nine bytes 123456789, by the core.
 #![tactic(auto)]
 
-use libc::STDOUT_FILENO;
+use std::io;
 
-fn main() {
+fn main(rt: HostRuntime) -> io::Result<()> {
     let bits = bits_of(b"123456789");
-    say(b"CRC16 ");
-    say_hex(check_bits::crc16(0, &bits), 4);
-    say(b"\nCRC24A ");
-    say_hex(check_bits::crc24a(0, &bits), 6);
-    say(b"\nCRC24B ");
-    say_hex(check_bits::crc24b(0, &bits), 6);
-    say(b"\n");
-}
-
-fn say(text: &[u8]) {
-    io::write_all(STDOUT_FILENO, text);
+    rt.write_all(b"CRC16 ")?;
+    say_hex(&rt, check_bits::crc16(0, &bits), 4)?;
+    rt.write_all(b"\nCRC24A ")?;
+    say_hex(&rt, check_bits::crc24a(0, &bits), 6)?;
+    rt.write_all(b"\nCRC24B ")?;
+    say_hex(&rt, check_bits::crc24b(0, &bits), 6)?;
+    rt.write_all(b"\n")
 }
 
 // The bits of nine bytes, the highest of each first.
@@ -31,19 +27,20 @@ fn bits_of(bytes: &[u8; 9]) -> [u8; 72] {
 }
 
 // The last digits of a number in base 16.
-fn say_hex(n: u32, digits: usize) {
+fn say_hex(rt: &HostRuntime, n: u32, digits: usize) -> io::Result<()> {
     let mut left = digits;
     while 0 < left {
         left -= 1;
         if left < 8 {
-            say_digit(((n >> (left * 4)) % 16) as u8);
+            say_digit(rt, ((n >> (left * 4)) % 16) as u8)?;
         }
     }
+    Ok(())
 }
 
-fn say_digit(digit: u8) {
+fn say_digit(rt: &HostRuntime, digit: u8) -> io::Result<()> {
     let one = [mark(digit)];
-    say(&one);
+    rt.write_all(&one)
 }
 
 // How a digit, 0 to 15, is written.

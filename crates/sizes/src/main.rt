@@ -4,39 +4,51 @@
 ghost use Rattle.std.specs.Prelude.{◌≤◌, length};
 ghost use Rattle.lines.specs.Text.{row_room};
 
-use libc::{STDERR_FILENO, STDIN_FILENO, STDOUT_FILENO};
+use std::io::Read;
 
-fn main() {
+fn main(rt: HostRuntime) {
     // The first 65,536 bytes: no byte after them is taken from the input.
-    let mut text = io::large_buffer();
-    let count = io::read_full(STDIN_FILENO, &mut text);
-    let mut out = io::large_buffer();
+    let mut text = [0u8; 65536];
+    let count = read_full(&rt, &mut text);
+    let mut out = [0u8; 65536];
     let header = lines::put_header(&mut out);
-    if !io::write_all(STDOUT_FILENO, &out[..header]) {
-        tell_lost();
+    if rt.write_all(&out[..header]).is_err() {
+        tell_lost(&rt);
         return;
     }
-    print_rows(&text[..count], &mut out);
+    print_rows(&rt, &text[..count], &mut out);
 }
 
-// A program has no exit status of its own: so that a run whose output is lost does not look whole, it says so.
-fn tell_lost() {
-    io::write_all(
-        STDERR_FILENO,
-        b"sizes: the output can't be written; rows are missing\n",
-    );
+// Reads until the text is full or the input ends, and tells how many bytes came. Where the input can't be read it ends too.
+fn read_full(rt: &HostRuntime, text: &mut [u8]) -> usize
+    ensures { result ≤ length text.new }
+{
+    let mut done = 0;
+    while done < text.len() {
+        let count = rt.stdin().read(&mut text[done..]).unwrap_or(0);
+        if count == 0 {
+            break;
+        }
+        done += count;
+    }
+    done
+}
+
+// So that a run whose output is lost does not look whole, it says so.
+fn tell_lost(rt: &HostRuntime) {
+    let _ = eprintln!(rt; "sizes: the output can't be written; rows are missing");
 }
 
 // Prints the row of each line of the text, as many at a time as surely fit in out.
-fn print_rows(text: &[u8], out: &mut [u8])
+fn print_rows(rt: &HostRuntime, text: &[u8], out: &mut [u8])
     requires { row_room ≤ length out.old }
 {
     let mut next = 0;
     while next < text.len() {
         let progress = lines::sizes_rows(text, next, out);
         let written = progress.written;
-        if !io::write_all(STDOUT_FILENO, &out[..written]) {
-            tell_lost();
+        if rt.write_all(&out[..written]).is_err() {
+            tell_lost(rt);
             return;
         }
         next = progress.next;
