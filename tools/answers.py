@@ -159,7 +159,7 @@ class Walk:
         def step(m):
             if m[1] in others:
                 return m[0]
-            new = self.steps.get(norm(m[2])) or self.steps.get(re.sub("-lem$", "", norm(m[2])))
+            new = self.steps.get(norm(m[2])) or self.steps.get(re.sub("-lem$", "", norm(m[2]))) or (self.steps.get(norm(m[2]).lower()) if m[2][:1].isupper() else None)
             return m[1] + "." + new if new else m[0]
 
         # what a slice's or an array's elements are known of
@@ -184,6 +184,11 @@ class Walk:
             t = re.sub(r"\.requires((?:\.[01])+)(?![\w'-])", lambda m: ".requires" + self.clause(m[1], self.pre, "requires"), t)
             for a in aliases:
                 t = re.sub(rf"(?<![\w'.-]){re.escape(a)}((?:\.[01])+)(?![\w'-])", lambda m: a + self.clause(m[1], self.pre, "requires"), t)
+        # a let of a step, or of what it ensures, is written out
+        for stepname in sorted(self.callee, key=len, reverse=True):
+            for field in ("", ".ensures", ".new", ".auto"):
+                for a in re.findall(rf"let ({NAME}) = {NAME}\.{re.escape(stepname + field)} in", t):
+                    t = re.sub(rf"(?<![\w'.-]){re.escape(a)}(?=\.{'(?:ensures|new|auto)' if not field else '[01]'}(?![\w'-]))", f"c.{stepname}{field}", t)
         for stepname, fs in self.clauses.items():
             names = fs if isinstance(fs, list) else fs.get("fields")
             if names:
@@ -243,7 +248,11 @@ class Walk:
             if at is None:
                 self.look(f"{name} calls {h}, which is no place before it")
             else:
-                text = re.sub(rf"(?<![\w'.-]){re.escape(h)} {var}(?![\w'.-])", f"{h} {var}" + ".before" * n, text)
+                # what it says at the earlier place holds in the words of the later one
+                body = self.bodies.get(h)
+                if n == 0 or body is None:
+                    continue
+                text = re.sub(rf"(?<![\w'.-]){re.escape(h)} {var}(?![\w'.-])", lambda m: body.replace("\\", "\\\\"), text)
         return text
 
     # ---- the new files
@@ -317,6 +326,11 @@ class Walk:
                 helper_names[name] = self.places.get(norm(places[0]), places[0])
             text = self.fields(self.flat(text))
             out.append((notes_, text, name))
+        self.bodies = {}
+        for n, t, name in out:
+            m = re.search(rf"(?m)^{re.escape(name)} c =(.*)\Z", t, re.S) if name else None
+            if m and " where" not in m[1]:
+                self.bodies[name] = "(" + " ".join(m[1].split()) + ")" if not m[1].strip().startswith("record {") else " ".join(m[1].split())
         out = ["\n".join(n + [self.up(t, name, helper_names)]) for n, t, name in out]
         kept = 0
         for notes_, name, need, text in answers:

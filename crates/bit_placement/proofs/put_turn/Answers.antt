@@ -26,11 +26,11 @@ can c = sent _ _ _ _ c.turn_of-turn.ensures c.if-turn-eq0.false
 -- the length of the circle
 long : (c : After-circle_length) → c.circle_length.result ≡ circle_length (rows c.args.d)
 unfolding length_within
-long c = c.circle_length.ensures ∙ rw (le-leb c.args.d longest (can c.before).fits.most)
+long c = c.circle_length.ensures ∙ rw (le-leb c.args.d longest ((sent _ _ _ _ c.turn_of-turn.ensures c.if-turn-eq0.false)).fits.most)
 
 -- the turn can be put
 sends : (c : Else-part-circle_length) → let e = c.args in Sends e.d e.filler e.soft e.version (length e.part.now)
-sends c = sends_told (can c.before.before) (omega (arith, long c.before, c.if-part-circle_length.false))
+sends c = sends_told ((sent _ _ _ _ c.turn_of-turn.ensures c.if-turn-eq0.false)) (omega (arith, (c.circle_length.ensures ∙ rw (le-leb c.args.d longest (can c).fits.most)), c.if-part-circle_length.false))
 
 -- the first two stretches
 two : (c : After-put_rest-second) → let e = c.args in

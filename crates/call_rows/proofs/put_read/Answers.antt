@@ -20,10 +20,10 @@ given : (c : After-head_at-head) → let args = c.args in let out = c.read_in-ou
 unfolding size_at_head
 given c =
     let made = c.read_in-outcome in
-    let kept = made.auto.1.1.1.1.1.0 in
-    let row = read_row_lem _ _ _ _ _ (fresh _ c.block_room-block.ensures) made.ensures.0 (sym c.is_done.ensures ∙ c.if-is_done.true) made.ensures.1 kept in
+    let kept = c.read_in-outcome.auto.out in
+    let row = read_row_lem _ _ _ _ _ (fresh _ c.block_room-block.ensures) c.read_in-outcome.ensures.value (sym c.is_done.ensures ∙ c.if-is_done.true) c.read_in-outcome.ensures.out_after kept in
     let size = ap (λ (h : Head). h.size) c.head_at-head.ensures in
-    (omega (arith, row.0, kept, size), ap (λ (n : ℕ). run_row (take n made.new.1.1.1.1.1.0)) size ∙ row.1)
+    (omega (arith, row.0, kept, size), ap (λ (n : ℕ). run_row (take n c.read_in-outcome.new.out)) size ∙ row.1)
 
 pub slice_bounds-block-end : goal.slice_bounds-block-end
 slice_bounds-block-end c = omega (arith, (given (goal.at.slice_bounds-block-end c).After-head_at-head).0)

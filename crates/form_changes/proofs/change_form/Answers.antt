@@ -8,4 +8,4 @@ returns-then-number-ne0 c = let told = none_moved _ _ _ _ _ c.form_number-number
 
 pub returns : goal.returns
 returns c = let moved = c.move_rooms.ensures in
-    let told = all_moved _ _ _ _ _ c.form_number-number.ensures c.if-number-ne0.false _ _ moved.0 moved.1 in record { value = told.0; plain_after = told.1.0; packed_after = told.1.1 }
+    let told = all_moved _ _ _ _ _ c.form_number-number.ensures c.if-number-ne0.false _ _ c.move_rooms.ensures.plain_after c.move_rooms.ensures.packed_after in record { value = told.0; plain_after = told.1.0; packed_after = told.1.1 }

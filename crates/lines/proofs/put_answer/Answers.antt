@@ -27,4 +27,4 @@ returns-in-Refused c =
     let first-put = c.put_decimal-end.ensures in
     let rest = c.put_refusal in
     rw c.answer-in-Refused-1.given.1
-    (row_put args.at (decimal_of args.a) _ args.out.now (omega (arith, short)) first-put rest.ensures rest.auto.1.0)
+    (row_put args.at (decimal_of args.a) _ args.out.now (omega (arith, short)) first-put c.put_refusal.ensures c.put_refusal.auto.out)

@@ -8,4 +8,4 @@ pub returns : goal.returns
 returns c =
     let args = c.args in
     let digits_are = c.decimal-count.ensures in
-    rw (digits_are.1.1 ∙ decimal_is args.n _ digits_are.1.0) at c.put_bytes.ensures
+    rw (c.decimal-count.ensures.digits ∙ decimal_is args.n _ c.decimal-count.ensures.fewest) at c.put_bytes.ensures

@@ -22,4 +22,4 @@ returns c =
     let args = c.args in
     let put = c.put_numbers.ensures in
     let all = row_fits args.at args.numbers.now args.out.now (omega arith) in
-    record { value = put.0 ∙ sym all.0; out_after = put.1 ∙ sym all.1 }
+    record { value = c.put_numbers.ensures.value ∙ sym all.0; out_after = c.put_numbers.ensures.out_after ∙ sym all.1 }

@@ -24,7 +24,7 @@ returns-in-Read c =
     let said = sym c.read_number.ensures ∙ c.a-1.given.1 in
     let row = row_read args.line.now said c.sizes_for.ensures in
     let put = c.put_answer.ensures in
-    record { value = put.0 ∙ ap (λ (w : List ℕ). args.at + length w) row; out_after = put.1 ∙ ap (λ (w : List ℕ). put_over args.at w args.out.now) row }
+    record { value = c.put_answer.ensures.value ∙ ap (λ (w : List ℕ). args.at + length w) row; out_after = c.put_answer.ensures.out_after ∙ ap (λ (w : List ℕ). put_over args.at w args.out.now) row }
 
 pub returns-in-Unreadable : goal.returns-in-Unreadable
 returns-in-Unreadable c =
@@ -32,5 +32,5 @@ returns-in-Unreadable c =
     let said = sym c.read_number.ensures ∙ c.enum_told-1.given.1 in
     let row = row_unreadable args.line.now said in
     let rest = c.put_refusal in
-    let put = row_put args.at dash 15 args.out.now (omega arith) c.put_bytes-end.ensures rest.ensures rest.auto.1.0 in
+    let put = row_put args.at dash 15 args.out.now (omega arith) c.put_bytes-end.ensures c.put_refusal.ensures c.put_refusal.auto.out in
     record { value = put.0 ∙ ap (λ (w : List ℕ). args.at + length w) row; out_after = put.1 ∙ ap (λ (w : List ℕ). put_over args.at w args.out.now) row }

@@ -15,4 +15,4 @@ pub returns : goal.returns
 unfolding first_log
 returns c =
     let new = c.new-outcome in
-    ap (log_of new.result) c.unread.ensures ∙ ap (λ (o : Outcome). log_of o _) new.ensures
+    ap (log_of new.result) c.unread.ensures ∙ ap (λ (o : Outcome). log_of o _) c.new-outcome.ensures

@@ -35,7 +35,7 @@ told c n = let e = c.args in streams_asked e.four e.state e.store.now e.slot e.t
 most : (c : After-size_of-d) → c.size_of-d.result ≤ 6144
 most c =
     let e = c.args in
-    found_most e.state _ e.slot e.terminal e.block (length e.out.now) (number c.before.before.before.before.before) c.if-owner-ne0.false (head c.before.before.before.before.before)
+    found_most e.state _ e.slot e.terminal e.block (length e.out.now) ((let e = c.args in owner_number e.state _ e.slot e.terminal c.owner-owner.ensures)) c.if-owner-ne0.false ((let e = c.args in owner_head e.state _ e.slot e.terminal c.owner-owner.ensures))
     c.segments_for-s.ensures c.size_of-d.ensures
 
 -- the number of the code block and the output is the call's
@@ -43,8 +43,8 @@ block_told : (c : After-block_number-number) → let e = c.args in
     c.block_number-number.result ≡ streams_number e.state (length (places_in e.four e.store.now)) e.slot e.terminal e.block (length e.out.now)
 block_told c =
     let e = c.args in
-    told c.before.before.before.before.before.before
-    (streams_chained e.state _ e.slot e.terminal e.block (length e.out.now) (number c.before.before.before.before.before.before) c.if-owner-ne0.false (head c.before.before.before.before.before.before)
+    told c
+    (streams_chained e.state _ e.slot e.terminal e.block (length e.out.now) ((let e = c.args in owner_number e.state _ e.slot e.terminal c.owner-owner.ensures)) c.if-owner-ne0.false ((let e = c.args in owner_head e.state _ e.slot e.terminal c.owner-owner.ensures))
     c.segments_for-s.ensures c.size_of-d.ensures c.block_number-number.ensures)
 
 -- the call comes to the room
@@ -52,7 +52,7 @@ asked : (c : Else-number-ne0) → let e = c.args in
     Streaming e.state (places_in e.four e.store.now) e.slot e.terminal e.block e.out.now
     c.block_number-number.result c.owner-owner.result.head c.segments_for-s.result
 asked c =
-    record { number = block_told c.before; zero = c.if-number-ne0.false; c = head c.before.before.before.before.before.before.before; told = c.segments_for-s.ensures }
+    record { number = (let e = c.args in told c (streams_chained e.state _ e.slot e.terminal e.block (length e.out.now) (number c) c.if-owner-ne0.false (head c) c.segments_for-s.ensures c.size_of-d.ensures c.block_number-number.ensures)); zero = c.if-number-ne0.false; c = (let e = c.args in owner_head e.state _ e.slot e.terminal c.owner-owner.ensures); told = c.segments_for-s.ensures }
 
 -- the circle's number and what it is made of
 product_few : (slot m r : ℕ) → slot * m + r ≤ 40 → Fits w64 (slot * m)

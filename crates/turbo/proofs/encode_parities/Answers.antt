@@ -33,10 +33,10 @@ returns c =
     begun (interleaved row bits) d2 (length_interleaved row bits ∙ sym c.requires.1) c.requires.3 (ap (λ (l : List ℕ). l ++ drop (length bits) d2) front) in
     let all = reached whole first second in
     let said = c.encode_both-ends.ensures in record {
-      first = said.0 ∙ front_outputs all first;
-      second = said.1.0 ∙ front_outputs all second;
+      first = c.encode_both-ends.ensures.one ∙ front_outputs all first;
+      second = c.encode_both-ends.ensures.two ∙ front_outputs all second;
       tails = (
-        c.Tail-of.ensures ∙ ap tail_of (said.1.1.0 ∙ front_after all first),
-        c.tail_of-2.ensures ∙ ap tail_of (said.1.1.1 ∙ front_after all second),
+        c.tail_of.ensures ∙ ap tail_of (c.encode_both-ends.ensures.ends.0 ∙ front_after all first),
+        c.tail_of-2.ensures ∙ ap tail_of (c.encode_both-ends.ensures.ends.1 ∙ front_after all second),
       );
     }

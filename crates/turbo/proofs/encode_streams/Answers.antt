@@ -34,13 +34,13 @@ returns c =
     let size = block_long row c.args.d0.now c.requires.long0 in
     let F = c.args.filler in
     let said = c.encode_parities-tails.ensures in
-    let first = said.1.1.0 in
-    let second = said.1.1.1 in
+    let first = c.encode_parities-tails.ensures.tails.0 in
+    let second = c.encode_parities-tails.ensures.tails.1 in
     let past : List ℕ → List ℕ = drop (length bits) in record {
       first = c.complete.ensures
           ∙ stream0_is row c.args.d0.now first second F;
       second = c.complete-2.ensures
-          ∙ stream1_is row bits (past c.args.d1.now) first second (omega (arith, size, c.encode_parities-tails.auto.d1, c.requires.long1)) F said.0;
+          ∙ stream1_is row bits (past c.args.d1.now) first second (omega (arith, size, c.encode_parities-tails.auto.d1, c.requires.long1)) F c.encode_parities-tails.ensures.first;
       third = c.complete-3.ensures
-          ∙ stream2_is row bits (past c.args.d2.now) first second (omega (arith, size, c.encode_parities-tails.auto.d2, c.requires.long2)) size said.1.0;
+          ∙ stream2_is row bits (past c.args.d2.now) first second (omega (arith, size, c.encode_parities-tails.auto.d2, c.requires.long2)) size c.encode_parities-tails.ensures.second;
     }

@@ -14,7 +14,7 @@ returns-then-line-from c = let told = line_called c.args.line.now c.requires (λ
 pub slice_bounds-given-end : goal.slice_bounds-given-end
 slice_bounds-given-end c =
     let bits = c.read_bits-count in
-    omega (arith, count_fits c.args.line.now c.args.request.bits c.bits_buffer-given.result bits.ensures.0, bits.auto.1.1.0)
+    omega (arith, count_fits c.args.line.now c.args.request.bits c.bits_buffer-given.result c.read_bits-count.ensures.value, c.read_bits-count.auto.out)
 
 pub slice_bounds-call_with-end-2 : goal.slice_bounds-call_with-end-2
 slice_bounds-call_with-end-2 c = front_count _ _ (array-share-prefix-given c)
@@ -22,5 +22,5 @@ slice_bounds-call_with-end-2 c = front_count _ _ (array-share-prefix-given c)
 pub returns : goal.returns
 returns c = let bits = c.read_bits-count in
     let told = line_called c.args.line.now c.requires
-    (λ short. given_bits c.args.line.now c.args.request.bits _ bits.ensures.0 bits.ensures.1 (omega (arith, short, fresh longest_line c.bits_buffer-given.ensures)))
+    (λ short. given_bits c.args.line.now c.args.request.bits _ c.read_bits-count.ensures.value c.read_bits-count.ensures.out_after (omega (arith, short, fresh longest_line c.bits_buffer-given.ensures)))
     _ _ _ _ c.call_with-2.ensures in record { value = told.0; store_after = told.1.0; out_after = told.1.1 }

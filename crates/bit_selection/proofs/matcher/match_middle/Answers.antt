@@ -9,10 +9,10 @@ pub put_turn-end-requires : goal.put_turn-end-requires
 put_turn-end-requires c = (c.requires.0, room_holds _ _ c.requires.1, c.requires.2)
 
 pub slice_bounds-fill-end : goal.slice_bounds-fill-end
-slice_bounds-fill-end c = let p = c.put_turn-end in front_count _ p.new.1.1.1.1.1.1.0 p.ensures.inside
+slice_bounds-fill-end c = let p = c.put_turn-end in front_count _ c.put_turn-end.new.ring c.put_turn-end.ensures.inside
 
 pub fill-requires : goal.fill-requires
-fill-requires c = let p = c.put_turn-end in omega (arith, p.ensures.some, front_count _ p.new.1.1.1.1.1.1.0 p.ensures.inside)
+fill-requires c = let p = c.put_turn-end in omega (arith, c.put_turn-end.ensures.some, front_count _ c.put_turn-end.new.ring c.put_turn-end.ensures.inside)
 
 pub returns : goal.returns
 returns c =

@@ -21,7 +21,7 @@ below c = omega (arith, (goes c).0, c.requires.5)
 
 -- with the unit: it is the pair's
 found : (c : After-pair_unit_at) → let e = c.args in c.pair_unit_at.result ≡ unit_within (length e.d1.now) e.filler c.loop-u.u
-found c = c.pair_unit_at.ensures ∙ pair_is _ _ (high c.before)
+found c = c.pair_unit_at.ensures ∙ pair_is _ _ ((omega (arith, (c.loop-u.invariant []).passed.0, c.requires.3)))
 
 pub loop-u-init : goal.loop-u-init
 loop-u-init c = λ d0. filling_start c.requires.4 c.requires.6

@@ -10,4 +10,4 @@ use Rattle.build_calls.proofs.call.build.Goals as goal
 pub returns : goal.returns
 returns c =
     let a = c.args in
-    let two = c.build_two.ensures in record { number = two.0 ∙ ap (λ (l : List ℕ). build_number l a.grant (length a.out.now)) (append-nil a.block.now); output = two.1 ∙ ap (λ (l : List ℕ). build_output l a.grant a.out.now) (append-nil a.block.now) }
+    let two = c.build_two.ensures in record { number = c.build_two.ensures.number ∙ ap (λ (l : List ℕ). build_number l a.grant (length a.out.now)) (append-nil a.block.now); output = c.build_two.ensures.output ∙ ap (λ (l : List ℕ). build_output l a.grant a.out.now) (append-nil a.block.now) }

@@ -26,7 +26,7 @@ none : (c : Else-number-ne0)
     → build_down_number c.args.block.now c.args.release c.args.mimo c.args.processes c.args.soft c.args.layers
     c.args.grant (length c.args.out.now)
     ≡ 0
-none c = sym (found c.before) ∙ c.if-number-ne0.false
+none c = sym ((c.down_number-number.ensures ∙ number_found _ _ _ _ _ _ _ c.segments_for-s.ensures c.share_for-share.ensures _)) ∙ c.if-number-ne0.false
 
 fits : (c : Else-number-ne0) → c.args.grant.bits ≤ length c.args.out.now
 fits c = (accepted_down _ _ _ _ _ _ _ _ (none c)).1

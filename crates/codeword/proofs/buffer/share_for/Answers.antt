@@ -20,7 +20,7 @@ product : (c : After-divisor_in) → let m = c.args.mimo in (1 ≤ c.divisor_in.
 product c =
     let e = c.args in
     let few = divisor_few e.release e.soft e.layers in
-    let r = receiver _ _ _ (good c.before) in
+    let r = receiver _ _ _ ((sym c.bad_receiver.ensures ∙ c.if-bad_receiver.false)) in
     let least : 1 ≤ c.divisor_in.result = rw c.divisor_in.ensures few.0 in
     let most : c.divisor_in.result ≤ 5 = rw c.divisor_in.ensures few.1 in
     let low : 1 * 1 ≤ c.divisor_in.result * e.mimo = mul-le-mul least r.some in
@@ -31,8 +31,8 @@ product c =
 all : (c : After-limited) → let n = c.divisor_in.result * c.args.mimo * c.limited.result in (1 ≤ n) × (n ≤ 80)
 unfolding m_limit
 all c =
-    let p = product c.before in
-    let r = receiver _ _ _ (good c.before.before) in
+    let p = (let e = c.args in let few = divisor_few e.release e.soft e.layers in let r = receiver _ _ _ (good c) in let least : 1 ≤ c.divisor_in.result = rw c.divisor_in.ensures few.0 in let most : c.divisor_in.result ≤ 5 = rw c.divisor_in.ensures few.1 in let low : 1 * 1 ≤ c.divisor_in.result * e.mimo = mul-le-mul least r.some in let top : c.divisor_in.result * e.mimo ≤ 5 * 2 = mul-le-mul most r.few in (omega arith, omega arith)) in
+    let r = receiver _ _ _ ((sym c.bad_receiver.ensures ∙ c.if-bad_receiver.false)) in
     let some : 1 ≤ c.limited.result = omega (arith, c.limited.ensures, r.running) in
     let few : c.limited.result ≤ 8 = omega (arith, c.limited.ensures) in
     let low : 1 * 1 ≤ c.divisor_in.result * c.args.mimo * c.limited.result = mul-le-mul p.0 some in

@@ -22,7 +22,7 @@ long c = c.circle_length.ensures ∙ rw (le-leb (c.args.k + 4) 6148 (omega arith
 -- past the test
 counted : (c : Then-there) → let e = c.args in countable (length e.circle.now) e.k e.f ≡ true
 unfolding countable
-counted c = simp (le-leb _ _ c.if-k-gt6144.false, ← long c.before, c.if-there.true)
+counted c = simp (le-leb _ _ c.if-k-gt6144.false, ← (c.circle_length.ensures ∙ rw (le-leb (c.args.k + 4) 6148 (omega arith))), c.if-there.true)
 
 pub returns-then-k-gt6144 : goal.returns-then-k-gt6144
 unfolding countable

@@ -24,7 +24,7 @@ told c =
 -- the length of the circle
 long : (c : After-circle_length-whole) → c.circle_length-whole.result ≡ circle_length (rows c.args.d)
 unfolding length_within
-long c = c.circle_length-whole.ensures ∙ rw (le-leb c.args.d 6148 (told c.before).0)
+long c = c.circle_length-whole.ensures ∙ rw (le-leb c.args.d 6148 ((let e = c.args in let both = (and-eq-true_iff (leb e.d 6148) (ltb e.from.1 e.d)).0 (c.if-not-there.false) in (leb-true e.d 6148 both.0, ltb-true e.from.1 e.d both.1))).0)
 
 third : (R : ℕ) {n : ℕ} → n ≡ circle_length R → n / 3 ≡ 32 * R
 unfolding circle_length
@@ -34,8 +34,8 @@ reach_is : (c : Joined-from-eq0) → c.if-from-eq0.reach ≡ reach_of c.args.d c
 unfolding reach_of
 reach_is c =
     ⊎_elim
-    (λ w. rw (eq-eqb _ 0 w.0.true) (w.1 ∙ third _ (long c.before.before)))
-    (λ w. rw (ne_eqb _ 0 w.0.false) (w.1 ∙ long c.before.before))
+    (λ w. rw (eq-eqb _ 0 w.0.true) (w.1 ∙ third _ ((c.circle_length-whole.ensures ∙ rw (le-leb c.args.d 6148 (told c).0)))))
+    (λ w. rw (ne_eqb _ 0 w.0.false) (w.1 ∙ (c.circle_length-whole.ensures ∙ rw (le-leb c.args.d 6148 (told c).0))))
     c.if-from-eq0.branch
 
 pub returns-then-not-there : goal.returns-then-not-there

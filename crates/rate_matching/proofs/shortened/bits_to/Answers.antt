@@ -22,8 +22,8 @@ next : (c : After-bits_before-n) → let e = c.args in
 next c =
     let ok = c.requires in
     let f = ok.0 in
-    let all = c.bits_before-n.ensures ∙ before_end (unit_lies _ f.most f.filler (is c.before.before)) in
-    omega (arith, c.loop-u.invariant.2, all, one_unit f.most f.filler f.some c.loop-u.u (is c.before.before) (omega (arith, c.loop-u-test.true, ok.2)))
+    let all = c.bits_before-n.ensures ∙ before_end (unit_lies _ f.most f.filler ((c.pair_unit_at-unit.ensures ∙ pair_is _ _ c.loop-u.invariant.0))) in
+    omega (arith, c.loop-u.invariant.2, all, one_unit f.most f.filler f.some c.loop-u.u ((c.pair_unit_at-unit.ensures ∙ pair_is _ _ c.loop-u.invariant.0)) (omega (arith, c.loop-u-test.true, ok.2)))
 
 pub overflow_sub-n : goal.overflow_sub-n
 overflow_sub-n c = omega (arith, c.requires.0.filler)

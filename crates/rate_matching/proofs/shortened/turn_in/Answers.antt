@@ -23,10 +23,10 @@ told : (c : Start) → let e = c.args in Matchable e.d e.d e.d e.filler e.ncb e.
 told c = matchable_told c.requires
 
 few : (c : After-rows_of-rows) → c.rows_of-rows.result ≤ 193
-few c = rw c.rows_of-rows.ensures (rows_few (told c.before))
+few c = rw c.rows_of-rows.ensures (rows_few ((matchable_told c.requires)))
 
 least : (c : After-rows_of-rows) → (1 ≤ c.rows_of-rows.result) × (32 * c.rows_of-rows.result ≤ c.args.ncb)
-least c = let m = told c.before in (omega (arith, c.rows_of-rows.ensures, m.cut.some), omega (arith, c.rows_of-rows.ensures, m.cut.least))
+least c = let m = (matchable_told c.requires) in (omega (arith, c.rows_of-rows.ensures, m.cut.some), omega (arith, c.rows_of-rows.ensures, m.cut.least))
 
 pub overflow_mul-rows : goal.overflow_mul-rows
 overflow_mul-rows c = omega (arith, few (goal.at.overflow_mul-rows c).After-rows_of-rows)

@@ -29,7 +29,7 @@ number c =
 -- the call comes to the room
 asked : (c : After-bytes_a_block) → let e = c.args in
     Reading e.state (places_in e.four e.store.now) e.slot e.terminal e.out.now c.or_else-number.result c.owner-owner.result.head
-asked c = record { number = number c.before.before; zero = c.if-number-ne0.false; found = head c.before.before }
+asked c = record { number = (let e = c.args in read_asked e.four e.state e.store.now e.slot e.terminal _ c.places_asked-asked.ensures (read_chained e.state _ e.slot e.terminal _ (head c) (owner_number e.state _ e.slot e.terminal c.owner-owner.ensures) c.or_else-number.ensures)); zero = c.if-number-ne0.false; found = (let e = c.args in owner_head e.state _ e.slot e.terminal c.owner-owner.ensures) }
 
 -- its bytes are there
 there : (c : After-bytes_a_block) → let e = c.args in

@@ -22,7 +22,7 @@ returns-then-heard-ne0 c = let told = some_lacking _ _ _ c.collect-heard.ensures
 pub returns-then-heard-block_count : goal.returns-then-heard-block_count
 returns-then-heard-block_count c = let none = c.if-heard-ne0.false in
     let heard = c.collect-heard.ensures in
-    let told = some_wrong_lem _ _ _ heard.0 none (heard.1.0 none) c.block_count.ensures c.if-heard-block_count.true in record { value = told.0; out_after = told.1 }
+    let told = some_wrong_lem _ _ _ c.collect-heard.ensures.count none (c.collect-heard.ensures.right none) c.block_count.ensures c.if-heard-block_count.true in record { value = told.0; out_after = told.1 }
 
 pub slice_bounds-crc24a-end-2 : goal.slice_bounds-crc24a-end-2
 slice_bounds-crc24a-end-2 c = front_count _ _ (long (goal.at.slice_bounds-crc24a-end-2 c).After-collect-heard)
@@ -30,7 +30,7 @@ slice_bounds-crc24a-end-2 c = front_count _ _ (long (goal.at.slice_bounds-crc24a
 pub returns-then-crc24a-ne0 : goal.returns-then-crc24a-ne0
 returns-then-crc24a-ne0 c = let none = c.if-heard-ne0.false in
     let heard = c.collect-heard.ensures in
-    let told = wrong _ _ _ heard.0 none (heard.1.0 none) c.block_count.ensures c.if-heard-block_count.false _ heard.1.1 c.crc24a.ensures c.if-crc24a-ne0.true in record { value = told.0; out_after = told.1 }
+    let told = wrong _ _ _ c.collect-heard.ensures.count none (c.collect-heard.ensures.right none) c.block_count.ensures c.if-heard-block_count.false _ c.collect-heard.ensures.sequence c.crc24a.ensures c.if-crc24a-ne0.true in record { value = told.0; out_after = told.1 }
 
 pub slice_bounds-copy-end-2 : goal.slice_bounds-copy-end-2
 slice_bounds-copy-end-2 c =

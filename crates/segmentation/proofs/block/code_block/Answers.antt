@@ -21,11 +21,11 @@ told c = let a = c.args in of_joined a.first.now a.second.now c.segments_for_bot
 -- past the first test, and past the second
 found : (c : Else-r-s) → let a = c.args in
     Found (a.first.now ++ a.second.now) c.segments_for_both-s.result a.r
-found c = record { told = told c.before.before; below = c.if-r-s.false }
+found c = record { told = (let a = c.args in of_joined a.first.now a.second.now c.segments_for_both-s.ensures); below = c.if-r-s.false }
 
 sized : (c : Else-c-size_of) → let a = c.args in
     Sized (a.first.now ++ a.second.now) a.c.now c.segments_for_both-s.result a.r
-sized c = record { found = found c.before.before; size = c.if-c-size_of.false ∙ c.size_of.ensures }
+sized c = record { found = record { told = told c; below = c.if-r-s.false }; size = c.if-c-size_of.false ∙ c.size_of.ensures }
 
 pub returns-then-r-s : goal.returns-then-r-s
 returns-then-r-s c = none_such _ _ _ _ (told (goal.at.returns-then-r-s c).After-segments_for_both-s) c.if-r-s.true

@@ -21,7 +21,7 @@ parted c = shared c.args.first.now c.args.second.now c.least-a.ensures c.least-b
 -- what is left behind the first slice's part has room for the second's
 room : (c : After-fill) → let a = c.args in
     a.zeros + (c.least-b.result - c.least-a.result) + (a.to - c.least-b.result - (a.from - c.least-a.result)) ≤ length c.fill.new.c
-room c = omega (arith, c.fill.auto.c, (parted c.before.before.before).count)
+room c = omega (arith, c.fill.auto.c, ((shared c.args.first.now c.args.second.now c.least-a.ensures c.least-b.ensures c.requires.0 c.requires.1)).count)
 
 pub slice_bounds-copy-count-2 : goal.slice_bounds-copy-count-2
 slice_bounds-copy-count-2 c = omega (arith, room (goal.at.slice_bounds-copy-count-2 c).After-fill)

@@ -17,7 +17,7 @@ done c = sym c.is_done.ensures ∙ not-false c.is_done.result c.if-not-is_done.f
 
 -- the room lies within the store
 ends : (c : After-room_length) → c.room_start-from.result + c.room_length.result ≤ length c.args.store.now
-ends c = omega (arith, (c.requires (done c.before.before)).2)
+ends c = omega (arith, (c.requires ((sym c.is_done.ensures ∙ not-false c.is_done.result c.if-not-is_done.false))).2)
 
 pub returns-then-not-is_done : goal.returns-then-not-is_done
 returns-then-not-is_done c = rw (← c.is_done.ensures, not-true c.is_done.result c.if-not-is_done.true)

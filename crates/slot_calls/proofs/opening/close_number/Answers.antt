@@ -8,6 +8,6 @@ pub returns : goal.returns
 unfolding close_number owner_rules
 returns c =
     let looked = c.look-looked.ensures in
-    let bad = rw looked.0 at c.or_else-bad.ensures in
-    let owned = rw looked.1 at c.owner_after.ensures in
+    let bad = rw c.look-looked.ensures.bad_value at c.or_else-bad.ensures in
+    let owned = rw c.look-looked.ensures.head_value at c.owner_after.ensures in
     chained (next bad (next c.or_else-absent.ensures (record { is = λ t. owned }))) tt

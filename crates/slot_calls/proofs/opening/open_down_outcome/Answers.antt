@@ -21,14 +21,14 @@ found c = rw c.block_count-count.ensures at c.share_for-share.ensures
 told : (c : After-down_number-number) → let entry = c.args in
     c.down_number-number.result
     ≡ open_down_number entry.state entry.lent entry.slot entry.size entry.release entry.mimo entry.processes entry.soft entry.layers
-told c = rw (found c.before) at c.down_number-number.ensures ∙ down_found _ _ _ _ _ _ _ _ _
+told c = rw ((rw c.block_count-count.ensures at c.share_for-share.ensures)) at c.down_number-number.ensures ∙ down_found _ _ _ _ _ _ _ _ _
 
 -- where it is 0 the share is the standard's
 share_is : (c : After-down_number-number) → c.down_number-number.result ≡ 0 → let entry = c.args in
     c.share_for-share.result ≡ soft_share (blocks (entry.size + 24)) entry.release entry.mimo entry.processes entry.soft entry.layers
 share_is c z =
     let number = sym (told c) ∙ z in
-    found c.before
+    (rw c.block_count-count.ensures at c.share_for-share.ensures)
     ∙ share_found _ (open_admitted _ _ _ _ refl (down_open _ _ _ _ _ _ _ _ _ number)) _ _ _ _ _ (down_buffer _ _ _ _ _ _ _ _ _ number)
 
 pub opened-requires : goal.opened-requires

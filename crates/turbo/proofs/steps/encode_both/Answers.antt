@@ -23,8 +23,8 @@ loop-i-preserved c =
     let second = c.eight_steps-t.ensures in
     let first = c.eight_steps-s.ensures in
     let p = c.loop-i.invariant in (
-      turn p.0 (omega arith) first.0 first.1.0 first.1.1,
-      turn p.1 (omega arith) second.0 second.1.0 second.1.1,
+      turn p.0 (omega arith) c.eight_steps-s.ensures.small c.eight_steps-s.ensures.outputs c.eight_steps-s.ensures.registers,
+      turn p.1 (omega arith) c.eight_steps-t.ensures.small c.eight_steps-t.ensures.outputs c.eight_steps-t.ensures.registers,
       p.2,
       omega arith,
       omega arith,
