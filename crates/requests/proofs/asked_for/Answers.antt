@@ -11,7 +11,7 @@ well_formed-requires c = few _ c.form_of-form.ensures
 
 pub returns-then-not-well_formed : goal.returns-then-not-well_formed
 returns-then-not-well_formed c =
-    let wrong = sym c.well-formed-2.ensures ∙ c.if-not-well_formed.true in
+    let wrong = sym c.well_formed-2.ensures ∙ c.if-not-well_formed.true in
     c.bare.ensures ∙ not_asked _ _ c.form_of-form.ensures wrong
 
 pub overflow_add-form : goal.overflow_add-form
@@ -22,5 +22,5 @@ overflow_sub-bits c = rw c.word-last.ensures (word_short _ _)
 
 pub returns : goal.returns
 returns c =
-    let right = sym c.well-formed-2.ensures ∙ c.if-not-well_formed.false in
+    let right = sym c.well_formed-2.ensures ∙ c.if-not-well_formed.false in
     asked _ _ c.form_of-form.ensures right c.fields.ensures c.word-last.ensures

@@ -7,4 +7,4 @@ use Rattle.turbo.proofs.complete.Goals as goal
 
 pub returns : goal.returns
 returns c =
-    c.set_absent.ensures ∙ completing c.args.filler c.args.d.now c.args.t3 c.requires (omega (arith, c.well-formed)) c.copy.ensures.after
+    c.set_absent.ensures ∙ completing c.args.filler c.args.d.now c.args.tail c.requires (omega (arith, c.well_formed)) c.copy.ensures.after

@@ -21,4 +21,4 @@ returns-then-is_encodable c =
     rw (tested (goal.at.returns-then-is_encodable c).After-is_encodable true c.if-is_encodable.true) c.encode_streams.ensures
 
 pub returns-else-is_encodable : goal.returns-else-is_encodable
-returns-else-is_encodable c = rw (tested (goal.at.returns-else-is_encodable c).After-is_encodable false c.if-is_encodable.false) (refl, (refl, refl))
+returns-else-is_encodable c = rw (tested (goal.at.returns-else-is_encodable c).After-is_encodable false c.if-is_encodable.false) record { first = refl; second = refl; third = refl }

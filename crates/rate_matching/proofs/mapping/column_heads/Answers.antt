@@ -19,7 +19,7 @@ told c =
 
 pub returns-then-not-there : goal.returns-then-not-there
 unfolding heads_within
-returns-then-not-there c = let e = c.args in rw (not-true (leb e.d 6148 && ltb 0 e.d && leb e.stream 2) c.if-not-there.true)
+returns-then-not-there c = let e = c.args in rw (c.if-not-there.true)
 
 pub heads_of-requires : goal.heads_of-requires
 heads_of-requires c = told (goal.at.heads_of-requires c).Else-not-there
@@ -28,4 +28,4 @@ pub returns : goal.returns
 unfolding heads_within
 returns c =
     let a = c.args in
-    c.heads_of.ensures ∙ rw (not-false (leb a.d 6148 && ltb 0 a.d && leb a.stream 2) c.if-not-there.false) refl
+    c.heads_of.ensures ∙ rw (c.if-not-there.false) refl

@@ -17,9 +17,12 @@ begins : (c : After-head_in) → let e = c.args in
     (c.head_in-first.result.0 ≡ column_head (rows e.d) e.stream 0) × (c.head_in.result.0 ≡ column_head (rows e.d) e.stream 1)
 begins c = (ap (λ (x : CirclePlace). x.0) c.head_in-first.ensures, ap (λ (x : CirclePlace). x.0) c.head_in.ensures)
 
-few : (c : After-head_in) → let e = c.args in (column_head (rows e.d) e.stream 0 ≤ 6177) × (head_width (rows e.d) e.stream ≤ 386)
+few_by : (d s : ℕ) → d ≤ 6148 → s ≤ 2 → (column_head (rows d) s 0 ≤ 6177) × (head_width (rows d) s ≤ 386)
 unfolding rows
-few c = first_few (rows c.args.d) c.args.stream (omega (arith, c.requires.1)) c.requires.2
+few_by d s h k = first_few (rows d) s (omega (arith, h)) k
+
+few : (c : After-head_in) → let e = c.args in (column_head (rows e.d) e.stream 0 ≤ 6177) × (head_width (rows e.d) e.stream ≤ 386)
+few c = few_by c.args.d c.args.stream c.requires.1 c.requires.2
 
 wide : (c : After-head_in) → let e = c.args in c.head_in.result.0 - c.head_in-first.result.0 ≡ head_width (rows e.d) e.stream
 wide c = let e = c.args in ap₂ (λ (a b : ℕ). b - a) (begins c).0 (begins c).1 ∙ first_wide (rows e.d) e.stream
@@ -29,13 +32,13 @@ far : (c : After-column_at) → c.column_at.result * (c.head_in.result.0 - c.hea
 far c =
     let e = c.args in
     let low : c.column_at.result < 32 = rw c.column_at.ensures (column_rule c.loop-p.p c.loop-p-test.true).0 in
-    omega (arith, ap (λ (n : ℕ). c.column_at.result * n) ((let e = c.args in ap₂ (λ (a b : ℕ). b - a) (begins c).0 (begins c).1 ∙ first_wide (rows e.d) e.stream)), mul-le-mul_right (head_width (rows e.d) e.stream) low, ((first_few (rows c.args.d) c.args.stream (omega (arith, c.requires.1)) c.requires.2)).1)
+    omega (arith, ap (λ (n : ℕ). c.column_at.result * n) ((let e = c.args in ap₂ (λ (a b : ℕ). b - a) (ap (λ (x : CirclePlace). x.0) c.head_in-first.ensures) (ap (λ (x : CirclePlace). x.0) c.head_in.ensures) ∙ first_wide (rows e.d) e.stream)), mul-le-mul_right (head_width (rows e.d) e.stream) low, (few_by c.args.d c.args.stream c.requires.1 c.requires.2).1)
 
 unit : (c : After-column_at) → let e = c.args in
     c.head_in-first.result.0 + c.column_at.result * (c.head_in.result.0 - c.head_in-first.result.0) ≡ column_head (rows e.d) e.stream (column c.loop-p.p)
 unit c =
     let e = c.args in
-    ap₂ (λ (a b : ℕ). a + c.column_at.result * (b - a)) (((ap (λ (x : CirclePlace). x.0) c.head_in-first.ensures, ap (λ (x : CirclePlace). x.0) c.head_in.ensures))).0 (((ap (λ (x : CirclePlace). x.0) c.head_in-first.ensures, ap (λ (x : CirclePlace). x.0) c.head_in.ensures))).1
+    ap₂ (λ (a b : ℕ). a + c.column_at.result * (b - a)) (ap (λ (x : CirclePlace). x.0) c.head_in-first.ensures) (ap (λ (x : CirclePlace). x.0) c.head_in.ensures)
     ∙ side_by_side (rows e.d) e.stream c.column_at.result
     ∙ ap (column_head (rows e.d) e.stream) c.column_at.ensures
 

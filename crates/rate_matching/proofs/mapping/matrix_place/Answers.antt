@@ -24,7 +24,7 @@ pub returns-then-not-there : goal.returns-then-not-there
 unfolding matrix_within
 returns-then-not-there c =
     let e = c.args in
-    rw (not-true (leb e.d 6148 && not (eqb (e.d % 32) 0) && leb e.place.0 2 && ltb e.place.1 e.d) c.if-not-there.true)
+    rw (c.if-not-there.true)
 
 pub overflow_mul-y : goal.overflow_mul-y
 unfolding rows
@@ -46,4 +46,4 @@ pub returns : goal.returns
 unfolding matrix_within written_at dummies
 returns c =
     let a = c.args in
-    rw (not-false (leb a.d 6148 && not (eqb (a.d % 32) 0) && leb a.place.0 2 && ltb a.place.1 a.d) c.if-not-there.false, ← c.rows_of.ensures)
+    rw (c.if-not-there.false, ← c.rows_of.ensures)

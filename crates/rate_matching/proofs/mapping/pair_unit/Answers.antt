@@ -71,7 +71,7 @@ pub overflow_mul-result-3 : goal.overflow_mul-result-3
 overflow_mul-result-3 c = let r = found (goal.at.overflow_mul-result-3 c).After-rows_before-row in omega (arith, r.few, r.high, r.alone, r.column, begun (goal.at.overflow_mul-result-3 c).After-rows_before-row)
 
 pub overflow_sub-result : goal.overflow_sub-result
-overflow_sub-result c = omega (arith, (found (goal.at.overflow_sub-result c).After-rows_before-row).new)
+overflow_sub-result c = omega (arith, (found (goal.at.overflow_sub-result c).After-rows_before-row).last)
 
 pub overflow_add-result-4 : goal.overflow_add-result-4
 overflow_add-result-4 c = let r = found (goal.at.overflow_add-result-4 c).After-rows_before-row in omega (arith, r.few, r.high, r.alone, r.column, begun (goal.at.overflow_add-result-4 c).After-rows_before-row)

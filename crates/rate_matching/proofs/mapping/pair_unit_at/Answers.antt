@@ -18,11 +18,11 @@ told c =
 
 pub returns-then-not-there : goal.returns-then-not-there
 unfolding pair_within
-returns-then-not-there c = let e = c.args in rw (not-true (leb e.d 6148 && ltb e.filler e.d && ltb e.c 32) c.if-not-there.true) c.no_unit.ensures
+returns-then-not-there c = let e = c.args in rw (c.if-not-there.true) c.no_unit.ensures
 
 pub pair_unit-requires : goal.pair_unit-requires
 pair_unit-requires c = told (goal.at.pair_unit-requires c).Else-not-there
 
 pub returns : goal.returns
 unfolding pair_within
-returns c = let e = c.args in rw (not-false (leb e.d 6148 && ltb e.filler e.d && ltb e.c 32) c.if-not-there.false) c.pair_unit.ensures
+returns c = let e = c.args in rw (c.if-not-there.false) c.pair_unit.ensures

@@ -34,7 +34,7 @@ sum : (c : After-bits_to) → let e = c.args in
     c.bits_to.result + c.turn_in-turn.result.rest ≡ length (bit_places (shape e.d e.filler) 0 c.cut_at-ncb.result)
 unfolding units_of
 sum c =
-    let k = (matchable_told (passed c)) in
+    let k = matchable_told (sym c.matchable.ensures ∙ c.if-not-matchable.false) in
     let e = c.args in
     ap₂ ◌+◌ (c.bits_to.ensures ∙ ap (λ (u : ℕ). length (bit_places (shape e.d e.filler) 0 (unit_start (rows e.d) u))) ((ap (λ (t : Turn). t.whole) c.turn_in-turn.ensures))) (ap (λ (x : Turn). x.rest) c.turn_in-turn.ensures)
     ∙ cut_circle_lem k.fits.most k.fits.filler k.fits.some k.cut

@@ -25,7 +25,7 @@ found c = record { told = (let a = c.args in of_joined a.first.now a.second.now 
 
 sized : (c : Else-c-size_of) → let a = c.args in
     Sized (a.first.now ++ a.second.now) a.c.now c.segments_for_both-s.result a.r
-sized c = record { found = record { told = told c; below = c.if-r-s.false }; size = c.if-c-size_of.false ∙ c.size_of.ensures }
+sized c = record { found = record { told = (let a = c.args in of_joined a.first.now a.second.now c.segments_for_both-s.ensures); below = c.if-r-s.false }; size = c.if-c-size_of.false ∙ c.size_of.ensures }
 
 pub returns-then-r-s : goal.returns-then-r-s
 returns-then-r-s c = none_such _ _ _ _ (told (goal.at.returns-then-r-s c).After-segments_for_both-s) c.if-r-s.true

@@ -54,4 +54,4 @@ returns-then-r-s c =
 
 pub returns-else-r-s : goal.returns-else-r-s
 returns-else-r-s c =
-    last_put (here (goal.at.returns-else-r-s c).After-start_of-from) c.if-r-s.false _ (rw (← long (goal.at.returns-else-r-s c).After-start_of-from) c c.fill_both-else-r-s.ensures) c.put_check_bits.ensures
+    last_put (here (goal.at.returns-else-r-s c).After-start_of-from) c.if-r-s.false _ (rw (← long (goal.at.returns-else-r-s c).After-start_of-from) at c.fill_both-else-r-s.ensures) c.put_check_bits.ensures

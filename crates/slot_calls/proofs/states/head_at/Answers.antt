@@ -11,7 +11,7 @@ use Rattle.slot_calls.proofs.states.head_at.Goals as goal
 
 -- the state that a function is given has eight heads
 eight : (c : Start) → length c.args.t1.heads ≡ 8
-eight c = simp length-map at c.well-formed.0.1.1.1.1.0.1.0.1
+eight c = simp length-map at c.well_formed.0.1.1.1.1.0.1.0.1
 
 -- the head at a place
 abbrev read : Start → ℕ → Head
