@@ -6,7 +6,7 @@ use Prim.Native.Nat.{ℕ, ◌*◌, ◌/◌, ◌≤◌}
 use native.Mathlib.Nat.{mul-le-mul}
 use native.Mathlib.Omega.{arith}
 use borrow.Author.Tests.{eq-eqb, ne_eqb}
-use Rattle.rate_matching.specs.SoftBuffer.{m_limit, n_ir, soft_share}
+use Rattle.rate_matching.specs.SoftBuffer.{divisor_in, m_limit, n_ir, soft_share}
 use Rattle.codeword.specs.Downlink.{bad_receiver, share_for}
 use Rattle.codeword.proofs.SoftShares.{receiver, divisor_few}
 use Rattle.codeword.proofs.buffer.share_for.Goals.{After-divisor_in, After-limited, Else-bad_receiver}
@@ -16,22 +16,28 @@ good : (c : Else-bad_receiver) → let e = c.args in bad_receiver e.release e.mi
 good c = sym c.bad_receiver.ensures ∙ c.if-bad_receiver.false
 
 -- K_C · K_MIMO
+product_few : (release k_mimo processes soft layers k : ℕ) → bad_receiver release k_mimo processes ≡ false → k ≡ divisor_in release soft layers
+    → (1 ≤ k * k_mimo) × (k * k_mimo ≤ 10)
+product_few release k_mimo processes soft layers k good e =
+    let few = divisor_few release soft layers in
+    let r = receiver _ _ _ good in
+    let least : 1 ≤ k = rw e few.0 in
+    let most : k ≤ 5 = rw e few.1 in
+    let low : 1 * 1 ≤ k * k_mimo = mul-le-mul least r.some in
+    let top : k * k_mimo ≤ 5 * 2 = mul-le-mul most r.few in
+    (omega arith, omega arith)
+
 product : (c : After-divisor_in) → let m = c.args.mimo in (1 ≤ c.divisor_in.result * m) × (c.divisor_in.result * m ≤ 10)
 product c =
     let e = c.args in
-    let few = divisor_few e.release e.soft e.layers in
-    let r = receiver _ _ _ ((sym c.bad_receiver.ensures ∙ c.if-bad_receiver.false)) in
-    let least : 1 ≤ c.divisor_in.result = rw c.divisor_in.ensures few.0 in
-    let most : c.divisor_in.result ≤ 5 = rw c.divisor_in.ensures few.1 in
-    let low : 1 * 1 ≤ c.divisor_in.result * e.mimo = mul-le-mul least r.some in
-    let top : c.divisor_in.result * e.mimo ≤ 5 * 2 = mul-le-mul most r.few in
-    (omega arith, omega arith)
+    product_few e.release e.mimo e.processes e.soft e.layers c.divisor_in.result (sym c.bad_receiver.ensures ∙ c.if-bad_receiver.false) c.divisor_in.ensures
 
 -- times min(M_DL_HARQ, M_limit)
 all : (c : After-limited) → let n = c.divisor_in.result * c.args.mimo * c.limited.result in (1 ≤ n) × (n ≤ 80)
 unfolding m_limit
 all c =
-    let p = (let e = c.args in let few = divisor_few e.release e.soft e.layers in let r = receiver _ _ _ (good c) in let least : 1 ≤ c.divisor_in.result = rw c.divisor_in.ensures few.0 in let most : c.divisor_in.result ≤ 5 = rw c.divisor_in.ensures few.1 in let low : 1 * 1 ≤ c.divisor_in.result * e.mimo = mul-le-mul least r.some in let top : c.divisor_in.result * e.mimo ≤ 5 * 2 = mul-le-mul most r.few in (omega arith, omega arith)) in
+    let e = c.args in
+    let p = product_few e.release e.mimo e.processes e.soft e.layers c.divisor_in.result (sym c.bad_receiver.ensures ∙ c.if-bad_receiver.false) c.divisor_in.ensures in
     let r = receiver _ _ _ ((sym c.bad_receiver.ensures ∙ c.if-bad_receiver.false)) in
     let some : 1 ≤ c.limited.result = omega (arith, c.limited.ensures, r.running) in
     let few : c.limited.result ≤ 8 = omega (arith, c.limited.ensures) in
