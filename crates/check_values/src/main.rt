@@ -17,20 +17,16 @@ fn main(rt: HostRuntime) -> io::Result<()> {
 // The bits of nine bytes, the highest of each first.
 fn bits_of(bytes: &[u8; 9]) -> [u8; 72] {
     let mut bits = [0u8; 72];
-    let mut i: usize = 0;
-    while i < 72 {
+    for i in 0..72 {
         let down = 7 - i % 8;
         bits[i] = (bytes[i / 8] >> down) % 2;
-        i += 1;
     }
     bits
 }
 
 // The last digits of a number in base 16.
 fn say_hex(rt: &HostRuntime, n: u32, digits: usize) -> io::Result<()> {
-    let mut left = digits;
-    while 0 < left {
-        left -= 1;
+    for left in (0..digits).rev() {
         if left < 8 {
             say_digit(rt, ((n >> (left * 4)) % 16) as u8)?;
         }

@@ -12,6 +12,7 @@ ghost use Rattle.codeword.specs.Downlink.{build_down_number, build_down_output};
 ghost use Rattle.face.specs.Face.{sizes_number, sizes_bytes};
 
 use codeword::Grant;
+pub use control::{zemrukste_control_build, zemrukste_control_whose};
 
 // Build: 0, or the number of the refusal, which writes nothing.
 #[unsafe(no_mangle)]

@@ -1,0 +1,9 @@
+-- What was read stands within the text, and each turn leaves less to read.
+use Rattle.std.proofs.Common.{length, ◌-◌, ◌≤◌}
+use Rattle.sizes.proofs.read_full.Given as goal
+
+abbrev pub invariant-loop-done : goal.invariant-loop-done
+invariant-loop-done l = l.done ≤ length l.text
+
+abbrev pub decreases-loop-done : goal.decreases-loop-done
+decreases-loop-done l = length l.initial.text - l.done
