@@ -18,7 +18,9 @@ below c = omega (arith, (goes c).0, c.requires.3)
 
 -- with the unit: it is the column's
 found : (c : After-column_unit_at) → let e = c.args in c.column_unit_at.result ≡ unit_within (length e.d0.now) e.filler c.loop-u.u
-found c = c.column_unit_at.ensures ∙ column_is _ _ ((omega (arith, (goes c).0, c.requires.3)))
+found c =
+    let below : c.loop-u.u < 32 = omega (arith, (filling_goes (c.loop-u.invariant [] []) _ c.loop-u-test.true).0, c.requires.3) in
+    c.column_unit_at.ensures ∙ column_is _ _ below
 
 pub loop-u-init : goal.loop-u-init
 loop-u-init c = λ d1 d2. filling_start c.requires.2 c.requires.4

@@ -27,4 +27,4 @@ shape_of-out c = last_back c.loop-left.invariant c.copy-2.new.to c.copy-2.auto.t
 pub returns : goal.returns
 returns c =
     turning_last c.loop-left.invariant c.requires (omega arith)
-    (all_copied (take c.loop-left.false c.args.ring.now) _ c.copy-2.ensures.after (last_lent c.loop-left.invariant (omega arith)))
+    (all_copied (take c.loop-left.left c.args.ring.now) _ c.copy-2.ensures.after (last_lent c.loop-left.invariant (omega arith)))
