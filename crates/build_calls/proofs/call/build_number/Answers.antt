@@ -22,12 +22,15 @@ allocation : (c : After-bad_allocation) → let a = c.args in
     c.bad_allocation.result ≡ bad_allocation (blocks (length (a.header.now ++ a.payload.now) + 24)) a.grant.modulation a.grant.layers a.grant.bits
 allocation c =
     let a = c.args in
-    c.bad_allocation.ensures ∙ ap (λ (C : ℕ). bad_allocation C a.grant.modulation a.grant.layers a.grant.bits) ((sized _ _ c.requires c.if-s-eq0.false)).count
+    c.bad_allocation.ensures ∙ ap (λ (C : ℕ). bad_allocation C a.grant.modulation a.grant.layers a.grant.bits) (sized _ _ c.requires c.if-s-eq0.false).count
 
 -- past the second the allocation is accepted
 allocated : (c : Else-bad_allocation) → let a = c.args in
     bad_allocation (blocks (length (a.header.now ++ a.payload.now) + 24)) a.grant.modulation a.grant.layers a.grant.bits ≡ false
-allocated c = sym ((let a = c.args in c.bad_allocation.ensures ∙ ap (λ (C : ℕ). bad_allocation C a.grant.modulation a.grant.layers a.grant.bits) (in_range c).count)) ∙ c.if-bad_allocation.false
+allocated c =
+    let a = c.args in
+    let count = (sized _ _ c.requires c.if-s-eq0.false).count in
+    sym (c.bad_allocation.ensures ∙ ap (λ (C : ℕ). bad_allocation C a.grant.modulation a.grant.layers a.grant.bits) count) ∙ c.if-bad_allocation.false
 
 -- what both slices tell of the joined bits
 given : (c : After-bad_bits-2) → let a = c.args in
