@@ -5,7 +5,6 @@ use mathlib.Core.Bool.{true}
 use Prim.Native.Nat.{◌+◌, ◌≤◌}
 use native.Mathlib.Omega.{arith}
 use lib.ListN.{length}
-use borrow.Author.Tests.{not-true, not-false}
 use Rattle.slots.specs.Answers.{is_done}
 use Rattle.slots.proofs.Cleared.{room_cleared}
 use Rattle.slot_calls.proofs.opening.clear_room.Goals.{After-room_length, Else-not-is_done}
@@ -13,14 +12,14 @@ use Rattle.slot_calls.proofs.opening.clear_room.Goals as goal
 
 -- past the test the answer is done
 done : (c : Else-not-is_done) → is_done c.args.answer ≡ true
-done c = sym c.is_done.ensures ∙ not-false c.is_done.result c.if-not-is_done.false
+done c = sym c.is_done.ensures ∙ c.if-not-is_done.false
 
 -- the room lies within the store
 ends : (c : After-room_length) → c.room_start-from.result + c.room_length.result ≤ length c.args.store.now
-ends c = omega (arith, (c.requires ((sym c.is_done.ensures ∙ not-false c.is_done.result c.if-not-is_done.false))).2)
+ends c = omega (arith, (c.requires (sym c.is_done.ensures ∙ c.if-not-is_done.false)).2)
 
 pub returns-then-not-is_done : goal.returns-then-not-is_done
-returns-then-not-is_done c = rw (← c.is_done.ensures, not-true c.is_done.result c.if-not-is_done.true)
+returns-then-not-is_done c = rw (← c.is_done.ensures, c.if-not-is_done.true)
 
 pub room_start-from-requires : goal.room_start-from-requires
 room_start-from-requires c = let asked = c.requires (done (goal.at.room_start-from-requires c).Else-not-is_done) in (asked.0, asked.1)

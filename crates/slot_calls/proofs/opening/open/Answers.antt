@@ -22,4 +22,4 @@ clear_room-requires c = λ done. room_there (open_stored _ _ _ 0 _ (eqb-true _ 0
 pub returns : goal.returns
 unfolding open_store
 returns c =
-    record { value = c.open_outcome-after.ensures; store_after = rw (told (goal.at.returns c).After-open_outcome-after) at c.clear-Room.ensures }
+    record { value = c.open_outcome-after.ensures; store_after = rw (told (goal.at.returns c).After-open_outcome-after) at c.clear_room.ensures }

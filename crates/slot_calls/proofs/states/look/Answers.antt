@@ -7,7 +7,7 @@ use Rattle.slot_calls.proofs.states.look.Goals.{After-head_at-head}
 use Rattle.slot_calls.proofs.states.look.Goals as goal
 
 -- the head is that of the slot
-found : (c : After-head_at-head) → c.head_at-head.result ≡ head_at_lem c.args.t1 c.args.slot
+found : (c : After-head_at-head) → c.head_at-head.result ≡ head_at_lem c.args.state c.args.slot
 found c = c.head_at-head.ensures
 
 pub returns-then-bad_shape : goal.returns-then-bad_shape
@@ -29,7 +29,7 @@ returns-then-bad_head c =
 pub loop-i-preserved : goal.loop-i-preserved
 unfolding closed_head
 loop-i-preserved c =
-    (c.loop-i.invariant.0, heads.next-1 c.loop-i-test.true (sym c.bad_head.ensures ∙ c.if-bad_head.false) c.loop-i.invariant.1)
+    (c.loop-i.invariant.0, heads.next c.loop-i-test.true (sym c.bad_head.ensures ∙ c.if-bad_head.false) c.loop-i.invariant.1)
 
 pub returns : goal.returns
 unfolding bad_state

@@ -20,5 +20,5 @@ room_start-requires c =
 pub returns : goal.returns
 unfolding store_rules or_else store_length room_start
 returns c =
-    let sound : 0 ≡ c 0 (bad_state c.args.state) 13 = rw (← c.requires, c.if-bad.false) in
+    let sound : 0 ≡ or_else 0 (bad_state c.args.state) 13 = rw (← c.requires, c.if-bad.false) in
     chained (next sound (next (rw c.room_start.ensures at c.or_else-short.ensures) (next c.or_else.ensures done))) tt
