@@ -6,7 +6,6 @@ use Prim.Native.Nat.{ℕ, ◌+◌, ◌*◌, ◌≤◌}
 use native.Mathlib.Nat.{mul-le-mul}
 use native.Mathlib.Omega.{arith}
 use lib.ListN.{length}
-use borrow.Author.Tests.{not-true, not-false}
 use Rattle.slots.specs.Answers.{is_done}
 use Rattle.slots.specs.State.{room_length, room_start}
 use Rattle.packing.specs.Store.{places_a_byte}
@@ -17,7 +16,7 @@ use Rattle.packing.proofs.opening.clear_room.Goals as goal
 
 -- past the test the answer is done
 done : (c : Else-not-is_done) → is_done c.args.answer ≡ true
-done c = sym c.is_done.ensures ∙ not-false c.is_done.result c.if-not-is_done.false
+done c = sym c.is_done.ensures ∙ c.if-not-is_done.false
 
 -- no room starts past 8 of 5 code blocks
 small : (m slot : ℕ) → m ≤ 5 → slot ≤ 8 → slot * (m * 4632) ≤ 185280
@@ -30,7 +29,7 @@ ends c = omega (arith, (c.requires (done c)).2, places_are true c.args.store.now
 
 pub returns-then-not-is_done : goal.returns-then-not-is_done
 returns-then-not-is_done c =
-    rw (← c.is_done.ensures, not-true c.is_done.result c.if-not-is_done.true)
+    rw (← c.is_done.ensures, c.if-not-is_done.true)
     (sym (form_back true c.args.store.now (λ i. omega (arith, c.type_inv.store i))))
 
 pub overflow_mul-long : goal.overflow_mul-long

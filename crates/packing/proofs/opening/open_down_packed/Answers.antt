@@ -35,4 +35,4 @@ clear_room-requires c = λ done. room_there (down_stored _ _ _ 0 _ _ _ _ _ _ (eq
 pub returns : goal.returns
 unfolding open_down_store
 returns c =
-    record { value = outcome_is (goal.at.returns c).After-open_down_outcome-after; store_after = rw (told (goal.at.returns c).After-open_down_outcome-after) at c.clear-Room.ensures }
+    record { value = outcome_is (goal.at.returns c).After-open_down_outcome-after; store_after = rw (told (goal.at.returns c).After-open_down_outcome-after) at c.clear_room.ensures }

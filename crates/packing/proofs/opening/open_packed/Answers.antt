@@ -35,4 +35,4 @@ clear_room-requires c = λ done. room_there (open_stored _ _ _ 0 _ (eqb-true _ 0
 pub returns : goal.returns
 unfolding open_store
 returns c =
-    record { value = outcome_is (goal.at.returns c).After-open_outcome-after; store_after = rw (told (goal.at.returns c).After-open_outcome-after) at c.clear-Room.ensures }
+    record { value = outcome_is (goal.at.returns c).After-open_outcome-after; store_after = rw (told (goal.at.returns c).After-open_outcome-after) at c.clear_room.ensures }
