@@ -20,7 +20,7 @@ pub count_few-requires : goal.count_few-requires
 count_few-requires c =
     let l = c.loop-i in
     let bytes = c.args.bytes.now in
-    let lent = length_mid l.i (l.i + 192) bytes (part-count-few-end c) in
+    let lent = length_mid l.i (l.i + 192) bytes (omega arith) in
     omega arith
 
 pub overflow_cast-n : goal.overflow_cast-n

@@ -27,10 +27,12 @@ head c =
     let d = c.args.d in
     ap (λ (u : Unit). u.begin) c.column_unit_at.ensures
     ∙ ap (λ (q : ℕ). (column_within d 0 q).begin) c.column_at.ensures
-    ∙ column_first d c.loop-p.p ((let w = c.loop-p.invariant.passed in (omega (arith, w, c.requires.0, c.requires.1.most), c.requires.1.places c.loop-p.p w.0 (omega (arith, w, c.requires.0))))).0
+    ∙ column_first d c.loop-p.p (omega (arith, c.loop-p.invariant.passed, c.requires.0, c.requires.1.most))
 
 found : (c : After-column_unit_at) → let e = c.args in c.column_unit_at.result.begin.0 + e.row < length e.circle.now
-found c = omega (arith, ap (λ (x : CirclePlace). x.0) (head c), ((let w = c.loop-p.invariant.passed in (omega (arith, w, c.requires.0, c.requires.1.most), c.requires.1.places c.loop-p.p w.0 (omega (arith, w, c.requires.0))))).1)
+found c =
+    let w = c.loop-p.invariant.passed in
+    omega (arith, ap (λ (x : CirclePlace). x.0) (head c), c.requires.1.places c.loop-p.p w.0 (omega (arith, w, c.requires.0)))
 
 -- it is 0 or 1
 counted : (c : After-missing) → c.missing.result ≤ 1

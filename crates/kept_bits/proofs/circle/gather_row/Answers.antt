@@ -10,7 +10,7 @@ use Rattle.kept_bits.proofs.circle.gather_row.Goals as goal
 
 -- the place lies on the circle
 lies : (c : In-loop-k) → let e = c.args in
-    (get_or e.t2 (e.from + c.loop-k.k) (circle_place 0)).0 + e.below < length e.circle.now
+    (get_or e.heads (e.from + c.loop-k.k) (circle_place 0)).0 + e.below < length e.circle.now
 lies c = c.requires.places (c.args.from + c.loop-k.k) (omega arith) (omega arith)
 
 pub loop-k-init : goal.loop-k-init

@@ -2,19 +2,22 @@
 -- Assumes nothing.
 use mathlib.Core.Path.{◌≡◌, ◌∙◌}
 use mathlib.Core.Bool.{Bool, true, false, cond}
-use mathlib.Core.Logic.{⊎_elim}
 use Prim.Native.Nat.{ℕ, ◌≤◌}
 use native.Mathlib.Omega.{arith}
 use lib.Dec.{eqb}
 use borrow.Author.Tests.{eq-eqb, ne_eqb}
 use Rattle.rate_matching.specs.Matrix.{row_step}
 use Rattle.kept_bits.proofs.Rows.{along, kept_along, heads_there, matrix_there}
-use Rattle.kept_bits.proofs.circle.gather_stream.Goals.{Joined-stream-eq0}
+use Rattle.kept_bits.proofs.circle.gather_stream.Goals.{Joined-stream-eq0, then-stream-eq0, else-stream-eq0}
 use Rattle.kept_bits.proofs.circle.gather_stream.Goals as goal
 
 step_is : (c : Joined-stream-eq0) → c.if-stream-eq0.step ≡ row_step c.args.from.0
 unfolding row_step
-step_is c = ⊎_elim (λ w. rw (eq-eqb _ 0 w.0.true) w.1) (λ w. rw (ne_eqb _ 0 w.0.false) w.1) c.if-stream-eq0.branch
+step_is c =
+    elim c.if-stream-eq0.branch [
+      | then-stream-eq0 w ↦ rw (eq-eqb _ 0 w.if-stream-eq0.true) w.step-is
+      | else-stream-eq0 w ↦ rw (ne_eqb _ 0 w.if-stream-eq0.false) w.step-is
+    ]
 
 step_few : (s : ℕ) → row_step s ≤ 2
 unfolding row_step

@@ -2,7 +2,7 @@
 -- Assumes nothing.
 use mathlib.Core.Path.{◌≡◌, ◌∙◌}
 use mathlib.Core.Bool.{true}
-use Prim.Native.Nat.{◌+◌}
+use Prim.Native.Nat.{ℕ, ◌+◌, ◌≤◌}
 use native.Mathlib.Omega.{arith}
 use lib.ListN.{length}
 use borrow.Author.Tests.{lt-leb, le-leb}
@@ -11,18 +11,18 @@ use Rattle.rate_matching.specs.Circle.{circle_length}
 use Rattle.rate_matching.specs.Matrix.{length_within}
 use Rattle.kept_bits.specs.Circle.{countable}
 use Rattle.kept_bits.proofs.Lacking.{countable_told}
-use Rattle.kept_bits.proofs.circle.lacking_of.Goals.{After-circle_length, Then-there}
+use Rattle.kept_bits.proofs.circle.lacking_of.Goals.{Then-there}
 use Rattle.kept_bits.proofs.circle.lacking_of.Goals as goal
 
 -- the length of the circle, K being in range
-long : (c : After-circle_length) → c.circle_length.result ≡ circle_length (rows (c.args.k + 4))
+long : (d : ℕ) {n : ℕ} → n ≡ length_within d → d ≤ 6148 → n ≡ circle_length (rows d)
 unfolding length_within
-long c = c.circle_length.ensures ∙ rw (le-leb (c.args.k + 4) 6148 (omega arith))
+long d e h = e ∙ rw (le-leb d 6148 h)
 
 -- past the test
 counted : (c : Then-there) → let e = c.args in countable (length e.circle.now) e.k e.f ≡ true
 unfolding countable
-counted c = simp (le-leb _ _ c.if-k-gt6144.false, ← (c.circle_length.ensures ∙ rw (le-leb (c.args.k + 4) 6148 (omega arith))), c.if-there.true)
+counted c = simp (le-leb _ _ c.if-k-gt6144.false, ← long (c.args.k + 4) c.circle_length.ensures (omega arith), c.if-there.true)
 
 pub returns-then-k-gt6144 : goal.returns-then-k-gt6144
 unfolding countable
@@ -36,4 +36,4 @@ returns-then-there c = c.lacking_on.ensures ∙ rw (counted (goal.at.returns-the
 
 pub returns : goal.returns
 unfolding countable
-returns c = simp (le-leb _ _ c.if-k-gt6144.false, ← long (goal.at.returns c).After-circle_length, c.if-there.false)
+returns c = simp (le-leb _ _ c.if-k-gt6144.false, ← long (c.args.k + 4) c.circle_length.ensures (omega arith), c.if-there.false)

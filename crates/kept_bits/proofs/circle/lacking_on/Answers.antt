@@ -21,7 +21,7 @@ use Rattle.kept_bits.proofs.circle.lacking_on.Goals as goal
 end_is : (c : After-column_unit_at) → c.column_unit_at.result.end.0 ≡ 32 * rows (c.args.k + 4)
 end_is c =
     let w = c.requires.1.sized in
-    ap (λ (u : Unit). u.end-1.0) c.column_unit_at.ensures ∙ stream_ends w.most (omega (arith, w.least))
+    ap (λ (u : Unit). u.end.0) c.column_unit_at.ensures ∙ stream_ends w.most (omega (arith, w.least))
 
 end_fits : (c : After-column_unit_at) → c.column_unit_at.result.end.0 ≤ length c.args.circle.now
 end_fits c = omega (arith, end_is c, stream_fits c.args.circle.now c.requires.0 c.requires.1 refl refl)
@@ -32,7 +32,7 @@ parts c =
     let found = heads_there c.requires.1 in
     let begin = c.matrix_place-data.result in
     let end = c.matrix_place-tail.result in
-    all_parts c.args.circle.now c.requires.0 c.requires.1 c.matrix_place-tail.ensures c.matrix_place-data.ensures ((let w = c.requires.1.sized in ap (λ (u : Unit). u.end-1.0) c.column_unit_at.ensures ∙ stream_ends w.most (omega (arith, w.least)))) c.count_missing-all.ensures
+    all_parts c.args.circle.now c.requires.0 c.requires.1 c.matrix_place-tail.ensures c.matrix_place-data.ensures ((let w = c.requires.1.sized in ap (λ (u : Unit). u.end.0) c.column_unit_at.ensures ∙ stream_ends w.most (omega (arith, w.least)))) c.count_missing-all.ensures
     (c.count_before-front.ensures ∙ ap (λ (hs : List CirclePlace). sum_from (missing_by c.args.circle.now hs) 0 (32 * begin.row + begin.column)) found)
     (c.count_row-back.ensures ∙ ap (λ (hs : List CirclePlace). sum_from (missing_below c.args.circle.now hs end.row) end.column (32 - end.column)) found)
 
