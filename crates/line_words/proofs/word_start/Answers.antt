@@ -9,7 +9,7 @@ pub returns-then-line-at : goal.returns-then-line-at
 returns-then-line-at c = gone c.loop-left.invariant c.if-line-at.true
 
 pub loop-left-preserved : goal.loop-left-preserved
-loop-left-preserved c = step c.loop-left.invariant (omega arith) (omega arith) c.word_end-at.ensures
+loop-left-preserved c = step c.loop-left.invariant (omega arith) (omega arith) (c.word_end-at.ensures.value, c.word_end-at.ensures.upper_bound)
 
 pub returns : goal.returns
 returns c = reached c.loop-left.invariant (omega arith)

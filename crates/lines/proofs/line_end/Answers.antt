@@ -1,4 +1,4 @@
--- `lines::line_end` meets its contract, which is that of `bytes::scan::find` on the rest of the text.
+-- `lines::line_end` meets its contract, which is that of `octets::find` on the rest of the text.
 -- Assumes nothing.
 use mathlib.Core.Path.{sym, ◌∙◌, ap}
 use mathlib.Core.List.{List}
@@ -7,7 +7,7 @@ use native.Mathlib.Nat.{add-zero}
 use native.Mathlib.Omega.{arith}
 use lib.ListN.{length, drop, drop_of_length-le}
 use lib.Seq.{take-length}
-use Rattle.octets.specs.Bytes.{index_of, slice}
+use Rattle.octets.specs.Bytes.{index_of}
 use Rattle.lines.specs.Row.{newline}
 use Rattle.lines.specs.Text.{line_end}
 use Rattle.lines.proofs.line_end.Goals as goal
@@ -20,7 +20,7 @@ returns-then-text-from c =
     rw (drop_of_length-le args.text.now past) (sym (add-zero args.from))
 
 pub returns : goal.returns
-unfolding line_end slice
+unfolding line_end
 returns c =
     let args = c.args in
     c.find.ensures.place ∙ ap (λ (l : List ℕ). args.from + index_of newline (drop args.from l)) (take-length args.text.now)

@@ -12,19 +12,17 @@ pub put_refusal-requires : goal.put_refusal-requires
 put_refusal-requires c =
     let args = c.args in
     let short = decimal_length args.a c.ranges.a.fits in
-    let is_put = looked args.at (decimal_of args.a) args.out.now (omega (arith, short)) c.put_decimal-end.ensures in
+    let is_put = looked args.at (decimal_of args.a) args.out.now (omega (arith, short)) (c.put_decimal-end.ensures.value, c.put_decimal-end.ensures.out_after) in
     omega (arith, short, is_put.0, c.put_decimal-end.auto.out)
 
 pub returns-in-Given : goal.returns-in-Given
 unfolding answer_fields values_of
-returns-in-Given c = rw c.answer-1.given.1 c.put_numbers.ensures
+returns-in-Given c = record { value = rw c.in-Given.is c.put_numbers.ensures.value; out_after = rw c.in-Given.is c.put_numbers.ensures.out_after }
 
 pub returns-in-Refused : goal.returns-in-Refused
 unfolding answer_fields number_of
 returns-in-Refused c =
     let args = c.args in
     let short = decimal_length args.a c.ranges.a.fits in
-    let first-put = c.put_decimal-end.ensures in
-    let rest = c.put_refusal in
-    rw c.answer-in-Refused-1.given.1
-    (row_put args.at (decimal_of args.a) _ args.out.now (omega (arith, short)) first-put c.put_refusal.ensures c.put_refusal.auto.out)
+    let told = row_put args.at (decimal_of args.a) _ args.out.now (omega (arith, short)) (c.put_decimal-end.ensures.value, c.put_decimal-end.ensures.out_after) (c.put_refusal.ensures.value, c.put_refusal.ensures.out_after) c.put_refusal.auto.out in
+    record { value = rw c.in-Refused.is told.0; out_after = rw c.in-Refused.is told.1 }

@@ -1,4 +1,4 @@
--- `lines::put_bytes` meets its contract: a lent part is what `bytes::copy` says.
+-- `lines::put_bytes` meets its contract: a lent part is what `octets::copy` says.
 -- Assumes nothing.
 use mathlib.Core.Path.{sym, ◌∙◌}
 use Prim.Native.Nat.{◌+◌}

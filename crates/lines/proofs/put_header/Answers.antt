@@ -6,4 +6,4 @@ use Rattle.lines.proofs.put_header.Goals as goal
 
 pub returns : goal.returns
 unfolding header row_of end_of
-returns c = let told = c.put_bytes.ensures in record { value = told.0; out_after = told.1 }
+returns c = record { value = c.put_bytes.ensures.value; out_after = c.put_bytes.ensures.out_after }

@@ -20,6 +20,5 @@ returns-then-out-at-2 c =
 pub returns : goal.returns
 returns c =
     let args = c.args in
-    let put = c.put_numbers.ensures in
     let all = row_fits args.at args.numbers.now args.out.now (omega arith) in
     record { value = c.put_numbers.ensures.value ∙ sym all.0; out_after = c.put_numbers.ensures.out_after ∙ sym all.1 }

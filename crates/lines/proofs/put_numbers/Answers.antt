@@ -10,7 +10,7 @@ in_out : (c : After-field_end) → c.put_decimal-mark.result < length c.put_deci
 in_out c =
     let head = c.loop-i in
     let small = c.type_inv.numbers head.i in
-    inside head.invariant (omega arith) small.fits c.put_decimal-mark.ensures
+    inside head.invariant (omega arith) small.fits (c.put_decimal-mark.ensures.value, c.put_decimal-mark.ensures.out_after)
 
 pub loop-i-init : goal.loop-i-init
 loop-i-init c = start _ _ _ (omega arith)
@@ -25,7 +25,7 @@ pub loop-i-preserved : goal.loop-i-preserved
 loop-i-preserved c =
     let head = c.loop-i in
     let small = c.type_inv.numbers head.i in
-    next head.invariant (omega arith) small.fits c.put_decimal-mark.ensures c.field_end.ensures
+    next head.invariant (omega arith) small.fits (c.put_decimal-mark.ensures.value, c.put_decimal-mark.ensures.out_after) c.field_end.ensures
 
 pub shape_of-out : goal.shape_of-out
 shape_of-out c = c.loop-i.invariant.writing.long

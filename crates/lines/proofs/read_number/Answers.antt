@@ -1,13 +1,13 @@
 -- `lines::read_number` meets its contract: each test is the definition's own.
 -- Assumes nothing.
 use mathlib.Core.Path.{◌∙◌}
-use mathlib.Core.Logic.{⊎_elim}
 use Prim.Native.Nat.{◌≤◌, ◌<◌, min}
 use native.Mathlib.Omega.{arith}
 use lib.ListN.{length}
 use borrow.Author.Tests.{eq-eqb, ne_eqb, lt-ltb, le-ltb}
 use Rattle.lines.proofs.Reading.{readable}
 use Rattle.lines.specs.Line.{line_of, too_long, leading_zero}
+use Rattle.lines.proofs.read_number.Goals.{then-line-eq-ZERO+else-line-gt1, else-line-eq-ZERO}
 use Rattle.lines.proofs.read_number.Goals as goal
 
 pub returns-then-line-eq0 : goal.returns-then-line-eq0
@@ -31,4 +31,4 @@ unfolding leading_zero
 returns c =
     c.read_digits.ensures
     ∙ readable c.args.most c.args.line.now c.if-line-eq0.false (omega arith)
-    (⊎_elim (λ w. simp (eq-eqb _ _ w.0.true, le-ltb _ _ w.1.false)) (λ w. simp (ne_eqb _ _ w.false)) c.if-line-eq-ZERO.branch)
+    (elim c.if-line-eq-ZERO.branch [ then-line-eq-ZERO+else-line-gt1 w ↦ simp (eq-eqb _ _ w.if-line-eq-ZERO.true, le-ltb _ _ w.if-line-gt1.false) | else-line-eq-ZERO w ↦ simp (ne_eqb _ _ w.if-line-eq-ZERO.false) ])

@@ -39,7 +39,7 @@ loop-next-preserved c =
     let inv = c.loop-next.invariant in
     let end = c.line_end-end.ensures in
     let row = c.put_row-written in
-    turn _ inv (omega arith) (omega arith) end c.line_next-next.ensures c.put_row-written.ensures c.put_row-written.auto.out
+    turn _ inv (omega arith) (omega arith) end c.line_next-next.ensures (c.put_row-written.ensures.value, c.put_row-written.ensures.out_after) c.put_row-written.auto.out
 
 pub shape_of-out-after-loop-next : goal.shape_of-out-after-loop-next
 shape_of-out-after-loop-next c = c.loop-next.invariant.writing.long
