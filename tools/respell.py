@@ -57,6 +57,9 @@ def fell(n, new, turned, declared, text):
 
 TOKENS = {}
 
+# definitions whose spelling a lemma has in crates that never cite both
+PLAIN = {"goesOn", "headAt", "tooMany", "tooShort"}
+
 
 def is_walk(f):
     return os.path.basename(f) == "Proof.antt"
@@ -104,7 +107,7 @@ def main(argv):
         new = snake(n)
         if new == n and n not in MOVED:
             continue
-        if n in MOVED or new in lent or new in fell(n, new, turned, declared, text):
+        if n not in PLAIN and (n in MOVED or new in lent or new in fell(n, new, turned, declared, text)):
             new = snake(n) + "_lem"
         turned[n] = new
     tokens = TOKENS

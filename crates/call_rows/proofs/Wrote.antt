@@ -13,7 +13,7 @@ use Rattle.segmentation.specs.declared.Segments.{Segments}
 use Rattle.segmentation.specs.Sizes.{segments_for}
 use Rattle.slots.specs.declared.Head.{Head}
 use Rattle.slots.specs.declared.State.{State}
-use Rattle.slots.specs.State.{head_at_lem}
+use Rattle.slots.specs.State.{head_at}
 use Rattle.slots.proofs.HeadLaws.{open_size}
 use Rattle.reading.proofs.Blocks.{size_told}
 use Rattle.slots.specs.declared.Outcome.{Outcome}
@@ -145,13 +145,13 @@ module _ (state : State) (store : List ℕ) (slot terminal r : ℕ) (out : List 
   stream_runs = three_runs _ _ _ _ _ (run_length 0) (run_length 1) (run_length 2) written
 
   -- D by the head and the segmentation that the caller found
-  pub stream_size : {head : Head} {s : Segments} {k : ℕ} → head ≡ head_at_lem state slot → s ≡ segments_for head.size → k ≡ cond (ltb r s.shorts) s.short s.long
+  pub stream_size : {head : Head} {s : Segments} {k : ℕ} → head ≡ head_at state slot → s ≡ segments_for head.size → k ≡ cond (ltb r s.shorts) s.short s.long
       → k + 4 ≡ stream_length state slot r
   unfolding stream_length size_at_head
   stream_size h e k_is =
       let w = streams state (length store) slot terminal r (length out) accepted in
       let found = e ∙ ap (λ (x : Head). segments_for x.size) h in
-      ap (λ (n : ℕ). n + 4) (k_is ∙ size_told (head_at_lem state slot).size r found (open_size state w.sound slot w.below w.opened).0)
+      ap (λ (n : ℕ). n + 4) (k_is ∙ size_told (head_at state slot).size r found (open_size state w.sound slot w.below w.opened).0)
 
 -- ---- the rows
 

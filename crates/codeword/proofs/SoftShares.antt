@@ -21,7 +21,7 @@ use Rattle.rate_matching.specs.SoftBuffer.{k_c, divisor_in, soft_share}
 use Rattle.codeword.specs.declared.Grant.{Grant}
 use Rattle.codeword.specs.Codeword.{block_rows, block_cut}
 use Rattle.codeword.specs.Build.{bad_version, size_rule, symbol_rule, length_rule, version_rule, output_rule, bits_rule}
-use Rattle.codeword.specs.Downlink.{bad_receiver, too_short_lem, bad_buffer, share_for, buffer_rule, build_down_rules, build_down_number}
+use Rattle.codeword.specs.Downlink.{bad_receiver, too_short, bad_buffer, share_for, buffer_rule, build_down_rules, build_down_number}
 use Rattle.codeword.specs.inner.Accepted.{Accepted}
 use Rattle.codeword.proofs.Accepted.{or-false, allocation_of}
 
@@ -63,19 +63,19 @@ module _ (B : ℕ) (high : B ≤ 30600) where
       | no h ↦ le-ltb (min soft (96 * block_rows B r)) (32 * block_rows B r) (omega (arith, rows_some r)) ∙ sym (le-ltb soft (32 * block_rows B r) (omega arith))
     ]
 
-    none_short : 32 * rows (long B + 4) ≤ soft → (n : ℕ) → too_short_lem soft B n ≡ false
-    unfolding too_short_lem
+    none_short : 32 * rows (long B + 4) ≤ soft → (n : ℕ) → too_short soft B n ≡ false
+    unfolding too_short
     none_short h zero = refl
     none_short h (suc n) = rw (none_short h n, cut_below n) (le-ltb soft (32 * block_rows B n) (omega (arith, rows_under n)))
 
-    last_short : soft < 32 * rows (long B + 4) → too_short_lem soft B (blocks B) ≡ true
-    unfolding too_short_lem
+    last_short : soft < 32 * rows (long B + 4) → too_short soft B (blocks B) ≡ true
+    unfolding too_short
     last_short h =
         let last : blocks B ≡ suc (blocks B - 1) = omega (arith, blocks_least B high) in
-        ap (too_short_lem soft B) last
-        ∙ or_last (too_short_lem soft B (blocks B - 1)) (cut_below (blocks B - 1) ∙ lt-ltb soft (32 * block_rows B (blocks B - 1)) (rw rows_last h))
+        ap (too_short soft B) last
+        ∙ or_last (too_short soft B (blocks B - 1)) (cut_below (blocks B - 1) ∙ lt-ltb soft (32 * block_rows B (blocks B - 1)) (rw rows_last h))
 
-    pub short_told : too_short_lem soft B (blocks B) ≡ ltb soft (32 * rows (long B + 4))
+    pub short_told : too_short soft B (blocks B) ≡ ltb soft (32 * rows (long B + 4))
     short_told = elim (dec_lt soft (32 * rows (long B + 4))) [
       | yes h ↦ last_short h ∙ sym (lt-ltb soft (32 * rows (long B + 4)) h)
       | no h ↦ none_short (omega arith) (blocks B) ∙ sym (le-ltb soft (32 * rows (long B + 4)) (omega arith))
@@ -154,7 +154,7 @@ module _ (a : List ℕ) (release k_mimo processes Nsoft layers : ℕ) where
     buffer_told = go (bad_receiver release k_mimo processes) refl
       where
         go : (t : Bool) → bad_receiver release k_mimo processes ≡ t
-            → (bad_receiver release k_mimo processes || too_short_lem (soft_share (blocks B) release k_mimo processes Nsoft layers) B (blocks B)) ≡ ltb given (32 * rows (long B + 4))
+            → (bad_receiver release k_mimo processes || too_short (soft_share (blocks B) release k_mimo processes Nsoft layers) B (blocks B)) ≡ ltb given (32 * rows (long B + 4))
         go true e = rw (e, unused e) (sym (lt-ltb 0 (32 * rows (long B + 4)) (omega (arith, some_rows (long B)))))
         go false e = rw (e, used e) (short_told B high (soft_share (blocks B) release k_mimo processes Nsoft layers))
 

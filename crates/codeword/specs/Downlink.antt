@@ -14,14 +14,14 @@ bad_receiver release k_mimo processes =
     not (eqb release 8 || eqb release 11) || (not (eqb k_mimo 1 || eqb k_mimo 2) || eqb processes 0)
 
 -- an N_cb below 32·R for one of the first n code blocks
-unfoldable pub too_short_lem : ℕ → ℕ → ℕ → Bool
-too_short_lem soft B zero = false
-too_short_lem soft B (suc n) = too_short_lem soft B n || ltb (block_cut soft B n) (32 * block_rows B n)
+unfoldable pub too_short : ℕ → ℕ → ℕ → Bool
+too_short soft B zero = false
+too_short soft B (suc n) = too_short soft B n || ltb (block_cut soft B n) (32 * block_rows B n)
 
 -- number 21, for a sequence of B bits: another release, K_MIMO or number of processes, or an N_cb below 32·R for any block
 unfoldable pub bad_buffer : ℕ → ℕ → ℕ → ℕ → ℕ → ℕ → Bool
 bad_buffer B release k_mimo processes Nsoft layers =
-    bad_receiver release k_mimo processes || too_short_lem (soft_share (blocks B) release k_mimo processes Nsoft layers) B (blocks B)
+    bad_receiver release k_mimo processes || too_short (soft_share (blocks B) release k_mimo processes Nsoft layers) B (blocks B)
 
 -- ⌊N_IR / C⌋ of an accepted receiver, else 0
 unfoldable pub share_for : ℕ → ℕ → ℕ → ℕ → ℕ → ℕ → ℕ

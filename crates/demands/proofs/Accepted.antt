@@ -16,7 +16,7 @@ use Rattle.codeword.specs.Shares.{grant}
 use Rattle.slots.specs.declared.Answer.TheVariants.{Done, Refused}
 use Rattle.slots.specs.declared.State.{State}
 use Rattle.slots.specs.declared.Outcome.{Outcome}
-use Rattle.slots.specs.State.{room_length, head_at_lem}
+use Rattle.slots.specs.State.{room_length, head_at}
 use Rattle.slots.specs.Room.{room_at}
 use Rattle.slots.specs.Reading.{lacking, first_wrong, some_wrong, wrong_check, heard_answer}
 use Rattle.slots.specs.Answers.{number_of, Lacking, WrongBlock, unless_refused}
@@ -66,7 +66,7 @@ module _ (S M : ℕ) (store₀ : List ℕ) (new : New S M store₀) (h : History
   here = omega (arith, below, ok.slots)
 
   -- Open of a closed slot for an A in range that fits M
-  module _ (A : ℕ) (size : Size A) (closed : (head_at_lem state slot).opened ≡ false) (few : blocks (A + 24) ≤ M) where
+  module _ (A : ℕ) (size : Size A) (closed : (head_at state slot).opened ≡ false) (few : blocks (A + 24) ≤ M) where
     fits : blocks (A + 24) ≤ state.blocks
     fits = omega (arith, few, ok.blocks)
 

@@ -21,7 +21,7 @@ use Rattle.slots.specs.declared.State.{State}
 use Rattle.slots.specs.declared.Outcome.{Outcome}
 use Rattle.slots.specs.declared.Answer.{Answer}
 use Rattle.slots.specs.declared.Answer.TheVariants.{Done, Refused}
-use Rattle.slots.specs.State.{room_length, store_length, head_at_lem, bad_state}
+use Rattle.slots.specs.State.{room_length, store_length, head_at, bad_state}
 use Rattle.slots.specs.Room.{room_at}
 use Rattle.slots.specs.Reading.{lacking, first_wrong, some_wrong, wrong_check, heard_answer}
 use Rattle.slots.specs.Checks.{blocks_at, RightBlock, RightTransport}
@@ -143,18 +143,18 @@ store_rows_lem state lent slot rs c goes =
 
 -- 8, 9
 owner_rows_lem : (state : State) (slot terminal : ℕ) (rs : List Rule) {next : ℕ → Type 0} {after n : ℕ} → Comes (owner_rules state slot terminal ++ rs) after n
-    → (not (head_at_lem state slot).opened ≡ false → not (eqb (head_at_lem state slot).terminal terminal) ≡ false → Comes rs after n → next n)
+    → (not (head_at state slot).opened ≡ false → not (eqb (head_at state slot).terminal terminal) ≡ false → Comes rs after n → next n)
     → owner_rows state slot terminal next n
 unfolding owner_rules
 owner_rows_lem state slot terminal rs c goes =
-    row (true_test (head_at_lem state slot).opened) refl c (λ x c. row (equal_test (head_at_lem state slot).terminal terminal) refl c (λ y c. goes x y c))
+    row (true_test (head_at state slot).opened) refl c (λ x c. row (equal_test (head_at state slot).terminal terminal) refl c (λ y c. goes x y c))
 
 -- 13, 5, 6, 7, 1, 10
 open_rows_lem : (state : State) (lent slot A : ℕ) (rs : List Rule) {next : ℕ → Type 0} {after n : ℕ} → Comes (open_rules state lent slot A ++ rs) after n
     → (Comes rs after n → next n) → open_rows state lent slot A next n
 unfolding open_rules store_rules
 open_rows_lem state lent slot A rs c goes =
-    store_rows_lem state lent slot _ c (λ x y z c. row (false_test (head_at_lem state slot).opened) refl c (λ e c. row (size_test A) refl c
+    store_rows_lem state lent slot _ c (λ x y z c. row (false_test (head_at state slot).opened) refl c (λ e c. row (size_test A) refl c
     (λ e c. row (blocks_test state.blocks A) refl c (λ e c. goes c))))
 
 pub open_number_lem : (state : State) (lent slot terminal A : ℕ) → OpenGives state lent slot A (number_of (open_outcome state lent slot terminal A).answer)
@@ -189,7 +189,7 @@ close_number_lem state slot terminal =
 -- Read's last rows, where it comes to the room
 module _ (state : State) (store : List ℕ) (slot terminal size : ℕ) where
   abbrev A : ℕ
-  A = (head_at_lem state slot).size
+  A = (head_at state slot).size
 
   abbrev room : List ℕ
   room = room_at state.blocks slot store
@@ -226,8 +226,8 @@ module _ (state : State) (store : List ℕ) (slot terminal size : ℕ) where
             let w = released_right state store slot terminal size (ap number_of (is e f g)) in
             passed (eqb-true (lacking A room) 0 e) (passed w.1 (passed w.0 (none h)))
 
-  comes_to_room : bad_state state ≡ false → ltb (length store) (store_length state) ≡ false → not (ltb slot state.slots) ≡ false → not (head_at_lem state slot).opened ≡ false
-      → not (eqb (head_at_lem state slot).terminal terminal) ≡ false → ltb size A ≡ false → read_number state (length store) slot terminal size ≡ 0
+  comes_to_room : bad_state state ≡ false → ltb (length store) (store_length state) ≡ false → not (ltb slot state.slots) ≡ false → not (head_at state slot).opened ≡ false
+      → not (eqb (head_at state slot).terminal terminal) ≡ false → ltb size A ≡ false → read_number state (length store) slot terminal size ≡ 0
   unfolding read_number store_rules owner_rules size_at_head first_of
   comes_to_room a b c d e f = rw (a, b, c, d, e, f)
 

@@ -12,7 +12,7 @@ use lib.Seq.{length-take-le}
 use borrow.Author.Tests.{eqb-true, ltb-false}
 use Rattle.slots.specs.declared.Head.{Head}
 use Rattle.slots.specs.declared.State.{State}
-use Rattle.slots.specs.State.{room_length, store_length, closed_head, open_head, new_state, head_at_lem, bad_shape, bad_state}
+use Rattle.slots.specs.State.{room_length, store_length, closed_head, open_head, new_state, head_at, bad_shape, bad_state}
 use Rattle.slots.specs.Calls.{with_head, close_number}
 use Rattle.slots.proofs.HeadLaws.{other_head, closed_head_lem, new_head}
 use Rattle.history.specs.Links.{share_in, opening_number}
@@ -25,14 +25,14 @@ use Rattle.history.proofs.State.{rooms_long_lem, rooms_lent, heads}
 use Rattle.history.proofs.Heads.{new_is, never_broken, run_good, refused_state}
 
 -- a new head is closed
-new_closed : (S M slot : ℕ) → (head_at_lem (new_state S M) slot).opened ≡ true → ⊥
+new_closed : (S M slot : ℕ) → (head_at (new_state S M) slot).opened ≡ true → ⊥
 unfolding closed_head
 new_closed S M slot o = true≢false (sym o ∙ ap (λ (h : Head). h.opened) (new_head S M slot))
 
-closed_stays : (state : State) (s slot : ℕ) → (head_at_lem (with_head state s closed_head) slot).opened ≡ true → (head_at_lem state slot).opened ≡ true
+closed_stays : (state : State) (s slot : ℕ) → (head_at (with_head state s closed_head) slot).opened ≡ true → (head_at state slot).opened ≡ true
 unfolding closed_head
 closed_stays state s slot o = elim (ℕ_discrete slot s) [
-  | yes same ↦ absurd (true≢false (sym o ∙ ap (λ (h : Head). h.opened) (ap (head_at_lem (with_head state s closed_head)) same ∙ closed_head_lem state s)))
+  | yes same ↦ absurd (true≢false (sym o ∙ ap (λ (h : Head). h.opened) (ap (head_at (with_head state s closed_head)) same ∙ closed_head_lem state s)))
   | no other ↦ ap (λ (h : Head). h.opened) (sym (other_head state s closed_head slot other)) ∙ o
 ]
 
@@ -46,13 +46,13 @@ rooms_enough state n past = go (ltb n (store_length state)) refl
     go false e h = ltb-false n (store_length state) e
 
 -- only an opening opens a slot, and it asks for the rooms
-opens_whole : (state : State) (n slot : ℕ) (past : List ℕ) (call : Call) → (head_at_lem (heads_after_call state (lent_length state n past) call) slot).opened ≡ true
-    → ((head_at_lem state slot).opened ≡ true → store_length state ≤ n) → store_length state ≤ n
+opens_whole : (state : State) (n slot : ℕ) (past : List ℕ) (call : Call) → (head_at (heads_after_call state (lent_length state n past) call) slot).opened ≡ true
+    → ((head_at state slot).opened ≡ true → store_length state ≤ n) → store_length state ≤ n
 unfolding heads_after_call
 opens_whole state n slot past (opening link s terminal A) o before = go (eqb (opening_number link state (lent_length state n past) s A) 0) refl o
   where
     go : (b : Bool) → eqb (opening_number link state (lent_length state n past) s A) 0 ≡ b
-        → (head_at_lem (cond b (with_head state s (open_head terminal A (share_in link A))) state) slot).opened ≡ true → store_length state ≤ n
+        → (head_at (cond b (with_head state s (open_head terminal A (share_in link A))) state) slot).opened ≡ true → store_length state ≤ n
     go true e o = rooms_enough state n past (opening_fits state (lent_length state n past) s A link (eqb-true _ 0 e)).slot_stored.enough
     go false e o = before o
 opens_whole state n slot past (receiving s terminal r) o before = before o
@@ -60,7 +60,7 @@ opens_whole state n slot past (reading s terminal size) o before = before o
 opens_whole state n slot past (streaming s terminal block size) o before = before o
 opens_whole state n slot past (closing s terminal) o before = go (eqb (close_number state s terminal) 0) o
   where
-    go : (b : Bool) → (head_at_lem (cond b (with_head state s closed_head) state) slot).opened ≡ true → store_length state ≤ n
+    go : (b : Bool) → (head_at (cond b (with_head state s closed_head) state) slot).opened ≡ true → store_length state ≤ n
     go true o = before (closed_stays state s slot o)
     go false o = before o
 
@@ -69,14 +69,14 @@ unfolding store_length
 shape_long S M state s m = ap₂ (λ (a b : ℕ). a * room_length b) s m
 
 module _ (S M n slot : ℕ) where
-  accepted_shape : (h : History) → (head_at_lem (heads_after S M n h) slot).opened ≡ true → bad_shape S M ≡ false
+  accepted_shape : (h : History) → (head_at (heads_after S M n h) slot).opened ≡ true → bad_shape S M ≡ false
   accepted_shape h o = go (bad_shape S M) refl
     where
       go : (b : Bool) → bad_shape S M ≡ b → b ≡ false
       go true e = absurd (new_closed 0 0 slot (rw (refused_state S M e n h) at o))
       go false e = refl
 
-  rooms_there : (good : bad_shape S M ≡ false) (h : History) → (head_at_lem (heads_after S M n h) slot).opened ≡ true → S * room_length M ≤ n
+  rooms_there : (good : bad_shape S M ≡ false) (h : History) → (head_at (heads_after S M n h) slot).opened ≡ true → S * room_length M ≤ n
   unfolding heads_after
   rooms_there good [] o = absurd (new_closed S M slot (rw (new_is S M good) at o))
   rooms_there good (m ∷ h) o =
@@ -108,10 +108,10 @@ module _ (S M : ℕ) (store₀ : List ℕ) (h : History) where
       }
 
   -- a slot is open
-  pub open_ready : (slot : ℕ) → (head_at_lem (state_after S M store₀ h) slot).opened ≡ true → Ready S M store₀ h
+  pub open_ready : (slot : ℕ) → (head_at (state_after S M store₀ h) slot).opened ≡ true → Ready S M store₀ h
   open_ready slot o =
       let n : ℕ = length (begin S M store₀).rooms in
-      let o' : (head_at_lem (heads_after S M n h) slot).opened ≡ true = rw (heads S M store₀ h) at o in
+      let o' : (head_at (heads_after S M n h) slot).opened ≡ true = rw (heads S M store₀ h) at o in
       let good = accepted_shape S M n slot h o' in
       ready good (rooms_there S M n slot good h o')
 

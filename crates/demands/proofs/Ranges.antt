@@ -17,12 +17,12 @@ use Rattle.rate_matching.specs.Circle.{circle_length, cut_at}
 use Rattle.rate_matching.specs.SoftBuffer.{soft_share}
 use Rattle.codeword.specs.Shares.{symbols}
 use Rattle.codeword.specs.Codeword.{block_rows, block_cut}
-use Rattle.codeword.specs.Downlink.{bad_receiver, too_short_lem, bad_buffer}
+use Rattle.codeword.specs.Downlink.{bad_receiver, too_short, bad_buffer}
 use Rattle.codeword.specs.Build.{bad_modulation, bad_layers, bad_symbol, bad_length, bad_allocation, bad_version, bad_bits}
 use Rattle.codeword.proofs.Accepted.{bits_good, given_bits}
 use Rattle.slots.specs.declared.Head.{Head}
 use Rattle.slots.specs.declared.State.{State}
-use Rattle.slots.specs.State.{head_at_lem, too_many_lem, broken, bad_shape, bad_state}
+use Rattle.slots.specs.State.{head_at, too_many, broken, bad_shape, bad_state}
 use Rattle.slots.specs.Calls.{size_at_head, share_at_head}
 use Rattle.slots.proofs.Tests.{or_left, or_right, inside}
 use Rattle.slots.proofs.Accepted.{good}
@@ -135,14 +135,14 @@ bits_test_lem l = record { where_holds = bits_good l; holds = given_bits l }
 -- ---- a receiver
 
 -- no N_cb of the first n code blocks is below 32·R
-short_test : (soft B n : ℕ) → Passes (too_short_lem soft B n) ((r : ℕ) → r < n → 32 * block_rows B r ≤ cut_at soft (block_rows B r))
-unfolding too_short_lem block_cut
+short_test : (soft B n : ℕ) → Passes (too_short soft B n) ((r : ℕ) → r < n → 32 * block_rows B r ≤ cut_at soft (block_rows B r))
+unfolding too_short block_cut
 short_test soft B zero = record { where_holds = λ h. refl; holds = λ e r l. absurd (not-suc-le-zero l) }
 short_test soft B (suc n) = record {
   where_holds = λ h. rw ((short_test soft B n).where_holds (λ r l. h r (omega arith)), le-ltb (cut_at soft (block_rows B n)) (32 * block_rows B n) (h n (omega arith)));
   holds = λ e r l. elim (ℕ_discrete r n) [
-    | yes same ↦ rw same (ltb-false (cut_at soft (block_rows B n)) (32 * block_rows B n) (or_right (too_short_lem soft B n) _ e))
-    | no other ↦ (short_test soft B n).holds (or_left (too_short_lem soft B n) _ e) r (omega (arith, l, other))
+    | yes same ↦ rw same (ltb-false (cut_at soft (block_rows B n)) (32 * block_rows B n) (or_right (too_short soft B n) _ e))
+    | no other ↦ (short_test soft B n).holds (or_left (too_short soft B n) _ e) r (omega (arith, l, other))
   ];
 }
 
@@ -194,8 +194,8 @@ shape_test S M = record {
   holds = λ e. let k = (both (within_test 8 S) (within_test 5 M)).holds e in record { slots = k.0; blocks = k.1 };
 }
 
-pub blocks_test : (M A : ℕ) → Passes (too_many_lem M A) (blocks (A + 24) ≤ M)
-unfolding too_many_lem
+pub blocks_test : (M A : ℕ) → Passes (too_many M A) (blocks (A + 24) ≤ M)
+unfolding too_many
 blocks_test M A = enough_test (blocks (A + 24)) M
 
 -- a head that is whole if it is open is not broken
@@ -213,9 +213,9 @@ unbroken_head M h w = go h.opened refl
     go false o = rw o
 
 pub state_test : (state : State) → Passes (bad_state state) (Sound state)
-unfolding bad_state head_at_lem size_at_head share_at_head
+unfolding bad_state head_at size_at_head share_at_head
 state_test state = record {
-  where_holds = λ s. good_state state ((shape_test state.slots state.blocks).where_holds s.shape) (λ i l. unbroken_head state.blocks (head_at_lem state i) (s.heads i l));
+  where_holds = λ s. good_state state ((shape_test state.slots state.blocks).where_holds s.shape) (λ i l. unbroken_head state.blocks (head_at state i) (s.heads i l));
   holds = λ e. let g = good state e in record {
     shape = (shape_test state.slots state.blocks).holds (or_left (bad_shape state.slots state.blocks) _ e);
     heads = λ i l o. record {

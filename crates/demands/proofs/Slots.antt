@@ -21,7 +21,7 @@ use Rattle.rate_matching.specs.Places.{place_number}
 use Rattle.codeword.specs.Shares.{grant}
 use Rattle.slots.specs.declared.State.{State}
 use Rattle.slots.specs.declared.Outcome.{Outcome}
-use Rattle.slots.specs.State.{per_block, room_length, room_start, closed_head, open_head, new_state, head_at_lem}
+use Rattle.slots.specs.State.{per_block, room_length, room_start, closed_head, open_head, new_state, head_at}
 use Rattle.slots.specs.Room.{is_decided, agreeing, room_at, circle_at, with_room, cleared}
 use Rattle.slots.specs.Circle.{kept_on, shown, stream_on, streams_on}
 use Rattle.slots.specs.Reading.{three_streams}
@@ -76,9 +76,9 @@ opening_stays (downlink release k_mimo processes Nsoft layers) state slot A stor
 
 pub new_closes : (S M : ℕ) → Shape S M
     → let state : State = (new_outcome S M).state in
-    (state.slots ≡ S) × (state.blocks ≡ M) × ((i : ℕ) → head_at_lem state i ≡ record { opened = false; terminal = 0; size = 0; share = 0 })
+    (state.slots ≡ S) × (state.blocks ≡ M) × ((i : ℕ) → head_at state i ≡ record { opened = false; terminal = 0; size = 0; share = 0 })
 unfolding new_state closed_head
-new_closes S M shape = (ap (λ (s : State). s.slots) is, ap (λ (s : State). s.blocks) is, λ i. ap (λ (s : State). head_at_lem s i) is ∙ new_head S M i)
+new_closes S M shape = (ap (λ (s : State). s.slots) is, ap (λ (s : State). s.blocks) is, λ i. ap (λ (s : State). head_at s i) is ∙ new_head S M i)
   where
     is : (new_outcome S M).state ≡ new_state S M
     is = new_is S M shape
@@ -106,19 +106,19 @@ module _ (link : Link) (state : State) (slot terminal A : ℕ) (store : List ℕ
 
   -- the slot is open for the terminal and A, with the share of its link, where the state has eight heads; S, M and every other head stay
   pub open_opens : number_of opening.answer ≡ 0 → length state.heads ≡ 8
-      → head_at_lem opening.state slot ≡ record { opened = true; terminal = terminal; size = A; share = share_in link A }
+      → head_at opening.state slot ≡ record { opened = true; terminal = terminal; size = A; share = share_in link A }
   open_opens ok eight =
       let s = (opening_fits state (length store) slot A link (opened ok).0).slot_stored in
-      ap (λ (s : State). head_at_lem s slot) (opened ok).1
+      ap (λ (s : State). head_at s slot) (opened ok).1
       ∙ its_head state slot (open_head terminal A (share_in link A)) (omega (arith, s.present, s.state_good.shape.slots_most, eight))
 
   pub open_others : number_of opening.answer ≡ 0
-      → (opening.state.slots ≡ state.slots) × (opening.state.blocks ≡ state.blocks) × ((i : ℕ) → (i ≡ slot → ⊥) → head_at_lem opening.state i ≡ head_at_lem state i)
+      → (opening.state.slots ≡ state.slots) × (opening.state.blocks ≡ state.blocks) × ((i : ℕ) → (i ≡ slot → ⊥) → head_at opening.state i ≡ head_at state i)
   unfolding with_head
   open_others ok = (
     ap (λ (s : State). s.slots) (opened ok).1,
     ap (λ (s : State). s.blocks) (opened ok).1,
-    λ i other. ap (λ (s : State). head_at_lem s i) (opened ok).1 ∙ other_head state slot (open_head terminal A (share_in link A)) i other,
+    λ i other. ap (λ (s : State). head_at s i) (opened ok).1 ∙ other_head state slot (open_head terminal A (share_in link A)) i other,
   )
 
   -- 2 over the whole room
@@ -181,7 +181,7 @@ streams_state state lent slot terminal r size = same_state _ state _ refl
 -- three runs of D bytes, one a stream
 module _ (state : State) (slot terminal r : ℕ) (store out : List ℕ) (ok : number_of (streams_outcome state (length store) slot terminal r (length out)).answer ≡ 0) where
   abbrev B : ℕ
-  B = (head_at_lem state slot).size + 24
+  B = (head_at state slot).size + 24
 
   abbrev D : ℕ
   D = size_of B r + 4
@@ -281,13 +281,13 @@ module _ (state : State) (slot terminal r : ℕ) (store out : List ℕ) (ok : nu
 
 pub close_closes : (state : State) (slot terminal : ℕ) → number_of (close_outcome state slot terminal).answer ≡ 0
     → let after : State = (close_outcome state slot terminal).state in
-    (head_at_lem after slot ≡ record { opened = false; terminal = 0; size = 0; share = 0 })
-    × (after.slots ≡ state.slots) × (after.blocks ≡ state.blocks) × ((i : ℕ) → (i ≡ slot → ⊥) → head_at_lem after i ≡ head_at_lem state i)
+    (head_at after slot ≡ record { opened = false; terminal = 0; size = 0; share = 0 })
+    × (after.slots ≡ state.slots) × (after.blocks ≡ state.blocks) × ((i : ℕ) → (i ≡ slot → ⊥) → head_at after i ≡ head_at state i)
 unfolding close_outcome with_head closed_head
 close_closes state slot terminal ok =
     let is = ap (λ (o : Outcome). o.state) (accepting _ state _ (accepted _ state _ ok)) in (
-      ap (λ (s : State). head_at_lem s slot) is ∙ closed_head_lem state slot,
+      ap (λ (s : State). head_at s slot) is ∙ closed_head_lem state slot,
       ap (λ (s : State). s.slots) is,
       ap (λ (s : State). s.blocks) is,
-      λ i other. ap (λ (s : State). head_at_lem s i) is ∙ other_head state slot closed_head i other,
+      λ i other. ap (λ (s : State). head_at s i) is ∙ other_head state slot closed_head i other,
     )

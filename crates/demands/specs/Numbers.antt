@@ -5,7 +5,7 @@ use Rattle.laws.specs.Bits.{AreBits}
 use Rattle.segmentation.specs.Segmentation.{blocks, size_of}
 use Rattle.codeword.specs.declared.Grant.{Grant}
 use Rattle.slots.specs.declared.State.{State}
-use Rattle.slots.specs.State.{head_at_lem}
+use Rattle.slots.specs.State.{head_at}
 use Rattle.slots.specs.Room.{room_at}
 use Rattle.slots.specs.Reading.{lacking}
 use Rattle.slots.specs.Checks.{blocks_at, RightBlock, RightTransport}
@@ -77,13 +77,13 @@ store_rows state lent slot next =
 -- 8, 9
 abbrev pub owner_rows : State → ℕ → ℕ → (ℕ → Type 0) → ℕ → Type 0
 owner_rows state slot terminal next =
-    Unless ((head_at_lem state slot).opened ≡ true) 8 (Unless ((head_at_lem state slot).terminal ≡ terminal) 9 next)
+    Unless ((head_at state slot).opened ≡ true) 8 (Unless ((head_at state slot).terminal ≡ terminal) 9 next)
 
 -- 13, 5, 6, 7, 1, 10
 abbrev pub open_rows : State → ℕ → ℕ → ℕ → (ℕ → Type 0) → ℕ → Type 0
 open_rows state lent slot A next =
     store_rows state lent slot
-    (Unless ((head_at_lem state slot).opened ≡ false) 7 (Unless (Size A) 1 (Unless (blocks (A + 24) ≤ state.blocks) 10 next)))
+    (Unless ((head_at state slot).opened ≡ false) 7 (Unless (Size A) 1 (Unless (blocks (A + 24) ≤ state.blocks) 10 next)))
 
 -- Open
 unfoldable pub OpenGives : State → ℕ → ℕ → ℕ → ℕ → Type 0
@@ -99,15 +99,15 @@ unfoldable pub ReceiveGives : State → ℕ → ℕ → ℕ → ℕ → ℕ → 
 ReceiveGives state lent slot terminal Q N v bits =
     store_rows state lent slot
     (owner_rows state slot terminal
-    (Unless (Symbol Q N × Length (blocks ((head_at_lem state slot).size + 24)) Q N (length bits)) 3 (Unless (v ≤ 3) 4 (Unless (AreBits bits) 2 None))))
+    (Unless (Symbol Q N × Length (blocks ((head_at state slot).size + 24)) Q N (length bits)) 3 (Unless (v ≤ 3) 4 (Unless (AreBits bits) 2 None))))
 
 -- Read: 13, 5, 6, 8, 9, 5 (output), 11, 16 (02, E1), 12
 unfoldable pub ReadGives : State → List ℕ → ℕ → ℕ → ℕ → ℕ → Type 0
 ReadGives state store slot terminal size =
     store_rows state (length store) slot
     (owner_rows state slot terminal
-    (Unless ((head_at_lem state slot).size ≤ size) 5
-    (Unless (lacking (head_at_lem state slot).size (room_at state.blocks slot store) ≡ 0) 11
+    (Unless ((head_at state slot).size ≤ size) 5
+    (Unless (lacking (head_at state slot).size (room_at state.blocks slot store) ≡ 0) 11
     (Unless (1 < blocks_at state slot → (r : ℕ) → r < blocks_at state slot → RightBlock state store slot r) 16
     (Unless (RightTransport state store slot) 12 None)))))
 
@@ -116,7 +116,7 @@ unfoldable pub StreamsGives : State → ℕ → ℕ → ℕ → ℕ → ℕ → 
 StreamsGives state lent slot terminal r size =
     store_rows state lent slot
     (owner_rows state slot terminal
-    (Unless (r < blocks ((head_at_lem state slot).size + 24)) 14 (Unless (3 * (size_of ((head_at_lem state slot).size + 24) r + 4) ≤ size) 5 None)))
+    (Unless (r < blocks ((head_at state slot).size + 24)) 14 (Unless (3 * (size_of ((head_at state slot).size + 24) r + 4) ≤ size) 5 None)))
 
 -- Close: 13, 6, 8, 9
 unfoldable pub CloseGives : State → ℕ → ℕ → ℕ → Type 0

@@ -8,7 +8,7 @@ use Rattle.codeword.specs.declared.Grant.{Grant}
 use Rattle.codeword.specs.Codeword.{block_rows}
 use Rattle.slots.specs.declared.Head.{Head}
 use Rattle.slots.specs.declared.State.{State}
-use Rattle.slots.specs.State.{head_at_lem}
+use Rattle.slots.specs.State.{head_at}
 
 -- a number from `least` to `most`
 pub record Within (least most n : ℕ) : Type 0 where
@@ -69,4 +69,4 @@ pub record Whole (M : ℕ) (h : Head) : Type 0 where
 -- a state that 13 does not refuse: S and M in range, and no broken head, which is one that is open, below S and not whole
 pub record Sound (state : State) : Type 0 where
   pub shape : Shape state.slots state.blocks
-  pub heads : (i : ℕ) → i < state.slots → (head_at_lem state i).opened ≡ true → Whole state.blocks (head_at_lem state i)
+  pub heads : (i : ℕ) → i < state.slots → (head_at state i).opened ≡ true → Whole state.blocks (head_at state i)

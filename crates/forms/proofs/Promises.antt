@@ -11,7 +11,7 @@ use borrow.Author.Tests.{ne_eqb}
 use Rattle.laws.specs.Bits.{AreBits}
 use Rattle.slots.specs.declared.Answer.TheVariants.{Done}
 use Rattle.slots.specs.declared.State.{State}
-use Rattle.slots.specs.State.{head_at_lem}
+use Rattle.slots.specs.State.{head_at}
 use Rattle.slots.specs.Answers.{Lacking}
 use Rattle.slots.specs.Calls.{size_at_head, share_at_head, read_number, read_output, streams_output}
 use Rattle.packing.specs.Packing.{packed}
@@ -103,7 +103,7 @@ module _ (four : Bool) (S M : ℕ) (store₀ : List ℕ) (es : List Event) where
       (read_follows _ _ (follows four S M store₀ es) past slot terminal out, streams_follows _ _ (follows four S M store₀ es) past slot terminal r out)
 
   -- What a place holds: as in demand 3, from the accepted receptions of the calls alone, whatever changes came between.
-  pub place_holds : (slot : ℕ) → slot < S → (head_at_lem (state_then four S M store₀ es) slot).opened ≡ true
+  pub place_holds : (slot : ℕ) → slot < S → (head_at (state_then four S M store₀ es) slot).opened ≡ true
       → let state : State = state_then four S M store₀ es in
       Holds (share_at_head state slot) M slot (size_at_head state slot) (accepted_then four S M store₀ es slot) (places_then four S M store₀ es)
   place_holds slot below is_open =

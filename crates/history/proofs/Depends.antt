@@ -16,7 +16,7 @@ use Rattle.slots.specs.declared.Answer.TheVariants.{StillLacking, Refused}
 use Rattle.slots.specs.declared.Head.{Head}
 use Rattle.slots.specs.declared.Outcome.{Outcome}
 use Rattle.slots.specs.declared.State.{State}
-use Rattle.slots.specs.State.{store_length, closed_head, open_head, room_length, room_start, head_at_lem, bad_state}
+use Rattle.slots.specs.State.{store_length, closed_head, open_head, room_length, room_start, head_at, bad_state}
 use Rattle.slots.specs.Answers.{is_done, unless_refused}
 use Rattle.slots.specs.Room.{agreeing, room_at, with_room, cleared}
 use Rattle.slots.specs.Reception.{received}
@@ -95,7 +95,7 @@ module _ (slot : ℕ) (state other : State) (store other_store : List ℕ) (same
 
   -- ---- what is read of an open slot
 
-  module _ (sound : bad_state state ≡ false) (below : slot < state.slots) (opened : (head_at_lem state slot).opened ≡ true) where
+  module _ (sound : bad_state state ≡ false) (below : slot < state.slots) (opened : (head_at state slot).opened ≡ true) where
     -- whatever is the same of two rooms with the same bytes
     at_slot : {B : Type 0} (f : ℕ → List ℕ → B)
         → ((M A : ℕ) → bad_size A ≡ false → blocks (A + 24) ≤ M → (l r : List ℕ) → ((k : ℕ) → k < room_length M → get_or l k 0 ≡ get_or r k 0) → f A l ≡ f A r)
@@ -251,11 +251,11 @@ module _ (slot : ℕ) (state other : State) (store other_store : List ℕ) (same
   room_depends (closing s terminal) e = same.room
 
   pub head_depends : length state.heads ≡ length other.heads → (call : Call) → slot_of call ≡ slot
-      → head_at_lem (heads_after_call state (length store) call) slot ≡ head_at_lem (heads_after_call other (length other_store) call) slot
+      → head_at (heads_after_call state (length store) call) slot ≡ head_at (heads_after_call other (length other_store) call) slot
   unfolding heads_after_call slot_of
   head_depends long (opening link s terminal A) e = rw (e, ← same_open link A) (go (eqb (opening_number link state (length store) slot A) 0) (open_head terminal A (share_in link A)))
     where
-      go : (b : Bool) (h : Head) → head_at_lem (cond b (with_head state slot h) state) slot ≡ head_at_lem (cond b (with_head other slot h) other) slot
+      go : (b : Bool) (h : Head) → head_at (cond b (with_head state slot h) state) slot ≡ head_at (cond b (with_head other slot h) other) slot
       go true h = elim (dec_lt slot (length state.heads)) [
         | yes l ↦ its_head state slot h l ∙ sym (its_head other slot h (omega arith))
         | no l ↦ no_head state slot h (omega arith) ∙ sym (no_head other slot h (omega arith))
@@ -266,6 +266,6 @@ module _ (slot : ℕ) (state other : State) (store other_store : List ℕ) (same
   head_depends long (streaming s terminal block size) e = same.head
   head_depends long (closing s terminal) e = rw (e, ← same_close terminal) (go (eqb (close_number state slot terminal) 0))
     where
-      go : (b : Bool) → head_at_lem (cond b (with_head state slot closed_head) state) slot ≡ head_at_lem (cond b (with_head other slot closed_head) other) slot
+      go : (b : Bool) → head_at (cond b (with_head state slot closed_head) state) slot ≡ head_at (cond b (with_head other slot closed_head) other) slot
       go true = closed_head_lem state slot ∙ sym (closed_head_lem other slot)
       go false = same.head

@@ -13,7 +13,7 @@ use Rattle.slots.specs.declared.Answer.TheVariants.{Done, StillLacking}
 use Rattle.slots.specs.declared.Head.{Head}
 use Rattle.slots.specs.declared.Outcome.{Outcome}
 use Rattle.slots.specs.declared.State.{State}
-use Rattle.slots.specs.State.{head_at_lem}
+use Rattle.slots.specs.State.{head_at}
 use Rattle.slots.specs.Room.{unheard, disputed, room_at, circle_at}
 use Rattle.slots.specs.Circle.{kept_on}
 use Rattle.slots.specs.Answers.{Lacking, is_done}
@@ -254,14 +254,14 @@ disputed_stays S M store₀ h slot r i b c (place, one, other, differ) later u p
     (came_stays S M (rooms_long S M store₀) slot later h _ _ r _ c u other)
     differ))
   where
-    same_head : head_at_lem (state_after S M store₀ (later ++ h)) slot ≡ head_at_lem (state_after S M store₀ h) slot
+    same_head : head_at (state_after S M store₀ (later ++ h)) slot ≡ head_at (state_after S M store₀ h) slot
     same_head =
-        ap (λ (t : State). head_at_lem t slot) (heads S M store₀ (later ++ h))
+        ap (λ (t : State). head_at t slot) (heads S M store₀ (later ++ h))
         ∙ keeps_heads S M (rooms_long S M store₀) slot later h u
-        ∙ ap (λ (t : State). head_at_lem t slot) (sym (heads S M store₀ h))
+        ∙ ap (λ (t : State). head_at t slot) (sym (heads S M store₀ h))
 
-    same : (head_at_lem (state_after S M store₀ (later ++ h)) slot).size ≡ (head_at_lem (state_after S M store₀ h) slot).size
+    same : (head_at (state_after S M store₀ (later ++ h)) slot).size ≡ (head_at (state_after S M store₀ h) slot).size
     same = ap (λ (k : Head). k.size) same_head
 
-    same_share : (head_at_lem (state_after S M store₀ (later ++ h)) slot).share ≡ (head_at_lem (state_after S M store₀ h) slot).share
+    same_share : (head_at (state_after S M store₀ (later ++ h)) slot).share ≡ (head_at (state_after S M store₀ h) slot).share
     same_share = ap (λ (k : Head). k.share) same_head

@@ -13,7 +13,7 @@ use borrow.Author.Tests.{eqb-true, eq-eqb, ne_eqb}
 use Rattle.segmentation.specs.Segmentation.{blocks}
 use Rattle.slots.specs.declared.Head.{Head}
 use Rattle.slots.specs.declared.State.{State}
-use Rattle.slots.specs.State.{room_length, room_start, closed_head, open_head, head_at_lem, bad_shape}
+use Rattle.slots.specs.State.{room_length, room_start, closed_head, open_head, head_at, bad_shape}
 use Rattle.slots.specs.Room.{unheard, agreeing, room_at}
 use Rattle.slots.specs.Calls.{with_head, size_at_head, share_at_head, receive_number, close_number}
 use Rattle.slots.proofs.RoomLaws.{room_byte, cleared_in, blocks_fit, room_stored}
@@ -80,17 +80,17 @@ module _ (w : World) (past : List ℕ) where
   -- what the calls say of the head and of the receptions
   abbrev KeptAfter : ℕ → List Reception → Call → Type 0
   KeptAfter slot xs call =
-      Kept M slot (head_at_lem (heads_after_call state (length store) call) slot) (since_call state (length store) slot call xs) (rooms call)
+      Kept M slot (head_at (heads_after_call state (length store) call) slot) (since_call state (length store) slot call xs) (rooms call)
 
   module _ (slot : ℕ) (below : slot < state.slots) where
     -- an open slot of a sound state has room for its code blocks
-    open_fits : {after : State} → Good state.slots M after → (head_at_lem after slot).opened ≡ true → blocks ((head_at_lem after slot).size + 24) ≤ M
+    open_fits : {after : State} → Good state.slots M after → (head_at after slot).opened ≡ true → blocks ((head_at after slot).size + 24) ≤ M
     unfolding size_at_head
     open_fits {after} good o =
         let l : slot < after.slots = omega (arith, good.slots) in
         omega (arith, good.blocks, (open_size after good.sound slot l o).1)
 
-    module _ (g : Good state.slots M state) (xs : List Reception) (kept : Kept M slot (head_at_lem state slot) xs w.rooms) where
+    module _ (g : Good state.slots M state) (xs : List Reception) (kept : Kept M slot (head_at state slot) xs w.rooms) where
       -- a call on another slot
       on_other : (call : Call) → (slot ≡ slot_of call → ⊥) → KeptAfter slot xs call
       unfolding agreeing
@@ -101,9 +101,9 @@ module _ (w : World) (past : List ℕ) where
           (λ o. follows_same agreeing unheard _ M (room_at M slot w.rooms) _ (open_fits g o) (others_room w (record { call = call; past = past }) slot other) (kept o))
 
       -- a call that leaves the store
-      same_store : (call : Call) → store_after_call state store call ≡ store → Kept M slot (head_at_lem state slot) xs (rooms call)
+      same_store : (call : Call) → store_after_call state store call ≡ store → Kept M slot (head_at state slot) xs (rooms call)
       same_store call e =
-          subst (Kept M slot (head_at_lem state slot) xs) (sym (same_rooms w (record { call = call; past = past }) e)) kept
+          subst (Kept M slot (head_at state slot) xs) (sym (same_rooms w (record { call = call; past = past }) e)) kept
 
       opening_here : (link : Link) (terminal A : ℕ) → KeptAfter slot xs (opening link slot terminal A)
       unfolding heads_after_call since_call agreeing
@@ -120,7 +120,7 @@ module _ (w : World) (past : List ℕ) where
           after b = cond b (with_head state slot (open_head terminal A (share_in link A))) state
 
           go : (b : Bool) → eqb number 0 ≡ b → Good state.slots M (after b)
-              → Kept M slot (head_at_lem (after b) slot) (cond (true && b) [] xs) (rooms call)
+              → Kept M slot (head_at (after b) slot) (cond (true && b) [] xs) (rooms call)
           go true e good = λ o. follows_none agreeing unheard _ M _ (open_fits good o) bytes
             where
               bytes : (k : ℕ) → k < room_length M → get_or (room_at M slot (rooms call)) k 0 ≡ unheard
@@ -142,7 +142,7 @@ module _ (w : World) (past : List ℕ) where
           number : ℕ
           number = receive_number state (length store) slot terminal x.Q x.N x.version x.bits
 
-          go : (b : Bool) → eqb number 0 ≡ b → Kept M slot (head_at_lem state slot) (cond (true && b) (x ∷ xs) xs) (rooms call)
+          go : (b : Bool) → eqb number 0 ≡ b → Kept M slot (head_at state slot) (cond (true && b) (x ∷ xs) xs) (rooms call)
           go true e = λ o.
               let m : Made = record { call = call; past = past } in
               let accepted : number ≡ 0 = eqb-true number 0 e in
@@ -158,7 +158,7 @@ module _ (w : World) (past : List ℕ) where
       unfolding heads_after_call since_call store_after_call closed_head
       closing_here terminal = rw (eq-eqb slot slot refl) (go (eqb (close_number state slot terminal) 0))
         where
-          go : (b : Bool) → Kept M slot (head_at_lem (cond b (with_head state slot closed_head) state) slot) (cond (true && b) [] xs) (rooms (closing slot terminal))
+          go : (b : Bool) → Kept M slot (head_at (cond b (with_head state slot closed_head) state) slot) (cond (true && b) [] xs) (rooms (closing slot terminal))
           go true = λ o. absurd (false≢true (sym (ap (λ (h : Head). h.opened) (closed_head_lem state slot)) ∙ o))
           go false = same_store (closing slot terminal) refl
 
@@ -181,45 +181,45 @@ module _ (S M : ℕ) (store₀ : List ℕ) (slot : ℕ) where
   long = length (begin S M store₀).rooms
 
   from_accepted : bad_shape S M ≡ false → slot < S → (h : History)
-      → Kept M slot (head_at_lem (heads_after S M long h) slot) (since S M long slot h) (run S M store₀ h).rooms
+      → Kept M slot (head_at (heads_after S M long h) slot) (since S M long slot h) (run S M store₀ h).rooms
   unfolding heads_after since run closed_head
   from_accepted accepted below [] = λ o.
-      absurd (false≢true (sym (ap (λ (t : State). (head_at_lem t slot).opened) (new_is S M accepted) ∙ ap (λ (k : Head). k.opened) (new_head S M slot)) ∙ o))
+      absurd (false≢true (sym (ap (λ (t : State). (head_at t slot).opened) (new_is S M accepted) ∙ ap (λ (k : Head). k.opened) (new_head S M slot)) ∙ o))
   from_accepted accepted below (m ∷ h) =
       let w = run S M store₀ h in
       let good = run_good S M accepted store₀ h in
       let own : Good w.state.slots w.state.blocks w.state = record { slots = refl; blocks = refl; eight = good.eight; sound = good.sound } in
       let xs = since S M long slot h in
-      let earlier : Kept w.state.blocks slot (head_at_lem w.state slot) xs w.rooms =
-      subst₂ (λ (n : ℕ) (t : State). Kept n slot (head_at_lem t slot) xs w.rooms) (sym good.blocks) (sym (heads S M store₀ h)) (from_accepted accepted below h) in
-      subst₃ (λ (n : ℕ) (t : State) (room : ℕ). Kept n slot (head_at_lem (heads_after_call t room m.call) slot) (since_call t room slot m.call xs) (step w m).rooms)
+      let earlier : Kept w.state.blocks slot (head_at w.state slot) xs w.rooms =
+      subst₂ (λ (n : ℕ) (t : State). Kept n slot (head_at t slot) xs w.rooms) (sym good.blocks) (sym (heads S M store₀ h)) (from_accepted accepted below h) in
+      subst₃ (λ (n : ℕ) (t : State) (room : ℕ). Kept n slot (head_at (heads_after_call t room m.call) slot) (since_call t room slot m.call xs) (step w m).rooms)
       good.blocks
       (heads S M store₀ h)
       (length_lent w m.past ∙ ap₂ (λ (t : State) (n : ℕ). lent_length t n m.past) (heads S M store₀ h) (rooms_long_lem S M store₀ h))
       (kept_on w m.past slot (omega (arith, good.slots)) own xs earlier m.call)
 
   from_refused : bad_shape S M ≡ true → (h : History)
-      → Kept M slot (head_at_lem (heads_after S M long h) slot) (since S M long slot h) (run S M store₀ h).rooms
+      → Kept M slot (head_at (heads_after S M long h) slot) (since S M long slot h) (run S M store₀ h).rooms
   unfolding closed_head
   from_refused refused h o =
-      absurd (false≢true (sym (ap (λ (t : State). (head_at_lem t slot).opened) (refused_state S M refused long h) ∙ ap (λ (k : Head). k.opened) (new_head 0 0 slot)) ∙ o))
+      absurd (false≢true (sym (ap (λ (t : State). (head_at t slot).opened) (refused_state S M refused long h) ∙ ap (λ (k : Head). k.opened) (new_head 0 0 slot)) ∙ o))
 
-  pub keeps : slot < S → (h : History) → (head_at_lem (heads_after S M long h) slot).opened ≡ true
-      → Met (head_at_lem (heads_after S M long h) slot).share (head_at_lem (heads_after S M long h) slot).size M (since S M long slot h) (room_at M slot (run S M store₀ h).rooms)
+  pub keeps : slot < S → (h : History) → (head_at (heads_after S M long h) slot).opened ≡ true
+      → Met (head_at (heads_after S M long h) slot).share (head_at (heads_after S M long h) slot).size M (since S M long slot h) (room_at M slot (run S M store₀ h).rooms)
   keeps below h = go (bad_shape S M) refl
     where
-      go : (b : Bool) → bad_shape S M ≡ b → Kept M slot (head_at_lem (heads_after S M long h) slot) (since S M long slot h) (run S M store₀ h).rooms
+      go : (b : Bool) → bad_shape S M ≡ b → Kept M slot (head_at (heads_after S M long h) slot) (since S M long slot h) (run S M store₀ h).rooms
       go true e = from_refused e h
       go false e = from_accepted e below h
 
   -- THE promise on receptions: any S, M, store, history and slot
-  pub holds : slot < S → (h : History) → (head_at_lem (heads_after S M long h) slot).opened ≡ true
-      → Holds (head_at_lem (heads_after S M long h) slot).share M slot (head_at_lem (heads_after S M long h) slot).size (since S M long slot h) (run S M store₀ h).rooms
+  pub holds : slot < S → (h : History) → (head_at (heads_after S M long h) slot).opened ≡ true
+      → Holds (head_at (heads_after S M long h) slot).share M slot (head_at (heads_after S M long h) slot).size (since S M long slot h) (run S M store₀ h).rooms
   unfolding agreeing
   holds below h is_open =
       let kept = keeps below h is_open in
-      let soft = (head_at_lem (heads_after S M long h) slot).share in
-      let size = (head_at_lem (heads_after S M long h) slot).size in
+      let soft = (head_at (heads_after S M long h) slot).share in
+      let size = (head_at (heads_after S M long h) slot).size in
       let xs = since S M long slot h in
       record {
         place = λ r j l k. kept.place r j l k ∙ met_is (arrivals soft size xs r j) (arrived_bits soft size xs r j (since_bits S M long slot h));

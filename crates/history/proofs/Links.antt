@@ -9,7 +9,7 @@ use lib.Dec.{eqb}
 use lib.ListN.{length}
 use Rattle.segmentation.specs.Segmentation.{blocks}
 use Rattle.segmentation.specs.Sizes.{bad_size}
-use Rattle.codeword.specs.Downlink.{too_short_lem}
+use Rattle.codeword.specs.Downlink.{too_short}
 use Rattle.slots.specs.declared.Answer.TheVariants.{Done}
 use Rattle.slots.specs.declared.State.{State}
 use Rattle.slots.specs.State.{open_head}
@@ -36,7 +36,7 @@ module _ (state : State) (room slot A : ℕ) where
   opening_admitted link e = open_admitted state room slot A refl (opening_open link e)
 
   -- and the share is long enough
-  pub opening_enough : (link : Link) → opening_number link state room slot A ≡ 0 → too_short_lem (share_in link A) (A + 24) (blocks (A + 24)) ≡ false
+  pub opening_enough : (link : Link) → opening_number link state room slot A ≡ 0 → too_short (share_in link A) (A + 24) (blocks (A + 24)) ≡ false
   unfolding opening_number share_in
   opening_enough uplink e = long_share A (open_admitted state room slot A refl e) _ (omega arith)
   opening_enough (downlink release k_mimo processes Nsoft layers) e =

@@ -14,7 +14,7 @@ use Rattle.slots.specs.declared.Answer.TheVariants.{Done, Refused}
 use Rattle.slots.specs.declared.Head.{Head}
 use Rattle.slots.specs.declared.Outcome.{Outcome}
 use Rattle.slots.specs.declared.State.{State}
-use Rattle.slots.specs.State.{store_length, room_length, closed_head, open_head, new_state, head_at_lem, bad_shape, bad_state}
+use Rattle.slots.specs.State.{store_length, room_length, closed_head, open_head, new_state, head_at, bad_shape, bad_state}
 use Rattle.slots.specs.Answers.{unless_refused}
 use Rattle.slots.specs.Calls.{with_head, store_rules, owner_rules, size_at_head, share_at_head, read_number, close_number}
 use Rattle.slots.proofs.HeadLaws.{its_head}
@@ -51,15 +51,15 @@ opened_number link state store slot terminal A e =
 
 -- a call that is no accepted opening or closing of the slot leaves its head
 keeps_head : (state : State) (room slot : ℕ) (call : Call) → restarts state room slot call ≡ false
-    → head_at_lem (heads_after_call state room call) slot ≡ head_at_lem state slot
+    → head_at (heads_after_call state room call) slot ≡ head_at state slot
 unfolding heads_after_call restarts slot_of
 keeps_head state room slot call r =
     elim (ℕ_discrete slot (slot_of call)) [ yes e ↦ on_this call e r | no n ↦ head_stays state room slot call n ]
   where
-    either : (s : ℕ) (h : Head) (b : Bool) → slot ≡ s → (eqb s slot && b) ≡ false → head_at_lem (cond b (with_head state s h) state) slot ≡ head_at_lem state slot
-    either s h b e r = ap (λ (t : Bool). head_at_lem (cond t (with_head state s h) state) slot) (sym (ap (λ (t : Bool). t && b) (eq-eqb s slot (sym e))) ∙ r)
+    either : (s : ℕ) (h : Head) (b : Bool) → slot ≡ s → (eqb s slot && b) ≡ false → head_at (cond b (with_head state s h) state) slot ≡ head_at state slot
+    either s h b e r = ap (λ (t : Bool). head_at (cond t (with_head state s h) state) slot) (sym (ap (λ (t : Bool). t && b) (eq-eqb s slot (sym e))) ∙ r)
 
-    on_this : (call : Call) → slot ≡ slot_of call → restarts state room slot call ≡ false → head_at_lem (heads_after_call state room call) slot ≡ head_at_lem state slot
+    on_this : (call : Call) → slot ≡ slot_of call → restarts state room slot call ≡ false → head_at (heads_after_call state room call) slot ≡ head_at state slot
     on_this (opening link s terminal A) e r = either s (open_head terminal A (share_in link A)) (eqb (opening_number link state room s A) 0) e r
     on_this (receiving s terminal x) e r = refl
     on_this (reading s terminal size) e r = refl
@@ -67,7 +67,7 @@ keeps_head state room slot call r =
     on_this (closing s terminal) e r = either s closed_head (eqb (close_number state s terminal) 0) e r
 
 pub keeps_heads : (S M n slot : ℕ) (later h : History) → Undisturbed S M n slot later h
-    → head_at_lem (heads_after S M n (later ++ h)) slot ≡ head_at_lem (heads_after S M n h) slot
+    → head_at (heads_after S M n (later ++ h)) slot ≡ head_at (heads_after S M n h) slot
 unfolding heads_after
 keeps_heads S M n slot [] h u = refl
 keeps_heads S M n slot (m ∷ later) h u =
@@ -107,10 +107,10 @@ module _ (S M : ℕ) (store₀ : List ℕ) (earlier : History) (past₀ : List �
   its_slot : slot < S
   its_slot = omega (arith, (opening_fits _ _ slot A link number).slot_stored.present, (never_broken S M shape rooms earlier).slots)
 
-  head_opened : head_at_lem (heads_after S M rooms opened) slot ≡ open_head terminal A (share_in link A)
+  head_opened : head_at (heads_after S M rooms opened) slot ≡ open_head terminal A (share_in link A)
   unfolding heads_after heads_after_call
   head_opened =
-      ap (λ (b : Bool). head_at_lem (cond b (with_head (heads_after S M rooms earlier) slot (open_head terminal A (share_in link A))) (heads_after S M rooms earlier)) slot)
+      ap (λ (b : Bool). head_at (cond b (with_head (heads_after S M rooms earlier) slot (open_head terminal A (share_in link A))) (heads_after S M rooms earlier)) slot)
       (eq-eqb _ 0 number)
       ∙ its_head (heads_after S M rooms earlier) slot _ (omega (arith, (never_broken S M shape rooms earlier).eight, its_slot, (good_shape shape).slots_most))
 
@@ -119,9 +119,9 @@ module _ (S M : ℕ) (store₀ : List ℕ) (earlier : History) (past₀ : List �
     w = run S M store₀ (later ++ opened)
 
     -- the slot is open for the terminal and A bits, with the link's share
-    pub still_open : head_at_lem w.state slot ≡ open_head terminal A (share_in link A)
+    pub still_open : head_at w.state slot ≡ open_head terminal A (share_in link A)
     still_open =
-        ap (λ (t : State). head_at_lem t slot) (heads S M store₀ (later ++ opened)) ∙ keeps_heads S M rooms slot later opened undisturbed ∙ head_opened
+        ap (λ (t : State). head_at t slot) (heads S M store₀ (later ++ opened)) ∙ keeps_heads S M rooms slot later opened undisturbed ∙ head_opened
 
     pub still_share : share_at_head w.state slot ≡ share_in link A
     unfolding share_at_head

@@ -13,7 +13,7 @@ use borrow.Author.Tests.{eqb-true, ltb-false}
 use Rattle.segmentation.specs.Segmentation.{blocks}
 use Rattle.slots.specs.declared.Head.{Head}
 use Rattle.slots.specs.declared.State.{State}
-use Rattle.slots.specs.State.{store_length, room_length, room_start, closed_head, open_head, head_at_lem}
+use Rattle.slots.specs.State.{store_length, room_length, room_start, closed_head, open_head, head_at}
 use Rattle.slots.specs.Room.{cleared}
 use Rattle.slots.specs.Calls.{with_head, size_at_head, share_at_head, receive_number, receive_store, close_number}
 use Rattle.slots.proofs.RoomLaws.{InRoom, AllPlaces, room_within, rooms_apart, room_byte, cleared_out, stored_out}
@@ -33,11 +33,11 @@ use Rattle.history.proofs.State.{with_reception, room_lent, state_after_lem, len
 
 module _ (state : State) (room slot : ℕ) where
   -- of the state that the calls alone say
-  pub head_stays : (call : Call) → (slot ≡ slot_of call → ⊥) → head_at_lem (heads_after_call state room call) slot ≡ head_at_lem state slot
+  pub head_stays : (call : Call) → (slot ≡ slot_of call → ⊥) → head_at (heads_after_call state room call) slot ≡ head_at state slot
   unfolding heads_after_call slot_of
   head_stays (opening link s terminal A) n = go (eqb (opening_number link state room s A) 0) (open_head terminal A (share_in link A))
     where
-      go : (b : Bool) (h : Head) → head_at_lem (cond b (with_head state s h) state) slot ≡ head_at_lem state slot
+      go : (b : Bool) (h : Head) → head_at (cond b (with_head state s h) state) slot ≡ head_at state slot
       go true h = other_head state s h slot n
       go false h = refl
   head_stays (receiving s terminal r) n = refl
@@ -45,7 +45,7 @@ module _ (state : State) (room slot : ℕ) where
   head_stays (streaming s terminal block size) n = refl
   head_stays (closing s terminal) n = go (eqb (close_number state s terminal) 0)
     where
-      go : (b : Bool) → head_at_lem (cond b (with_head state s closed_head) state) slot ≡ head_at_lem state slot
+      go : (b : Bool) → head_at (cond b (with_head state s closed_head) state) slot ≡ head_at state slot
       go true = other_head state s closed_head slot n
       go false = refl
 
@@ -160,10 +160,10 @@ module _ (w : World) (m : Made) where
 
   module _ (slot : ℕ) (other : slot ≡ slot_of m.call → ⊥) where
     -- a call on another slot leaves this slot's head
-    pub others_head : head_at_lem (step w m).state slot ≡ head_at_lem w.state slot
+    pub others_head : head_at (step w m).state slot ≡ head_at w.state slot
     unfolding step
     others_head =
-        ap (λ (state : State). head_at_lem state slot) (state_after_lem w.state (lent w m.past) m.call)
+        ap (λ (state : State). head_at state slot) (state_after_lem w.state (lent w m.past) m.call)
         ∙ head_stays w.state (length (lent w m.past)) slot m.call other
 
     -- and its room

@@ -11,7 +11,7 @@ use lib.ListN.{length, get_or, take, get_or-append, get_or-eq_default, length-ta
 use lib.Seq.{get_or-append-add, get_or-take}
 use borrow.Author.Tests.{eqb-true, eqb-false}
 use Rattle.slots.specs.declared.State.{State}
-use Rattle.slots.specs.State.{store_length, room_length, new_state, head_at_lem, bad_shape, bad_state}
+use Rattle.slots.specs.State.{store_length, room_length, new_state, head_at, bad_shape, bad_state}
 use Rattle.slots.specs.Calls.{read_output, streams_output}
 use Rattle.history.specs.Calls.{Call, Made, History}
 use Rattle.history.specs.Run.{World, lent, step, begin, run}
@@ -75,7 +75,7 @@ module _ (S M : ℕ) (store : List ℕ) (slot : ℕ) where
 
   -- the same head and room after two histories
   record Same (h g : History) : Type 0 where
-    pub head : head_at_lem (run S M store h).state slot ≡ head_at_lem (run S M store g).state slot
+    pub head : head_at (run S M store h).state slot ≡ head_at (run S M store g).state slot
     pub room : SameRoom (run S M store h).state.blocks slot (run S M store h).rooms (run S M store g).rooms
 
   same_slot : (h g : History) → Same h g → (past : List ℕ)
@@ -117,9 +117,9 @@ module _ (S M : ℕ) (store : List ℕ) (slot : ℕ) where
   unfolding run step
   same_own m h g own same = record {
     head =
-        ap (λ (t : State). head_at_lem t slot) (state_after_lem w.state (lent w m.past) m.call)
+        ap (λ (t : State). head_at t slot) (state_after_lem w.state (lent w m.past) m.call)
         ∙ head_depends slot w.state v.state (lent w m.past) (lent v m.past) slots (same_shape h g).heads m.call own
-        ∙ ap (λ (t : State). head_at_lem t slot) (sym (state_after_lem v.state (lent v m.past) m.call));
+        ∙ ap (λ (t : State). head_at t slot) (sym (state_after_lem v.state (lent v m.past) m.call));
     room =
         subst (λ (n : ℕ). SameRoom n slot (step w m).rooms (step v m).rooms) (sym (shape_step w m).blocks)
         (room_bytes _ slot _ _

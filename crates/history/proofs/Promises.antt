@@ -15,7 +15,7 @@ use Rattle.rate_matching.specs.SoftBuffer.{whole_share}
 use Rattle.codeword.specs.Build.{bad_modulation, bad_layers, bad_allocation}
 use Rattle.slots.specs.declared.Answer.TheVariants.{Done, StillLacking}
 use Rattle.slots.specs.declared.State.{State}
-use Rattle.slots.specs.State.{head_at_lem, bad_shape}
+use Rattle.slots.specs.State.{head_at, bad_shape}
 use Rattle.slots.specs.Answers.{number_of, values_of, Lacking, is_done}
 use Rattle.slots.specs.Room.{room_at, circle_at}
 use Rattle.slots.specs.Circle.{kept_on}
@@ -54,7 +54,7 @@ use Rattle.history.proofs.RepeatsCounted as counted
 
 -- The room of an open slot has, for each circle place of each of its code blocks, what the bits accepted for it since that opening say
 -- together (`holding` of `arrivals`); the rest of the room is unheard. `Holds` has these two equations.
-pub place_holds : (S M : ℕ) (store₀ : List ℕ) (h : History) (slot : ℕ) → slot < S → (head_at_lem (state_after S M store₀ h) slot).opened ≡ true
+pub place_holds : (S M : ℕ) (store₀ : List ℕ) (h : History) (slot : ℕ) → slot < S → (head_at (state_after S M store₀ h) slot).opened ≡ true
     → let state : State = state_after S M store₀ h in
     Holds (share_at_head state slot) M slot (size_at_head state slot) (accepted_after S M store₀ h slot) (rooms_after S M store₀ h)
 unfolding size_at_head share_at_head
@@ -275,7 +275,7 @@ never_13 = heading.never_13
 -- A call that names another slot changes neither this slot's head nor a byte of its room.
 -- It may be any call with any arguments, accepted or not.
 pub others_change_nothing : (S M : ℕ) (store₀ : List ℕ) (h : History) (m : Made) (slot : ℕ) → (slot ≡ slot_of m.call → ⊥)
-    → (head_at_lem (state_after S M store₀ (m ∷ h)) slot ≡ head_at_lem (state_after S M store₀ h) slot)
+    → (head_at (state_after S M store₀ (m ∷ h)) slot ≡ head_at (state_after S M store₀ h) slot)
     × SameRoom (state_after S M store₀ h).blocks slot (rooms_after S M store₀ (m ∷ h)) (rooms_after S M store₀ h)
 unfolding run
 others_change_nothing S M store₀ h m slot other =

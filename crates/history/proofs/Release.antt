@@ -13,7 +13,7 @@ use Rattle.segmentation.proofs.Segmentation.{in_range}
 use Rattle.slots.specs.declared.Answer.TheVariants.{Done, StillLacking}
 use Rattle.slots.specs.declared.State.{State}
 use Rattle.slots.specs.Answers.{Lacking}
-use Rattle.slots.specs.State.{store_length, new_state, head_at_lem, bad_shape, bad_state}
+use Rattle.slots.specs.State.{store_length, new_state, head_at, bad_shape, bad_state}
 use Rattle.slots.specs.Room.{unheard, agreeing, room_at}
 use Rattle.slots.specs.Calls.{size_at_head, share_at_head, receive_number, receive_outcome, read_number, read_outcome, read_output}
 use Rattle.slots.proofs.HeadLaws.{open_size}
@@ -51,7 +51,7 @@ module _ (S M : ℕ) (store₀ : List ℕ) (h : History) (past : List ℕ) (slot
   given = since_bits S M (length (begin S M store₀).rooms) slot h
 
   -- in the slot's room in the lent store they have met
-  pub kept : bad_state state ≡ false → store_length state ≤ length store → slot < state.slots → (head_at_lem state slot).opened ≡ true
+  pub kept : bad_state state ≡ false → store_length state ≤ length store → slot < state.slots → (head_at state slot).opened ≡ true
       → Met soft (size_at_head state slot) state.blocks accepted (room_at state.blocks slot store)
   unfolding new_state size_at_head share_at_head agreeing
   kept sound long below opened = go (bad_shape S M) refl
@@ -71,7 +71,7 @@ module _ (S M : ℕ) (store₀ : List ℕ) (h : History) (past : List ℕ) (slot
           room : Met soft (size_at_head state slot) state.blocks accepted (room_at state.blocks slot w.rooms)
           room =
               let good = run_good S M e store₀ h in
-              subst₂ (λ (n : ℕ) (t : State). Met (head_at_lem t slot).share (head_at_lem t slot).size n accepted (room_at n slot w.rooms)) (sym good.blocks) (sym (heads S M store₀ h))
+              subst₂ (λ (n : ℕ) (t : State). Met (head_at t slot).share (head_at t slot).size n accepted (room_at n slot w.rooms)) (sym good.blocks) (sym (heads S M store₀ h))
               (keeps S M store₀ slot (omega (arith, good.slots)) h (rw (heads S M store₀ h) at opened))
 
   -- a has as many bits as the slot is open for, and all that was accepted since the opening are true transmissions of it

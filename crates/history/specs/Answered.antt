@@ -3,7 +3,7 @@
 use Rattle.std.specs.Prelude.{◌≡◌, cond, List, [], ◌∷◌, ℕ, ◌<◌, eqb, length, get_or}
 use Rattle.slots.specs.declared.Answer.{Answer}
 use Rattle.slots.specs.declared.State.{State}
-use Rattle.slots.specs.State.{room_length, head_at_lem, bad_state}
+use Rattle.slots.specs.State.{room_length, head_at, bad_state}
 use Rattle.slots.specs.Room.{room_at}
 use Rattle.history.specs.Calls.{Call, opening, receiving, reading, streaming, closing, History}
 use Rattle.history.specs.Run.{outcome_of}
@@ -30,7 +30,7 @@ pub record SameSlot (slot : ℕ) (state other : State) (store other_store : List
   pub slots : state.slots ≡ other.slots
   pub blocks : state.blocks ≡ other.blocks
   pub broken : bad_state state ≡ bad_state other
-  pub head : head_at_lem state slot ≡ head_at_lem other slot
+  pub head : head_at state slot ≡ head_at other slot
   pub long : length store ≡ length other_store
   pub room : SameRoom state.blocks slot store other_store
 

@@ -13,7 +13,7 @@ use Rattle.lines.proofs.Lines.{end_from, end_within}
 use Rattle.log_text.specs.Unfinished.{unfinished}
 use Rattle.log_text.proofs.Kept.{kept_length}
 use Rattle.log_input.specs.declared.Line.{Line}
-use Rattle.log_input.specs.Line.{Stands, nothing_left, kept_line, line_in, following, settled, text_settled, line_after, text_after, last_line, text_ended, line_with, text_with, line_read, text_read, goes_on_lem, outside, line_now, text_now}
+use Rattle.log_input.specs.Line.{Stands, nothing_left, kept_line, line_in, following, settled, text_settled, line_after, text_after, last_line, text_ended, line_with, text_with, line_read, text_read, goes_on, outside, line_now, text_now}
 
 module _ (text : List ℕ) where
   -- ---- within the text
@@ -140,7 +140,7 @@ module _ (text : List ℕ) where
     unfolding line_now text_now
     now_none o e = rw (← told, o, e) (refl, (refl, none_stands))
 
-    module _ (in_text : out ≡ false) {on : Bool} (goes : on ≡ goes_on_lem line) where
+    module _ (in_text : out ≡ false) {on : Bool} (goes : on ≡ goes_on line) where
       pub now_read : on ≡ true → {next : Line} {text' : List ℕ} → Read line.end count next text' → Now next text'
       unfolding line_now text_now
       now_read o read = rw (← told, in_text, ← goes, o) read

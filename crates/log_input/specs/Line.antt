@@ -28,8 +28,8 @@ kept_line kept = record { from = 0; to = kept; end = kept; over = false }
 -- ---- the next line in what is read
 
 -- unfinished, where the input is not over
-unfoldable pub goes_on_lem : Line → Bool
-goes_on_lem line = cond (ltb line.to line.end) false (not line.over)
+unfoldable pub goes_on : Line → Bool
+goes_on line = cond (ltb line.to line.end) false (not line.over)
 
 -- the input is over, and no byte is left of it
 unfoldable pub none_left : Line → Bool
@@ -101,8 +101,8 @@ outside line size =
 -- a read goes behind a line that goes on, and no other
 unfoldable pub line_now : Line → ℕ → List ℕ → Line
 line_now line count text =
-    cond (outside line (length text)) nothing_left (cond (goes_on_lem line) (line_read line.end count text) line)
+    cond (outside line (length text)) nothing_left (cond (goes_on line) (line_read line.end count text) line)
 
 unfoldable pub text_now : Line → ℕ → List ℕ → List ℕ
 text_now line count text =
-    cond (outside line (length text)) text (cond (goes_on_lem line) (text_read line.end count text) text)
+    cond (outside line (length text)) text (cond (goes_on line) (text_read line.end count text) text)

@@ -2,7 +2,7 @@
 #![tactic(auto)]
 
 ghost use Rattle.std.specs.Prelude.{◌≡◌, ◌≤◌, ◌<◌, length};
-ghost use Rattle.log_input.specs.Line.{Stands, unread_line, nothing_left, goes_on_lem, none_left, line_in, following, settled, text_settled, line_after, text_after, last_line, text_ended, line_read, text_read, outside, line_now, text_now};
+ghost use Rattle.log_input.specs.Line.{Stands, unread_line, nothing_left, goes_on, none_left, line_in, following, settled, text_settled, line_after, text_after, last_line, text_ended, line_read, text_read, outside, line_now, text_now};
 
 // A line of the text, from `from` up to `to`, where the text is read up to `end`: unfinished where `to` is `end`. `over` once the input is: then
 // nothing is left where `end` is 0.
@@ -31,7 +31,7 @@ pub fn unread() -> Line
 
 // Whether a line is unfinished and the input is not over: then a read goes behind it.
 pub fn goes_on(line: Line) -> bool
-    ensures { result ≡ goes_on_lem line }
+    ensures { result ≡ goes_on line }
 {
     if line.to < line.end {
         return false;

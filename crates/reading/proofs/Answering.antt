@@ -17,7 +17,7 @@ use Rattle.slots.specs.declared.Head.{Head}
 use Rattle.slots.specs.declared.State.{State}
 use Rattle.slots.specs.declared.Answer.{Answer}
 use Rattle.slots.specs.declared.Answer.TheVariants.{Refused}
-use Rattle.slots.specs.State.{per_block, room_length, room_start, head_at_lem}
+use Rattle.slots.specs.State.{per_block, room_length, room_start, head_at}
 use Rattle.slots.specs.Room.{room_at}
 use Rattle.slots.specs.Answers.{is_done, unless_refused}
 use Rattle.codeword.specs.Build.{output_rule}
@@ -33,7 +33,7 @@ fitting_good {M} {A} w = good_size A w.size_some w.size_most
 -- ---- Read
 
 -- the chain over the store's and the owner's rules goes on over 5 (output)
-pub read_chained : (state : State) (room slot terminal size : ℕ) {head : Head} {owner n : ℕ} → head ≡ head_at_lem state slot
+pub read_chained : (state : State) (room slot terminal size : ℕ) {head : Head} {owner n : ℕ} → head ≡ head_at state slot
     → owner ≡ first_of (store_rules state room slot ++ owner_rules state slot terminal) → n ≡ or_else owner (ltb size head.size) 5 → n ≡ read_number state room slot terminal size
 unfolding read_number store_rules owner_rules size_at_head
 read_chained state room slot terminal size h o e =
@@ -43,7 +43,7 @@ read_chained state room slot terminal size h o e =
 pub record Reading (state : State) (store : List ℕ) (slot terminal : ℕ) (out : List ℕ) (n : ℕ) (head : Head) : Type 0 where
   pub number : n ≡ read_number state (length store) slot terminal (length out)
   pub zero : n ≡ 0
-  pub found : head ≡ head_at_lem state slot
+  pub found : head ≡ head_at state slot
 
 -- a refused one
 pub read_refused : (state : State) (store : List ℕ) (slot terminal : ℕ) (out : List ℕ) {n : ℕ}

@@ -5,7 +5,7 @@ use mathlib.Core.List.{◌++◌}
 use Prim.Native.Nat.{ℕ}
 use Rattle.refusals.specs.Refusals.{first_of}
 use Rattle.slots.specs.declared.State.{State}
-use Rattle.slots.specs.State.{head_at_lem}
+use Rattle.slots.specs.State.{head_at}
 use Rattle.slots.specs.Calls.{store_rules, owner_rules}
 use Rattle.slot_calls.specs.declared.Owner.{Owner}
 use Rattle.slot_calls.specs.Owner.{owner_of}
@@ -15,6 +15,6 @@ module _ (state : State) (lent slot terminal : ℕ) {o : Owner} (e : o ≡ owner
   unfolding owner_of
   owner_number = ap (λ (x : Owner). x.number) e
 
-  pub owner_head : o.head ≡ head_at_lem state slot
+  pub owner_head : o.head ≡ head_at state slot
   unfolding owner_of
   owner_head = ap (λ (x : Owner). x.head) e

@@ -3,7 +3,7 @@
 use Rattle.std.specs.Prelude.{◌++◌, ℕ}
 use Rattle.refusals.specs.Refusals.{first_of}
 use Rattle.slots.specs.declared.State.{State}
-use Rattle.slots.specs.State.{head_at_lem}
+use Rattle.slots.specs.State.{head_at}
 use Rattle.slots.specs.Calls.{store_rules, owner_rules}
 use Rattle.slot_calls.specs.declared.Owner.{Owner}
 
@@ -12,5 +12,5 @@ unfoldable pub owner_of : State → ℕ → ℕ → ℕ → Owner
 owner_of state lent slot terminal =
     record {
       number = first_of (store_rules state lent slot ++ owner_rules state slot terminal);
-      head = head_at_lem state slot;
+      head = head_at state slot;
     }

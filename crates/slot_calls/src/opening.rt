@@ -1,6 +1,6 @@
 // The calls New, Open, Open for a downlink, and Close.
 ghost use Rattle.std.specs.Prelude.{◌≡◌, true, cond, [], ◌∷◌, ◌++◌, ℕ, ◌+◌, ◌≤◌, ◌<◌, length, replicate};
-ghost use Rattle.codeword.specs.Downlink.{too_short_lem};
+ghost use Rattle.codeword.specs.Downlink.{too_short};
 ghost use Rattle.refusals.specs.Refusals.{rule, first_of};
 ghost use Rattle.segmentation.specs.Segmentation.{blocks};
 ghost use Rattle.slots.specs.State.{room_length, room_start, new_state};
@@ -161,7 +161,7 @@ pub fn is_done(answer: Answer) -> bool
 
 // Its refusals for a share of the soft buffer, 0 where the receiver is refused: Open's, then 21.
 fn down_number(state: State, lent: usize, slot: usize, size: usize, share: usize) -> u8
-    ensures { result ≡ first_of (open_rules state lent slot size ++ (rule (too_short_lem share (size + 24) (blocks (size + 24))) 21 ∷ [])) }
+    ensures { result ≡ first_of (open_rules state lent slot size ++ (rule (too_short share (size + 24) (blocks (size + 24))) 21 ∷ [])) }
 {
     let number = open_number(state, lent, slot, size);
     if number != 0 {

@@ -3,8 +3,8 @@ ghost use Rattle.std.specs.Prelude.{◌≡◌, false, cond, not, ◌||◌, [], �
 ghost use Rattle.refusals.specs.Refusals.{rule, first_of};
 ghost use Rattle.segmentation.specs.Segmentation.{blocks};
 ghost use Rattle.segmentation.specs.Sizes.{bad_size};
-ghost use Rattle.codeword.specs.Downlink.{too_short_lem};
-ghost use Rattle.slots.specs.State.{room_length, room_start, closed_head, head_at_lem, too_many_lem, broken, bad_shape, bad_state};
+ghost use Rattle.codeword.specs.Downlink.{too_short};
+ghost use Rattle.slots.specs.State.{room_length, room_start, closed_head, head_at, too_many, broken, bad_shape, bad_state};
 ghost use Rattle.slots.specs.Calls.{store_rules, with_head};
 ghost use Rattle.slot_calls.specs.Owner.{owner_of};
 
@@ -48,7 +48,7 @@ pub(crate) fn closed_head() -> Head
 
 // The head of a slot; a closed one where there is no such slot. Each is read where it stands: for one at a computed place all eight would be copied first.
 pub fn head_at(state: State, slot: usize) -> Head
-    ensures { result ≡ head_at_lem state slot }
+    ensures { result ≡ head_at state slot }
 {
     match slot {
         0 => state.heads[0],
@@ -96,7 +96,7 @@ pub(crate) fn bad_size(a: usize) -> bool
 
 // A needs more than M code blocks.
 pub(crate) fn too_many(m: usize, a: usize) -> bool
-    ensures { result ≡ too_many_lem m a }
+    ensures { result ≡ too_many m a }
 {
     m < block_count(a)
 }
@@ -111,7 +111,7 @@ pub(crate) fn bad_shape(s: usize, m: usize) -> bool
 // An N_cb below 32·R for one of the code blocks: the longest decides. None has more than 193 rows, so that a long share needs no look at them.
 pub(crate) fn too_short(share: usize, a: usize) -> bool
     requires { bad_size a ≡ false }
-    ensures { result ≡ too_short_lem share (a + 24) (blocks (a + 24)) }
+    ensures { result ≡ too_short share (a + 24) (blocks (a + 24)) }
 {
     if share >= MOST_NEEDED {
         return false;
@@ -138,7 +138,7 @@ pub(crate) struct Looked {
 // Looks at the state once, for all that is asked of it. The shape comes first, so that there are heads to look at.
 pub(crate) fn look(state: State, slot: usize) -> Looked
     ensures bad_value { result.bad ≡ bad_state state }
-    ensures head_value { result.head ≡ head_at_lem state slot }
+    ensures head_value { result.head ≡ head_at state slot }
 {
     let s = state.slots;
     let m = state.blocks;

@@ -10,7 +10,7 @@ use Rattle.refusals.proofs.Refusals.{passed, listed}
 use Rattle.segmentation.specs.Segmentation.{blocks, size_of}
 use Rattle.codeword.specs.Build.{bad_allocation, bad_version, bad_bits, version_rule, output_rule, bits_rule}
 use Rattle.slots.specs.declared.State.{State}
-use Rattle.slots.specs.State.{store_length, head_at_lem, bad_state}
+use Rattle.slots.specs.State.{store_length, head_at, bad_state}
 use Rattle.slots.specs.Calls.{state_rule, store_rule, slot_rule, closed_rule, allocation_rule, code_block_rule, store_rules, owner_rules, size_at_head, receive_number, read_number, streams_number}
 use Rattle.slots.proofs.Accepted.{present_slot}
 
@@ -19,7 +19,7 @@ pub record Receives (state : State) (room slot terminal Q N v : ℕ) (bits : Lis
   pub sound : bad_state state ≡ false
   pub long : store_length state ≤ room
   pub below : slot < state.slots
-  pub opened : (head_at_lem state slot).opened ≡ true
+  pub opened : (head_at state slot).opened ≡ true
   pub allocation : bad_allocation (blocks (size_at_head state slot + 24)) Q N (length bits) ≡ false
   pub version : bad_version v ≡ false
   pub given : bad_bits bits ≡ false
@@ -33,7 +33,7 @@ receives state room slot terminal Q N v bits e =
       sound = clear (state_rule state) (search listed);
       long = ltb-false room (store_length state) (clear (store_rule state room) (search listed));
       below = present_slot state.slots slot (clear (slot_rule state slot) (search listed));
-      opened = not-false (head_at_lem state slot).opened (clear (closed_rule state slot) (search listed));
+      opened = not-false (head_at state slot).opened (clear (closed_rule state slot) (search listed));
       allocation = clear (allocation_rule (blocks (size_at_head state slot + 24)) Q N (length bits)) (search listed);
       version = clear (version_rule v) (search listed);
       given = clear (bits_rule bits) (search listed);
@@ -44,7 +44,7 @@ pub record Reads (state : State) (room slot terminal size : ℕ) : Type 0 where
   pub sound : bad_state state ≡ false
   pub long : store_length state ≤ room
   pub below : slot < state.slots
-  pub opened : (head_at_lem state slot).opened ≡ true
+  pub opened : (head_at state slot).opened ≡ true
   pub enough : size_at_head state slot ≤ size
 
 pub reads : (state : State) (room slot terminal size : ℕ) → read_number state room slot terminal size ≡ 0 → Reads state room slot terminal size
@@ -55,7 +55,7 @@ reads state room slot terminal size e =
       sound = clear (state_rule state) (search listed);
       long = ltb-false room (store_length state) (clear (store_rule state room) (search listed));
       below = present_slot state.slots slot (clear (slot_rule state slot) (search listed));
-      opened = not-false (head_at_lem state slot).opened (clear (closed_rule state slot) (search listed));
+      opened = not-false (head_at state slot).opened (clear (closed_rule state slot) (search listed));
       enough = ltb-false size (size_at_head state slot) (clear (output_rule (size_at_head state slot) size) (search listed));
     }
 
@@ -64,7 +64,7 @@ pub record Streams (state : State) (room slot terminal r size : ℕ) : Type 0 wh
   pub sound : bad_state state ≡ false
   pub long : store_length state ≤ room
   pub below : slot < state.slots
-  pub opened : (head_at_lem state slot).opened ≡ true
+  pub opened : (head_at state slot).opened ≡ true
   pub block : r < blocks (size_at_head state slot + 24)
   pub enough : 3 * (size_of (size_at_head state slot + 24) r + 4) ≤ size
 
@@ -77,7 +77,7 @@ streams state room slot terminal r size e =
       sound = clear (state_rule state) (search listed);
       long = ltb-false room (store_length state) (clear (store_rule state room) (search listed));
       below = present_slot state.slots slot (clear (slot_rule state slot) (search listed));
-      opened = not-false (head_at_lem state slot).opened (clear (closed_rule state slot) (search listed));
+      opened = not-false (head_at state slot).opened (clear (closed_rule state slot) (search listed));
       block = present_slot (blocks (size_at_head state slot + 24)) r (clear (code_block_rule (size_at_head state slot + 24) r) (search listed));
       enough = ltb-false size (3 * (size_of (size_at_head state slot + 24) r + 4)) (clear (output_rule (3 * (size_of (size_at_head state slot + 24) r + 4)) size) (search listed));
     }

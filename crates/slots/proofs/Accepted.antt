@@ -17,8 +17,8 @@ use Rattle.slots.specs.declared.State.{State}
 use Rattle.segmentation.specs.Segmentation.{blocks}
 use Rattle.segmentation.specs.Sizes.{bad_size}
 use Rattle.codeword.specs.Build.{size_rule}
-use Rattle.codeword.specs.Downlink.{too_short_lem, bad_buffer, share_for, buffer_rule}
-use Rattle.slots.specs.State.{room_length, room_start, store_length, head_at_lem, too_many_lem, broken, bad_shape, bad_state}
+use Rattle.codeword.specs.Downlink.{too_short, bad_buffer, share_for, buffer_rule}
+use Rattle.slots.specs.State.{room_length, room_start, store_length, head_at, too_many, broken, bad_shape, bad_state}
 use Rattle.slots.specs.Calls.{state_rule, store_rule, slot_rule, taken_rule, blocks_rule, closed_rule, terminal_rule, store_rules, owner_rules, open_rules, open_number, open_down_number, close_number, size_at_head, share_at_head}
 use Rattle.slots.proofs.Tests.{or_left, or_right, inside}
 use Rattle.slots.proofs.Buffers.{Wide, short_wide, buffer_found}
@@ -48,8 +48,8 @@ pub record Fitting (M A : ℕ) : Type 0 where
   pub size_most : A ≤ 30576
   pub few : blocks (A + 24) ≤ M
 
-pub fitting : {M A : ℕ} → bad_size A ≡ false → too_many_lem M A ≡ false → Fitting M A
-unfolding bad_size too_many_lem
+pub fitting : {M A : ℕ} → bad_size A ≡ false → too_many M A ≡ false → Fitting M A
+unfolding bad_size too_many
 fitting {M} {A} e f =
     let a = inside A 30576 e in
     record { size_some = a.0; size_most = a.1; few = ltb-false M (blocks (A + 24)) f }
@@ -57,36 +57,36 @@ fitting {M} {A} e f =
 -- what an open head that is not broken keeps to
 record Told (M : ℕ) (h : Head) : Type 0 where
   pub size : bad_size h.size ≡ false
-  pub few : too_many_lem M h.size ≡ false
-  pub enough : too_short_lem h.share (h.size + 24) (blocks (h.size + 24)) ≡ false
+  pub few : too_many M h.size ≡ false
+  pub enough : too_short h.share (h.size + 24) (blocks (h.size + 24)) ≡ false
 
 open_told : (M : ℕ) (h : Head) → h.opened ≡ true → broken M h ≡ false → Told M h
 unfolding broken
 open_told M h o b =
-    let short : Bool = too_short_lem h.share (h.size + 24) (blocks (h.size + 24)) in
+    let short : Bool = too_short h.share (h.size + 24) (blocks (h.size + 24)) in
     let all = rw o at b in
-    let rest = or_right (bad_size h.size) (too_many_lem M h.size || short) all in
+    let rest = or_right (bad_size h.size) (too_many M h.size || short) all in
     record {
-      size = or_left (bad_size h.size) (too_many_lem M h.size || short) all;
-      few = or_left (too_many_lem M h.size) short rest;
-      enough = or_right (too_many_lem M h.size) short rest;
+      size = or_left (bad_size h.size) (too_many M h.size || short) all;
+      few = or_left (too_many M h.size) short rest;
+      enough = or_right (too_many M h.size) short rest;
     }
 
 -- an open head below S has an A that fits, and a share that is long enough
 pub record Good (state : State) : Type 0 where
   pub shape : Shape state.slots state.blocks
-  pub fits : (slot : ℕ) → slot < state.slots → (head_at_lem state slot).opened ≡ true → Fitting state.blocks (size_at_head state slot)
-  pub wide : (slot : ℕ) → slot < state.slots → (head_at_lem state slot).opened ≡ true → Wide (share_at_head state slot) (size_at_head state slot + 24)
+  pub fits : (slot : ℕ) → slot < state.slots → (head_at state slot).opened ≡ true → Fitting state.blocks (size_at_head state slot)
+  pub wide : (slot : ℕ) → slot < state.slots → (head_at state slot).opened ≡ true → Wide (share_at_head state slot) (size_at_head state slot + 24)
 
 pub good : (state : State) → bad_state state ≡ false → Good state
-unfolding bad_state head_at_lem size_at_head share_at_head
+unfolding bad_state head_at size_at_head share_at_head
 good state e = record {
   shape = good_shape (or_left (bad_shape state.slots state.blocks) _ e);
-  fits = λ slot l o. let told = open_told state.blocks (head_at_lem state slot) o (whole slot l) in fitting told.size told.few;
-  wide = λ slot l o. let told = open_told state.blocks (head_at_lem state slot) o (whole slot l) in short_wide (head_at_lem state slot).size told.size (head_at_lem state slot).share told.enough;
+  fits = λ slot l o. let told = open_told state.blocks (head_at state slot) o (whole slot l) in fitting told.size told.few;
+  wide = λ slot l o. let told = open_told state.blocks (head_at state slot) o (whole slot l) in short_wide (head_at state slot).size told.size (head_at state slot).share told.enough;
 }
   where
-    whole : (slot : ℕ) → slot < state.slots → broken state.blocks (head_at_lem state slot) ≡ false
+    whole : (slot : ℕ) → slot < state.slots → broken state.blocks (head_at state slot) ≡ false
     whole slot l = unbroken state.blocks state.slots slot state.heads (or_right (bad_shape state.slots state.blocks) _ e) l
 
 -- ---- 13, 5, 6
@@ -119,7 +119,7 @@ stored state room slot rest e z t =
 -- the slot is closed, and a block of A bits fits its room
 pub record Openable (state : State) (room slot A : ℕ) : Type 0 where
   pub slot_stored : Stored state room slot
-  pub closed : (head_at_lem state slot).opened ≡ false
+  pub closed : (head_at state slot).opened ≡ false
   pub size_fits : Fitting state.blocks A
 
 -- number 0 of Open
@@ -143,7 +143,7 @@ open_admitted state room slot A e z = passed (open_rules state room slot A) e z 
 
 module _ (state : State) (room slot A release k_mimo processes Nsoft layers : ℕ) where
   -- the number by the share as it is found
-  pub down_found : first_of (open_rules state room slot A ++ (rule (too_short_lem (share_for (blocks (A + 24)) release k_mimo processes Nsoft layers) (A + 24) (blocks (A + 24))) 21 ∷ []))
+  pub down_found : first_of (open_rules state room slot A ++ (rule (too_short (share_for (blocks (A + 24)) release k_mimo processes Nsoft layers) (A + 24) (blocks (A + 24))) 21 ∷ []))
       ≡ open_down_number state room slot A release k_mimo processes Nsoft layers
   unfolding open_down_number open_number open_rules store_rules
   down_found =
@@ -152,7 +152,7 @@ module _ (state : State) (room slot A release k_mimo processes Nsoft layers : �
       ∙ sym (first_of_append (open_rules state room slot A) _ tt)
     where
       short : ℕ → Bool
-      short soft = too_short_lem soft (A + 24) (blocks (A + 24))
+      short soft = too_short soft (A + 24) (blocks (A + 24))
 
       go : (b : Bool) → eqb (first_of (open_rules state room slot A)) 0 ≡ b
           → cond b (first_of (rule (short (share_for (blocks (A + 24)) release k_mimo processes Nsoft layers)) 21 ∷ [])) (first_of (open_rules state room slot A))
@@ -183,21 +183,21 @@ module _ (state : State) (room slot A release k_mimo processes Nsoft layers : �
 pub record Owned (state : State) (slot terminal : ℕ) : Type 0 where
   pub state_good : Good state
   pub present : slot < state.slots
-  pub opened : (head_at_lem state slot).opened ≡ true
-  pub theirs : (head_at_lem state slot).terminal ≡ terminal
+  pub opened : (head_at state slot).opened ≡ true
+  pub theirs : (head_at state slot).terminal ≡ terminal
   pub size_fits : Fitting state.blocks (size_at_head state slot)
   pub wide : Wide (share_at_head state slot) (size_at_head state slot + 24)
 
-own : (state : State) (slot terminal : ℕ) → bad_state state ≡ false → not (ltb slot state.slots) ≡ false → not (head_at_lem state slot).opened ≡ false
-    → not (eqb (head_at_lem state slot).terminal terminal) ≡ false → Owned state slot terminal
+own : (state : State) (slot terminal : ℕ) → bad_state state ≡ false → not (ltb slot state.slots) ≡ false → not (head_at state slot).opened ≡ false
+    → not (eqb (head_at state slot).terminal terminal) ≡ false → Owned state slot terminal
 own state slot terminal bad absent closed other =
     let below = present_slot state.slots slot absent in
-    let is_open = not-false (head_at_lem state slot).opened closed in
+    let is_open = not-false (head_at state slot).opened closed in
     record {
       state_good = good state bad;
       present = below;
       opened = is_open;
-      theirs = eqb-true (head_at_lem state slot).terminal terminal (not-false (eqb (head_at_lem state slot).terminal terminal) other);
+      theirs = eqb-true (head_at state slot).terminal terminal (not-false (eqb (head_at state slot).terminal terminal) other);
       size_fits = (good state bad).fits slot below is_open;
       wide = (good state bad).wide slot below is_open;
     }

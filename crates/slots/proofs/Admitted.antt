@@ -13,7 +13,7 @@ use Rattle.segmentation.specs.Sizes.{bad_size}
 use Rattle.codeword.specs.Build.{bad_allocation, bad_version, bad_bits}
 use Rattle.codeword.specs.Downlink.{bad_buffer}
 use Rattle.slots.specs.declared.State.{State}
-use Rattle.slots.specs.State.{store_length, head_at_lem, too_many_lem, bad_state}
+use Rattle.slots.specs.State.{store_length, head_at, too_many, bad_state}
 use Rattle.slots.specs.Calls.{store_rules, owner_rules, open_rules, open_number, open_down_number, receive_number, read_number, streams_number, close_number, size_at_head}
 
 module _ (state : State) (room slot : ℕ) (sound : bad_state state ≡ false) (long : store_length state ≤ room) (below : slot < state.slots) where
@@ -21,20 +21,20 @@ module _ (state : State) (room slot : ℕ) (sound : bad_state state ≡ false) (
   present = rw (lt-ltb slot state.slots below)
 
   -- a closed slot, and an A in range that fits M
-  module _ (A : ℕ) (size : bad_size A ≡ false) (closed : (head_at_lem state slot).opened ≡ false) (few : blocks (A + 24) ≤ state.blocks) where
+  module _ (A : ℕ) (size : bad_size A ≡ false) (closed : (head_at state slot).opened ≡ false) (few : blocks (A + 24) ≤ state.blocks) where
     pub open_admitted : open_number state room slot A ≡ 0
-    unfolding open_number open_rules store_rules first_of too_many_lem
+    unfolding open_number open_rules store_rules first_of too_many
     open_admitted = rw (sound, le-ltb _ _ long, present, closed, size, le-ltb state.blocks (blocks (A + 24)) few)
 
     -- for a downlink also a receiver whose soft buffer is long enough
     pub open_down_admitted : (release k_mimo processes Nsoft layers : ℕ) → bad_buffer (A + 24) release k_mimo processes Nsoft layers ≡ false
         → open_down_number state room slot A release k_mimo processes Nsoft layers ≡ 0
-    unfolding open_down_number open_rules store_rules first_of too_many_lem
+    unfolding open_down_number open_rules store_rules first_of too_many
     open_down_admitted release k_mimo processes Nsoft layers buffer = rw (sound, le-ltb _ _ long, present, closed, size, le-ltb state.blocks (blocks (A + 24)) few, buffer)
 
   -- the other calls, by the owner
-  module _ (terminal : ℕ) (opened : (head_at_lem state slot).opened ≡ true) (theirs : (head_at_lem state slot).terminal ≡ terminal) where
-    own : not (eqb (head_at_lem state slot).terminal terminal) ≡ false
+  module _ (terminal : ℕ) (opened : (head_at state slot).opened ≡ true) (theirs : (head_at state slot).terminal ≡ terminal) where
+    own : not (eqb (head_at state slot).terminal terminal) ≡ false
     own = rw (theirs, eq-eqb terminal terminal refl)
 
     pub receive_admitted : (Q N v : ℕ) (bits : List ℕ) → bad_allocation (blocks (size_at_head state slot + 24)) Q N (length bits) ≡ false → bad_version v ≡ false → bad_bits bits ≡ false

@@ -11,7 +11,7 @@ use Rattle.segmentation.proofs.Segmentation.{in_range, blocks_least, long_most}
 use Rattle.rate_matching.specs.SubBlocks.{rows}
 use Rattle.rate_matching.specs.SoftBuffer.{soft_share}
 use Rattle.codeword.specs.Codeword.{block_rows}
-use Rattle.codeword.specs.Downlink.{bad_receiver, too_short_lem, bad_buffer, share_for}
+use Rattle.codeword.specs.Downlink.{bad_receiver, too_short, bad_buffer, share_for}
 use Rattle.codeword.proofs.SoftShares.{rows_under, short_told}
 use Rattle.slots.proofs.Tests.{or_left, or_right}
 
@@ -27,12 +27,12 @@ module _ (A : ℕ) (admitted : bad_size A ≡ false) where
   high : A + 24 ≤ 30600
   high = omega (arith, in_range A admitted)
 
-  pub short_wide : (soft : ℕ) → too_short_lem soft (A + 24) (blocks (A + 24)) ≡ false → Wide soft (A + 24)
+  pub short_wide : (soft : ℕ) → too_short soft (A + 24) (blocks (A + 24)) ≡ false → Wide soft (A + 24)
   short_wide soft e r =
       omega (arith, rows_under (A + 24) high r, ltb-false soft (32 * rows (long (A + 24) + 4)) (sym (short_told (A + 24) high soft) ∙ e))
 
   -- no code block has more than 193 rows
-  pub long_share : (soft : ℕ) → 6176 ≤ soft → too_short_lem soft (A + 24) (blocks (A + 24)) ≡ false
+  pub long_share : (soft : ℕ) → 6176 ≤ soft → too_short soft (A + 24) (blocks (A + 24)) ≡ false
   unfolding rows
   long_share soft h = short_told (A + 24) high soft ∙ le-ltb soft (32 * rows (long (A + 24) + 4)) (omega (arith, long_most (A + 24) high))
 
@@ -52,12 +52,12 @@ module _ (A : ℕ) (admitted : bad_size A ≡ false) where
     unused e = simp (ne_eqb (blocks (A + 24)) 0 (λ z. omega (arith, blocks_least (A + 24) high)), e)
 
     -- a refused receiver has none, which is too short
-    pub buffer_found : too_short_lem found (A + 24) (blocks (A + 24)) ≡ bad_buffer (A + 24) release k_mimo processes Nsoft layers
+    pub buffer_found : too_short found (A + 24) (blocks (A + 24)) ≡ bad_buffer (A + 24) release k_mimo processes Nsoft layers
     unfolding bad_buffer
     buffer_found = go (bad_receiver release k_mimo processes) refl
       where
         go : (t : Bool) → bad_receiver release k_mimo processes ≡ t
-            → too_short_lem found (A + 24) (blocks (A + 24)) ≡ (bad_receiver release k_mimo processes || too_short_lem (soft_share (blocks (A + 24)) release k_mimo processes Nsoft layers) (A + 24) (blocks (A + 24)))
+            → too_short found (A + 24) (blocks (A + 24)) ≡ (bad_receiver release k_mimo processes || too_short (soft_share (blocks (A + 24)) release k_mimo processes Nsoft layers) (A + 24) (blocks (A + 24)))
         go true e = rw (e, unused e) (short_told (A + 24) high 0 ∙ lt-ltb 0 (32 * rows (long (A + 24) + 4)) (omega (arith, some_rows (long (A + 24)))))
         go false e = rw (e, used e)
 
@@ -67,6 +67,6 @@ module _ (A : ℕ) (admitted : bad_size A ≡ false) where
     share_found e = used (or_left (bad_receiver release k_mimo processes) _ e)
 
     pub share_enough : bad_buffer (A + 24) release k_mimo processes Nsoft layers ≡ false
-        → too_short_lem (soft_share (blocks (A + 24)) release k_mimo processes Nsoft layers) (A + 24) (blocks (A + 24)) ≡ false
+        → too_short (soft_share (blocks (A + 24)) release k_mimo processes Nsoft layers) (A + 24) (blocks (A + 24)) ≡ false
     unfolding bad_buffer
     share_enough e = or_right (bad_receiver release k_mimo processes) _ e

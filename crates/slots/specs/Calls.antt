@@ -11,7 +11,7 @@ use Rattle.slots.specs.declared.Head.{Head}
 use Rattle.slots.specs.declared.State.{State}
 use Rattle.slots.specs.declared.Answer.TheVariants.{Done, StillLacking}
 use Rattle.slots.specs.declared.Outcome.{Outcome}
-use Rattle.slots.specs.State.{store_length, closed_head, open_head, new_state, head_at_lem, too_many_lem, bad_shape, bad_state}
+use Rattle.slots.specs.State.{store_length, closed_head, open_head, new_state, head_at, too_many, bad_shape, bad_state}
 use Rattle.slots.specs.Room.{agreeing, room_at, with_room, cleared}
 use Rattle.slots.specs.Reception.{received}
 use Rattle.slots.specs.Reading.{lacking, heard_answer, heard_block, three_streams}
@@ -37,19 +37,19 @@ slot_rule state slot = rule (not (ltb slot state.slots)) 6
 
 -- the slot is open already
 abbrev pub taken_rule : State → ℕ → Rule
-taken_rule state slot = rule (head_at_lem state slot).opened 7
+taken_rule state slot = rule (head_at state slot).opened 7
 
 -- the block has more code blocks than the room
 abbrev pub blocks_rule : State → ℕ → Rule
-blocks_rule state A = rule (too_many_lem state.blocks A) 10
+blocks_rule state A = rule (too_many state.blocks A) 10
 
 -- the slot is closed
 abbrev pub closed_rule : State → ℕ → Rule
-closed_rule state slot = rule (not (head_at_lem state slot).opened) 8
+closed_rule state slot = rule (not (head_at state slot).opened) 8
 
 -- it is open for another terminal
 abbrev pub terminal_rule : State → ℕ → ℕ → Rule
-terminal_rule state slot terminal = rule (not (eqb (head_at_lem state slot).terminal terminal)) 9
+terminal_rule state slot terminal = rule (not (eqb (head_at state slot).terminal terminal)) 9
 
 -- Q, N or the number of bits, for C code blocks
 abbrev pub allocation_rule : ℕ → ℕ → ℕ → ℕ → Rule
@@ -115,11 +115,11 @@ open_down_store state slot A release k_mimo processes Nsoft layers store =
 
 -- the A of a slot's head
 unfoldable pub size_at_head : State → ℕ → ℕ
-size_at_head state slot = (head_at_lem state slot).size
+size_at_head state slot = (head_at state slot).size
 
 -- the share of the soft buffer that each code block of a slot has
 unfoldable pub share_at_head : State → ℕ → ℕ
-share_at_head state slot = (head_at_lem state slot).share
+share_at_head state slot = (head_at state slot).share
 
 -- Receive: 13, 5, 6, 8, 9, 3, 4, 2
 unfoldable pub receive_number : State → ℕ → ℕ → ℕ → ℕ → ℕ → ℕ → List ℕ → ℕ

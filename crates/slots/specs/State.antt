@@ -3,7 +3,7 @@
 use Rattle.std.specs.Prelude.{Bool, true, false, ◌||◌, ◌&&◌, List, [], ◌∷◌, ℕ, zero, suc, ◌+◌, ◌*◌, eqb, ltb, get_or, replicate}
 use Rattle.segmentation.specs.Segmentation.{blocks}
 use Rattle.segmentation.specs.Sizes.{bad_size}
-use Rattle.codeword.specs.Downlink.{too_short_lem}
+use Rattle.codeword.specs.Downlink.{too_short}
 use Rattle.slots.specs.declared.Head.{Head}
 use Rattle.slots.specs.declared.State.{State}
 
@@ -36,18 +36,18 @@ unfoldable pub new_state : ℕ → ℕ → State
 new_state S M = record { slots = S; blocks = M; heads = replicate 8 closed_head }
 
 -- the head of a slot
-unfoldable pub head_at_lem : State → ℕ → Head
-head_at_lem state slot = get_or state.heads slot closed_head
+unfoldable pub head_at : State → ℕ → Head
+head_at state slot = get_or state.heads slot closed_head
 
 -- number 10: A needs more than M code blocks
-unfoldable pub too_many_lem : ℕ → ℕ → Bool
-too_many_lem M A = ltb M (blocks (A + 24))
+unfoldable pub too_many : ℕ → ℕ → Bool
+too_many M A = ltb M (blocks (A + 24))
 
 -- a head is broken if it is open and its A is out of range or needs more than M code blocks, or its share is below 32·R for one of its code blocks
 unfoldable pub broken : ℕ → Head → Bool
 broken M h =
     h.opened
-    && (bad_size h.size || (too_many_lem M h.size || too_short_lem h.share (h.size + 24) (blocks (h.size + 24))))
+    && (bad_size h.size || (too_many M h.size || too_short h.share (h.size + 24) (blocks (h.size + 24))))
 
 -- one of the first n heads is broken
 unfoldable pub some_broken : ℕ → ℕ → List Head → Bool

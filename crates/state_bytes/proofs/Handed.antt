@@ -18,7 +18,7 @@ use Rattle.slots.specs.declared.Head.{Head}
 use Rattle.slots.specs.declared.State.{State}
 use Rattle.slots.specs.declared.Answer.TheVariants.{Done, Refused}
 use Rattle.slots.specs.declared.Outcome.{Outcome}
-use Rattle.slots.specs.State.{closed_head, open_head, new_state, head_at_lem, bad_shape, bad_state}
+use Rattle.slots.specs.State.{closed_head, open_head, new_state, head_at, bad_shape, bad_state}
 use Rattle.slots.specs.Answers.{number_of, unless_refused}
 use Rattle.slots.specs.Calls.{with_head, size_at_head, new_outcome, open_number, open_outcome, open_down_number, open_down_outcome, close_number, close_outcome}
 use Rattle.slots.proofs.Accepted.{good_shape, openable, down_open, good}
@@ -122,7 +122,7 @@ handed_on bytes slot n h whole fits = go (eqb n 0) refl
   where
     go : (b : Bool) → eqb n 0 ≡ b
         → let o = cond {A = Outcome} b (record { answer = Done; state = with_head (state_in bytes) slot h }) (record { answer = Refused n; state = state_in bytes }) in
-        state_in (cond (eqb (number_of o.answer) 0) (with_head_bytes bytes slot (head_at_lem o.state slot)) bytes) ≡ o.state
+        state_in (cond (eqb (number_of o.answer) 0) (with_head_bytes bytes slot (head_at o.state slot)) bytes) ≡ o.state
     go true e =
         let z = eqb-true n 0 e in
         ap (λ (x : Head). state_in (with_head_bytes bytes slot x)) (its_head (state_in bytes) slot h (omega (arith, eight_heads bytes, (whole z).below)))
@@ -189,10 +189,10 @@ module _ (bytes : List ℕ) where
   -- a flag above 1 or a terminal above 65,535 in a head below S
   pub head_refused : (slot : ℕ) → slot < (state_in bytes).slots → state_length ≤ length bytes
       → (ltb 1 (number_from 8 bytes (head_start slot)) || ltb 65535 (number_from 8 bytes (head_start slot + 8))) ≡ true → bad_state (state_in bytes) ≡ true
-  unfolding size_at_head head_at_lem state_in head_from head_of head_start
+  unfolding size_at_head head_at state_in head_from head_of head_start
   head_refused slot below long wrong = go (bad_state (state_in bytes)) refl
     where
-      there : slot < 8 → head_at_lem (state_in bytes) slot ≡ open_head 0 0 0
+      there : slot < 8 → head_at (state_in bytes) slot ≡ open_head 0 0 0
       there l = rw (le-ltb (length bytes) state_length long) (head_there bytes 16 8 slot closed_head l ∙ rw wrong)
 
       go : (b : Bool) → bad_state (state_in bytes) ≡ b → b ≡ true

@@ -5,7 +5,7 @@ use Rattle.slots.specs.declared.Head.{Head}
 use Rattle.slots.specs.declared.State.{State}
 use Rattle.slots.specs.declared.Answer.{Answer}
 use Rattle.slots.specs.declared.Outcome.{Outcome}
-use Rattle.slots.specs.State.{open_head, new_state, head_at_lem}
+use Rattle.slots.specs.State.{open_head, new_state, head_at}
 use Rattle.slots.specs.Answers.{number_of, values_of}
 use Rattle.slots.specs.Calls.{new_outcome}
 use Rattle.state_bytes.specs.Numbers.{in_bytes, number_from}
@@ -66,7 +66,7 @@ with_head_bytes bytes slot h =
 -- after Open and Close: the slot's head, where the call is accepted
 unfoldable pub bytes_after : Outcome → ℕ → List ℕ → List ℕ
 bytes_after outcome slot bytes =
-    cond (eqb (number_of outcome.answer) 0) (with_head_bytes bytes slot (head_at_lem outcome.state slot)) bytes
+    cond (eqb (number_of outcome.answer) 0) (with_head_bytes bytes slot (head_at outcome.state slot)) bytes
 
 -- New: 5 where the bytes are too few, then as New answers; it writes all 272, also with 13
 unfoldable pub new_number : ℕ → ℕ → ℕ → ℕ

@@ -17,7 +17,7 @@ use Rattle.segmentation.specs.Sizes.{segments_for}
 use Rattle.slots.specs.declared.Head.{Head}
 use Rattle.slots.specs.declared.State.{State}
 use Rattle.slots.specs.declared.Answer.TheVariants.{Done, Refused}
-use Rattle.slots.specs.State.{per_block, room_length, room_start, head_at_lem}
+use Rattle.slots.specs.State.{per_block, room_length, room_start, head_at}
 use Rattle.slots.specs.Room.{circle_at}
 use Rattle.slots.specs.Circle.{streams_on}
 use Rattle.slots.specs.Answers.{unless_refused}
@@ -46,7 +46,7 @@ module _ (state : State) (room slot terminal r size : ℕ) {owner : ℕ} (o : ow
   pub owner_refused : (owner ≡ 0 → ⊥) → owner ≡ streams_number state room slot terminal r size
   owner_refused h = on (record { is = λ t. rw (ne_eqb owner 0 h) })
 
-  module _ (z : owner ≡ 0) {head : Head} {s : Segments} (h : head ≡ head_at_lem state slot) (told : s ≡ segments_for head.size) where
+  module _ (z : owner ≡ 0) {head : Head} {s : Segments} (h : head ≡ head_at state slot) (told : s ≡ segments_for head.size) where
     fits_owner : Fitting state.blocks (size_at_head state slot)
     fits_owner = (served state room slot terminal o z).1.size_fits
 
@@ -75,7 +75,7 @@ streams_refused state store slot terminal r out e h = (rw (← e, ne_eqb _ 0 h),
 pub record Streaming (state : State) (store : List ℕ) (slot terminal r : ℕ) (out : List ℕ) (n : ℕ) (head : Head) (s : Segments) : Type 0 where
   pub number : n ≡ streams_number state (length store) slot terminal r (length out)
   pub zero : n ≡ 0
-  pub found : head ≡ head_at_lem state slot
+  pub found : head ≡ head_at state slot
   pub told : s ≡ segments_for head.size
 
 module _ {state : State} {store : List ℕ} {slot terminal r : ℕ} {out : List ℕ} {n : ℕ} {head : Head} {s : Segments} (w : Streaming state store slot terminal r out n head s) where

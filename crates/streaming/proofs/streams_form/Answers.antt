@@ -8,7 +8,7 @@ use lib.ListN.{length}
 use mir.Syntax.{w64}
 use mir.Val.{Fits}
 use Rattle.refusals.specs.Refusals.{first_of}
-use Rattle.slots.specs.State.{head_at_lem}
+use Rattle.slots.specs.State.{head_at}
 use Rattle.slots.specs.Calls.{store_rules, owner_rules, streams_number}
 use Rattle.slot_calls.proofs.OwnerParts.{owner_number, owner_head}
 use Rattle.packing.specs.Store.{places_in}
@@ -22,7 +22,7 @@ number : (c : After-owner-owner) → let e = c.args in
     c.owner-owner.result.number ≡ first_of (store_rules e.state c.places_asked-asked.result e.slot ++ owner_rules e.state e.slot e.terminal)
 number c = let e = c.args in owner_number e.state _ e.slot e.terminal c.owner-owner.ensures
 
-head : (c : After-owner-owner) → let e = c.args in c.owner-owner.result.head ≡ head_at_lem e.state e.slot
+head : (c : After-owner-owner) → let e = c.args in c.owner-owner.result.head ≡ head_at e.state e.slot
 head c = let e = c.args in owner_head e.state _ e.slot e.terminal c.owner-owner.ensures
 
 -- a number that is Streams' for the store's length is the places' own

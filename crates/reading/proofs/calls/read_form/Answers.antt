@@ -5,7 +5,7 @@ use Prim.Native.Nat.{◌+◌, ◌*◌, ◌≤◌}
 use native.Mathlib.Omega.{arith}
 use lib.ListN.{length}
 use Rattle.slots.specs.declared.Outcome.{Outcome}
-use Rattle.slots.specs.State.{head_at_lem}
+use Rattle.slots.specs.State.{head_at}
 use Rattle.slots.specs.Calls.{read_number}
 use Rattle.slot_calls.proofs.OwnerParts.{owner_number, owner_head}
 use Rattle.packing.specs.Store.{places_in}
@@ -15,7 +15,7 @@ use Rattle.reading.proofs.calls.read_form.Goals.{After-bytes_a_block, After-or_e
 use Rattle.reading.proofs.calls.read_form.Goals as goal
 
 -- the head is that of the slot
-head : (c : After-or_else-number) → let e = c.args in c.owner-owner.result.head ≡ head_at_lem e.state e.slot
+head : (c : After-or_else-number) → let e = c.args in c.owner-owner.result.head ≡ head_at e.state e.slot
 head c = let e = c.args in owner_head e.state _ e.slot e.terminal c.owner-owner.ensures
 
 -- the number is the places' own

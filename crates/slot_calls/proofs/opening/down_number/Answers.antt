@@ -8,7 +8,7 @@ use borrow.Author.Tests.{ne_eqb}
 use Rattle.refusals.specs.Refusals.{rule, first_of, or_else}
 use Rattle.refusals.proofs.Refusals.{chained_on, next, done}
 use Rattle.segmentation.specs.Segmentation.{blocks}
-use Rattle.codeword.specs.Downlink.{too_short_lem}
+use Rattle.codeword.specs.Downlink.{too_short}
 use Rattle.slots.specs.Calls.{store_rules, open_rules, open_number}
 use Rattle.slots.proofs.Accepted.{open_admitted}
 use Rattle.slot_calls.proofs.opening.down_number.Goals.{After-too_short}
@@ -21,7 +21,7 @@ last z e a = rw (z, ← e) a
 
 -- behind Open's number the share decides
 decided : (c : After-too_short) {answer : ℕ} → answer ≡ cond c.too_short.result 21 0 → let entry = c.args in
-    answer ≡ first_of (open_rules entry.state entry.lent entry.slot entry.size ++ (rule (too_short_lem entry.share (entry.size + 24) (blocks (entry.size + 24))) 21 ∷ []))
+    answer ≡ first_of (open_rules entry.state entry.lent entry.slot entry.size ++ (rule (too_short entry.share (entry.size + 24) (blocks (entry.size + 24))) 21 ∷ []))
 unfolding open_number open_rules store_rules
 decided c a =
     let entry = c.args in

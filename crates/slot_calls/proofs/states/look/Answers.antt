@@ -1,13 +1,13 @@
 use mathlib.Core.Path.{◌≡◌, refl, sym, ◌∙◌}
 use Prim.Native.Nat.{◌-◌}
-use Rattle.slots.specs.State.{closed_head, head_at_lem, bad_state}
+use Rattle.slots.specs.State.{closed_head, head_at, bad_state}
 use Rattle.slots.proofs.Accepted.{good_shape}
 use Rattle.slots.proofs.Heads as heads
 use Rattle.slot_calls.proofs.states.look.Goals.{After-head_at-head}
 use Rattle.slot_calls.proofs.states.look.Goals as goal
 
 -- the head is that of the slot
-found : (c : After-head_at-head) → c.head_at-head.result ≡ head_at_lem c.args.state c.args.slot
+found : (c : After-head_at-head) → c.head_at-head.result ≡ head_at c.args.state c.args.slot
 found c = c.head_at-head.ensures
 
 pub returns-then-bad_shape : goal.returns-then-bad_shape

@@ -7,7 +7,7 @@ use Rattle.refusals.specs.Refusals.{first_of}
 use Rattle.refusals.proofs.Refusals.{chained_on}
 use Rattle.slots.specs.declared.Head.{Head}
 use Rattle.slots.specs.declared.State.{State}
-use Rattle.slots.specs.State.{head_at_lem}
+use Rattle.slots.specs.State.{head_at}
 use Rattle.slots.specs.Calls.{store_rules, owner_rules}
 use Rattle.slot_calls.specs.declared.Owner.{Owner}
 use Rattle.slot_calls.specs.Owner.{owner_of}
@@ -17,7 +17,7 @@ use Rattle.slot_calls.proofs.states.owner.Goals as goal
 unfoldable answered : ℕ → Head → Owner
 answered n h = record { number = n; head = h }
 
-both : (state : State) (lent slot terminal : ℕ) {n : ℕ} {h : Head} → n ≡ first_of (store_rules state lent slot ++ owner_rules state slot terminal) → h ≡ head_at_lem state slot
+both : (state : State) (lent slot terminal : ℕ) {n : ℕ} {h : Head} → n ≡ first_of (store_rules state lent slot ++ owner_rules state slot terminal) → h ≡ head_at state slot
     → answered n h ≡ owner_of state lent slot terminal
 unfolding owner_of answered
 both state lent slot terminal {h} e f = ap (λ (k : ℕ). answered k h) e ∙ ap (answered _) f
