@@ -26,7 +26,7 @@ pub returns-then-number-ne0 : goal.returns-then-number-ne0
 returns-then-number-ne0 c = record { number = c.build_number-number.ensures; output = refused_output _ _ _ _ (λ e. c.if-number-ne0.true (c.build_number-number.ensures ∙ e)) }
 
 pub slice_bounds-write_message-end : goal.slice_bounds-write_message-end
-slice_bounds-write_message-end c = (told (goal.at.slice_bounds-write_message-end c).Else-number-ne0).ranges
+slice_bounds-write_message-end c = (told (goal.at.slice_bounds-write_message-end c).Else-number-ne0).fits
 
 pub slice_bounds-write_message-end-2 : goal.slice_bounds-write_message-end-2
 slice_bounds-write_message-end-2 c = front_count _ _ (told (goal.at.slice_bounds-write_message-end-2 c).Else-number-ne0).fits

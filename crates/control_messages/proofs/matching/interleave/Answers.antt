@@ -1,27 +1,22 @@
-use mathlib.Core.Logic.{inl, inr, ⊎_elim}
+use mathlib.Core.Logic.{inl, inr}
 use Prim.Native.Nat.{◌+◌, ◌-◌, ◌*◌, ◌%◌}
 use native.Mathlib.Nat.{zero-mul}
 use native.Mathlib.Omega.{arith}
 use Rattle.rate_matching.specs.SubBlocks.{rows, dummies}
 use Rattle.rate_matching.proofs.Columns.{table_below}
 use Rattle.control_messages.proofs.Interleaving.{Taking, taking_start, taking_ends, index_lt, room_lt, met, next_row, next_column, fewer_row, fewer_column, all_passed}
-use Rattle.control_messages.proofs.matching.interleave.Goals.{In-loop-c, Joined-dummies-y, Start}
+use Rattle.control_messages.proofs.matching.interleave.Goals.{Joined-dummies-y, then-dummies-y, else-dummies-y}
 use Rattle.control_messages.proofs.matching.interleave.Goals as goal
-
--- inside the loop
-module _ (c : In-loop-c) where
-  abbrev entry : Start
-  entry = c
 
 -- where the branches have met again
 after : (c : Joined-dummies-y)
-    → Taking (entry c).args.d (entry c).args.coded.now (entry c).args.true.now c.if-dummies-y.true c.if-dummies-y.n
-    (c.loop-c.c * rows (entry c).args.d + c.loop-c.q + 1)
+    → Taking c.args.d c.args.coded.now c.args.taken.now c.if-dummies-y.taken c.if-dummies-y.n
+    (c.loop-c.c * rows c.args.d + c.loop-c.q + 1)
 unfolding rows dummies
 after c =
     let inv = c.loop-c.invariant in
-    met (entry c).requires.0 inv.0 c.loop-c-test.true inv.2 inv.3
-    (⊎_elim (λ f. inl (f.0.true, f.2, f.3)) (λ f. inr (f.0.false, f.1, f.2)) c.if-dummies-y.branch)
+    met c.requires.0 inv.0 c.loop-c-test.true inv.2 inv.3
+    (elim c.if-dummies-y.branch [ then-dummies-y w ↦ inl (w.if-dummies-y.true, w.taken-is, w.n-is) | else-dummies-y w ↦ inr (w.if-dummies-y.false, w.taken-is, w.n-is) ])
 
 pub loop-c-init : goal.loop-c-init
 loop-c-init c = (c.columns-columns.ensures, omega arith, omega arith, rw zero-mul (taking_start c.requires.0 c.requires.1))
@@ -36,18 +31,18 @@ pub bounds-coded-y : goal.bounds-coded-y
 unfolding rows dummies
 bounds-coded-y c =
     let inv = c.loop-c.invariant in
-    let size = (entry c).requires.0 in
+    let size = c.requires.0 in
     omega (arith, size.most, index_lt size inv.0 c.loop-c-test.true inv.2 inv.3 c.if-dummies-y.true)
 
 pub bounds-taken-n : goal.bounds-taken-n
 unfolding rows dummies
 bounds-taken-n c =
     let inv = c.loop-c.invariant in
-    let size = (entry c).requires.0 in
+    let size = c.requires.0 in
     omega (arith, size.most, inv.3.room, room_lt size inv.0 c.loop-c-test.true inv.2 inv.3 c.if-dummies-y.true)
 
 pub overflow_add-n : goal.overflow_add-n
-overflow_add-n c = omega (arith, c.loop-c.invariant.3.few, (entry c).requires.0.most)
+overflow_add-n c = omega (arith, c.loop-c.invariant.3.few, c.requires.0.most)
 
 pub loop-c-smaller-then-q-rows : goal.loop-c-smaller-then-q-rows
 loop-c-smaller-then-q-rows c = let inv = c.loop-c.invariant in fewer_column _ _ _ c.loop-c-test.true inv.2 c.if-q-rows.true

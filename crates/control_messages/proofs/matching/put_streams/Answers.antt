@@ -16,4 +16,4 @@ put_stream-requires c = (omega arith, length-take-le 80 c.args.ring.now (omega a
 pub returns : goal.returns
 returns c =
     let d = c.args.d in
-    three_put d (d + d + 80 - (d + d)) (d + 80 - d) c.args.ring.now c.args.true.now c.requires.0 c.put_stream.ensures c.put_stream-2.ensures c.put_stream-3.ensures
+    three_put d (d + d + 80 - (d + d)) (d + 80 - d) c.args.ring.now c.args.taken.now c.requires.0 c.put_stream.ensures c.put_stream-2.ensures c.put_stream-3.ensures
