@@ -6,16 +6,16 @@ use Rattle.state_bytes.proofs.value.Goals as goal
 
 pub returns-in-Done : goal.returns-in-Done
 unfolding value_of values_of
-returns-in-Done c = rw c.enum_told-1.given.1
+returns-in-Done c = rw c.in-Done.is
 
 pub returns-in-StillLacking : goal.returns-in-StillLacking
 unfolding value_of values_of
-returns-in-StillLacking c = rw c.answer-1.given.1
+returns-in-StillLacking c = rw c.in-StillLacking.is
 
 pub returns-in-Refused : goal.returns-in-Refused
 unfolding value_of values_of
-returns-in-Refused c = rw c.enum_told-in-Refused-1.given.1
+returns-in-Refused c = rw c.in-Refused.is
 
 pub returns-in-RefusedWith : goal.returns-in-RefusedWith
 unfolding value_of values_of
-returns-in-RefusedWith c = rw c.answer-in-RefusedWith-1.given.1
+returns-in-RefusedWith c = rw c.in-RefusedWith.is
