@@ -4,6 +4,7 @@ use native.Mathlib.Omega.{arith}
 use lib.ListN.{length-set}
 use Rattle.laws.proofs.Tab.{tab_rest, rest_none}
 use Rattle.laws.proofs.Writing.{start, same, finish_all}
+use Rattle.report_code.specs.Code.{coded_bit, block}
 use Rattle.report_code.specs.Words.{message_bits}
 use Rattle.report_code.proofs.Entries.{entry_next}
 use Rattle.report_code.proofs.RowMasks.{coded_told}

@@ -5,6 +5,7 @@ use Prim.Native.Nat.{◌-◌, ◌≤◌}
 use lib.ListN.{length}
 use Rattle.laws.specs.Lists.{tab, tab_from}
 use Rattle.laws.proofs.Writing.{Writing}
+use Rattle.report_code.specs.Code.{coded_bit}
 use Rattle.report_code.specs.Words.{message_bits}
 use Rattle.report_code.proofs.block.coded_block.Given as goal
 

@@ -1,5 +1,6 @@
 use Prim.Native.Nat.{◌-◌}
 use native.Mathlib.Omega.{arith}
+use Rattle.report_code.specs.Code.{control_bits}
 use Rattle.report_code.proofs.Linear.{length_block}
 use Rattle.report_code.proofs.Repeating.{start, front_long, room_long, next, finish}
 use Rattle.report_code.proofs.block.control_bits.Goals as goal

@@ -2,6 +2,7 @@
 -- Assumes nothing.
 use Prim.Native.Nat.{◌-◌}
 use lib.ListN.{length}
+use Rattle.report_code.specs.Code.{block}
 use Rattle.report_code.specs.Words.{message_bits}
 use Rattle.report_code.proofs.Repeating.{Repeating}
 use Rattle.report_code.proofs.block.control_bits.Given as goal
