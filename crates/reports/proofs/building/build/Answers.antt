@@ -1,6 +1,5 @@
 -- `building::build` meets its contract: a refusal leaves the output as it was, else its front is lent for the control bits and the rest for the data.
 -- Assumes nothing.
-use borrow.Author.Rules.{rules}
 use mathlib.Core.Path.{◌≡◌, sym, ◌∙◌}
 use native.Mathlib.Omega.{arith}
 use lib.ListN.{length}
@@ -14,23 +13,24 @@ use Rattle.reports.proofs.building.build.Goals as goal
 none : (c : Else-number-ne0) → let a = c.args in report_build_number a.report.now a.control a.block.now a.grant (length a.out.now) ≡ 0
 none c = sym c.build_number-number.ensures ∙ c.if-number-ne0.false
 
-rules : (c : Else-number-ne0) → let a = c.args in Accepted a.report.now a.control a.block.now a.grant (length a.out.now)
-rules c = accepted _ _ _ _ _ (none c)
+-- so none of its rules applies
+told : (c : Else-number-ne0) → let a = c.args in Accepted a.report.now a.control a.block.now a.grant (length a.out.now)
+told c = accepted _ _ _ _ _ (none c)
 
 pub returns-then-number-ne0 : goal.returns-then-number-ne0
 returns-then-number-ne0 c = record { number = c.build_number-number.ensures; output = refused_output _ _ _ _ _ (λ e. c.if-number-ne0.true (c.build_number-number.ensures ∙ e)) }
 
 pub overflow_mul-ahead : goal.overflow_mul-ahead
-overflow_mul-ahead c = omega (arith, (rules (goal.at.overflow_mul-ahead c).Else-number-ne0).shape.few)
+overflow_mul-ahead c = omega (arith, (told (goal.at.overflow_mul-ahead c).Else-number-ne0).shape.few)
 
 pub number_of-requires : goal.number_of-requires
-number_of-requires c = ((rules (goal.at.number_of-requires c).Else-number-ne0).report_bits, (rules (goal.at.number_of-requires c).Else-number-ne0).shape.short)
+number_of-requires c = ((told (goal.at.number_of-requires c).Else-number-ne0).report_bits, (told (goal.at.number_of-requires c).Else-number-ne0).shape.short)
 
 pub slice_bounds-control_bits-end : goal.slice_bounds-control_bits-end
-slice_bounds-control_bits-end c = omega (arith, (rules (goal.at.slice_bounds-control_bits-end c).Else-number-ne0).enough)
+slice_bounds-control_bits-end c = omega (arith, (told (goal.at.slice_bounds-control_bits-end c).Else-number-ne0).enough)
 
 pub slice_bounds-control_bits-end-2 : goal.slice_bounds-control_bits-end-2
-slice_bounds-control_bits-end-2 c = front_count _ _ (omega (arith, (rules (goal.at.slice_bounds-control_bits-end-2 c).Else-number-ne0).enough))
+slice_bounds-control_bits-end-2 c = front_count _ _ (omega (arith, (told (goal.at.slice_bounds-control_bits-end-2 c).Else-number-ne0).enough))
 
 pub slice_bounds-build-count : goal.slice_bounds-build-count
 slice_bounds-build-count c =

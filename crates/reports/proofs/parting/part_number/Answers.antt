@@ -20,7 +20,7 @@ length_told : (c : After-bad_data) → let a = c.args in
     c.bad_data.result ≡ bad_length (blocks (a.a + 24)) a.q a.n (length a.received.now - a.n * a.control)
 length_told c =
     let a = c.args in
-    c.bad_data.ensures ∙ ap (bad_length (blocks (a.a + 24)) a.q a.n) c.left_After.ensures
+    c.bad_data.ensures ∙ ap (bad_length (blocks (a.a + 24)) a.q a.n) c.left_after-g.ensures
 
 pub returns-then-number-ne0 : goal.returns-then-number-ne0
 unfolding part_rules shape_rules
