@@ -5,8 +5,8 @@ use Rattle.face.proofs.control.named.Goals as goal
 
 pub returns-in-Terminal : goal.returns-in-Terminal
 unfolding terminal_of
-returns-in-Terminal c = rw c.owner-1.given.1
+returns-in-Terminal c = rw c.in-Terminal.is
 
 pub returns-in-Refused : goal.returns-in-Refused
 unfolding terminal_of
-returns-in-Refused c = rw c.enum_told-1.given.1
+returns-in-Refused c = rw c.in-Refused.is

@@ -5,8 +5,8 @@ use Rattle.face.proofs.control.number.Goals as goal
 
 pub returns-in-Terminal : goal.returns-in-Terminal
 unfolding number_of
-returns-in-Terminal c = rw c.enum_told-1.given.1
+returns-in-Terminal c = rw c.in-Terminal.is
 
 pub returns-in-Refused : goal.returns-in-Refused
 unfolding number_of
-returns-in-Refused c = rw c.owner-1.given.1
+returns-in-Refused c = rw c.in-Refused.is
