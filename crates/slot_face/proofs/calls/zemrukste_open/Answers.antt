@@ -6,5 +6,5 @@ use Rattle.slot_face.proofs.calls.zemrukste_open.Goals as goal
 pub returns : goal.returns
 returns c =
     let made = c.state_in-state.ensures in
-    let told = rw made at c.«open».ensures.0 in
-    record { number = numbered told c.finish.ensures.value; state = handed told _ _ c.finish.ensures.bytes_after; stored = rw made at c.«open».ensures.1 }
+    let told = rw made at c.open-outcome.ensures.value in
+    record { number = numbered told c.finish.ensures.value; state = handed told _ _ c.finish.ensures.bytes_after; stored = rw made at c.open-outcome.ensures.store_after }
