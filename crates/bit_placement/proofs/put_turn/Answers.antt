@@ -3,6 +3,7 @@
 -- Assumes nothing.
 use mathlib.Core.Path.{◌≡◌, ◌∙◌}
 use mathlib.Core.List.{◌++◌}
+use Prim.Native.Nat.{ℕ}
 use native.Mathlib.Omega.{arith}
 use lib.ListN.{length, take}
 use borrow.Author.Tests.{le-leb}
@@ -17,20 +18,19 @@ use Rattle.bit_placement.specs.inner.Along.{Put, Sends}
 use Rattle.bit_placement.proofs.Along.{put_append, put_as, put_long, put_within}
 use Rattle.bit_placement.proofs.Walking.{walked_still, unit_within_lem, whole_in, round_is, round_uncut}
 use Rattle.bit_placement.proofs.Placed.{unsent, sent, none_sent, too_short, sends_told, turn_put}
-use Rattle.bit_placement.proofs.put_turn.Goals.{After-circle_length, After-put_rest-second, Else-part-circle_length, Else-turn-eq0}
+use Rattle.bit_placement.proofs.put_turn.Goals.{After-put_rest-second, Else-part-circle_length}
 use Rattle.bit_placement.proofs.put_turn.Goals as goal
 
-can : (c : Else-turn-eq0) → let e = c.args in Matchable e.d e.d e.d e.filler (cut_at e.soft (rows e.d)) e.version
-can c = sent _ _ _ _ c.turn_of-turn.ensures c.if-turn-eq0.false
-
 -- the length of the circle
-long : (c : After-circle_length) → c.circle_length.result ≡ circle_length (rows c.args.d)
+long : {d F N v n : ℕ} → Matchable d d d F N v → n ≡ length_within d → n ≡ circle_length (rows d)
 unfolding length_within
-long c = c.circle_length.ensures ∙ rw (le-leb c.args.d longest ((sent _ _ _ _ c.turn_of-turn.ensures c.if-turn-eq0.false)).fits.most)
+long m e = e ∙ rw (le-leb _ longest m.fits.most)
 
 -- the turn can be put
 sends : (c : Else-part-circle_length) → let e = c.args in Sends e.d e.filler e.soft e.version (length e.part.now)
-sends c = sends_told ((sent _ _ _ _ c.turn_of-turn.ensures c.if-turn-eq0.false)) (omega (arith, (c.circle_length.ensures ∙ rw (le-leb c.args.d longest (can c).fits.most)), c.if-part-circle_length.false))
+sends c =
+    let can = sent _ _ _ _ c.turn_of-turn.ensures c.if-turn-eq0.false in
+    sends_told can (omega (arith, long can c.circle_length.ensures, c.if-part-circle_length.false))
 
 -- the first two stretches
 two : (c : After-put_rest-second) → let e = c.args in
@@ -43,7 +43,7 @@ pub returns-then-turn-eq0 : goal.returns-then-turn-eq0
 returns-then-turn-eq0 c = let told = none_sent _ _ _ _ _ _ (unsent _ _ _ _ c.turn_of-turn.ensures c.if-turn-eq0.true) in record { part = told.0; count = told.1 }
 
 pub returns-then-part-circle_length : goal.returns-then-part-circle_length
-returns-then-part-circle_length c = let told = too_short _ _ _ _ _ _ (omega (arith, long (goal.at.returns-then-part-circle_length c).After-circle_length, c.if-part-circle_length.true)) in record { part = told.0; count = told.1 }
+returns-then-part-circle_length c = let told = too_short _ _ _ _ _ _ (omega (arith, long (sent _ _ _ _ c.turn_of-turn.ensures c.if-turn-eq0.false) c.circle_length.ensures, c.if-part-circle_length.true)) in record { part = told.0; count = told.1 }
 
 pub put_units-first-requires : goal.put_units-first-requires
 put_units-first-requires c =

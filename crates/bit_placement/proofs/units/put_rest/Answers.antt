@@ -1,18 +1,21 @@
 -- `units::put_rest` meets its contract: no more bits are lent than the places before the cut take (`Along`).
 -- Assumes nothing.
 use mathlib.Core.Path.{◌≡◌}
-use mathlib.Core.Logic.{⊎_elim}
 use Prim.Native.Nat.{◌+◌, ◌-◌, min}
 use native.Mathlib.Omega.{arith}
 use lib.ListN.{length}
 use Rattle.laws.proofs.Parts.{front_count}
 use Rattle.bit_placement.proofs.Along.{put_first_lem}
-use Rattle.bit_placement.proofs.units.put_rest.Goals.{Joined-left-rest}
+use Rattle.bit_placement.proofs.units.put_rest.Goals.{Joined-left-rest, then-left-rest, else-left-rest}
 use Rattle.bit_placement.proofs.units.put_rest.Goals as goal
 
 -- the fewer of both
 fewer : (c : Joined-left-rest) → let e = c.args in c.if-left-rest.n ≡ min (length e.bits.now - e.at) e.rest
-fewer c = ⊎_elim (λ w. omega (arith, w.0.true, w.1)) (λ w. omega (arith, w.0.false, w.1)) c.if-left-rest.branch
+fewer c =
+    elim c.if-left-rest.branch [
+      | then-left-rest w ↦ omega (arith, w.if-left-rest.true, w.n-is)
+      | else-left-rest w ↦ omega (arith, w.if-left-rest.false, w.n-is)
+    ]
 
 pub overflow_add-end : goal.overflow_add-end
 overflow_add-end c = omega (arith, fewer (goal.at.overflow_add-end c).Joined-left-rest)
