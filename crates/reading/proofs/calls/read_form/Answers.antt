@@ -5,7 +5,6 @@ use Prim.Native.Nat.{◌+◌, ◌*◌, ◌≤◌}
 use native.Mathlib.Omega.{arith}
 use lib.ListN.{length}
 use Rattle.slots.specs.declared.Outcome.{Outcome}
-use Rattle.slots.specs.State.{head_at}
 use Rattle.slots.specs.Calls.{read_number}
 use Rattle.slot_calls.proofs.OwnerParts.{owner_number, owner_head}
 use Rattle.packing.specs.Store.{places_in}
@@ -14,22 +13,27 @@ use Rattle.reading.proofs.Answering.{read_chained, Reading, read_refused, room_w
 use Rattle.reading.proofs.calls.read_form.Goals.{After-bytes_a_block, After-or_else-number}
 use Rattle.reading.proofs.calls.read_form.Goals as goal
 
--- the head is that of the slot
-head : (c : After-or_else-number) → let e = c.args in c.owner-owner.result.head ≡ head_at e.state e.slot
-head c = let e = c.args in owner_head e.state _ e.slot e.terminal c.owner-owner.ensures
-
 -- the number is the places' own
 number : (c : After-or_else-number) → let e = c.args in
     c.or_else-number.result ≡ read_number e.state (length (places_in e.four e.store.now)) e.slot e.terminal (length e.out.now)
 number c =
     let e = c.args in
     read_asked e.four e.state e.store.now e.slot e.terminal _ c.places_asked-asked.ensures
-    (read_chained e.state _ e.slot e.terminal _ (head c) (owner_number e.state _ e.slot e.terminal c.owner-owner.ensures) c.or_else-number.ensures)
+    (read_chained e.state _ e.slot e.terminal _ (owner_head e.state _ e.slot e.terminal c.owner-owner.ensures) (owner_number e.state _ e.slot e.terminal c.owner-owner.ensures) c.or_else-number.ensures)
 
 -- the call comes to the room
 asked : (c : After-bytes_a_block) → let e = c.args in
     Reading e.state (places_in e.four e.store.now) e.slot e.terminal e.out.now c.or_else-number.result c.owner-owner.result.head
-asked c = record { number = (let e = c.args in read_asked e.four e.state e.store.now e.slot e.terminal _ c.places_asked-asked.ensures (read_chained e.state _ e.slot e.terminal _ (head c) (owner_number e.state _ e.slot e.terminal c.owner-owner.ensures) c.or_else-number.ensures)); zero = c.if-number-ne0.false; found = (let e = c.args in owner_head e.state _ e.slot e.terminal c.owner-owner.ensures) }
+asked c =
+    let e = c.args in
+    let head = owner_head e.state _ e.slot e.terminal c.owner-owner.ensures in
+    record {
+      number =
+          read_asked e.four e.state e.store.now e.slot e.terminal _ c.places_asked-asked.ensures
+          (read_chained e.state _ e.slot e.terminal _ head (owner_number e.state _ e.slot e.terminal c.owner-owner.ensures) c.or_else-number.ensures);
+      zero = c.if-number-ne0.false;
+      found = head;
+    }
 
 -- its bytes are there
 there : (c : After-bytes_a_block) → let e = c.args in

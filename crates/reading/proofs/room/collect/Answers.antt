@@ -29,7 +29,7 @@ slice_bounds-read_data-end c = (parts (goal.at.slice_bounds-read_data-end c).Aft
 pub read_data-requires : goal.read_data-requires
 read_data-requires c = (
   record {
-    enough = (parts (goal.at.read_data-requires c).After-filler_of-f).circle-1;
+    enough = (parts (goal.at.read_data-requires c).After-filler_of-f).circle;
     unpacks = c.loop-r.invariant.1;
   },
   (parts (goal.at.read_data-requires c).After-filler_of-f).stretch,

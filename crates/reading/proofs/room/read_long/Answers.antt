@@ -7,6 +7,3 @@ use Rattle.reading.proofs.room.read_long.Goals as goal
 
 pub release-requires : goal.release-requires
 release-requires c = (c.requires.0, omega (arith, high c.args.a (fit c.args.a _ c.requires.0).admitted), c.requires.1, c.requires.2)
-
-pub returns : goal.returns
-returns c = let told = c.release.ensures in record { value = told.0; out_after = told.1 }

@@ -5,6 +5,3 @@ use Rattle.reading.proofs.room.read_short.Goals as goal
 
 pub release-requires : goal.release-requires
 release-requires c = (c.requires.1, omega arith, c.requires.2, c.requires.3)
-
-pub returns : goal.returns
-returns c = let told = c.release.ensures in record { value = told.0; out_after = told.1 }
