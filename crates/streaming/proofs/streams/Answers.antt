@@ -10,4 +10,4 @@ streams_form-requires c = λ f. absurd (true≢false (sym f))
 
 pub returns : goal.returns
 unfolding places_in
-returns c = let told = c.streams_form.ensures in record { value = told.0; out_after = told.1 }
+returns c = let told = c.streams_form.ensures in record { value = told.value; out_after = told.out_after }

@@ -1,41 +1,24 @@
 -- `streaming::streams_form` meets its contract: the number decides, and number 0 says that the code block's circle lies within the store (`Answering`, `Form`).
 -- Assumes nothing.
 use mathlib.Core.Path.{◌≡◌, ◌∙◌}
-use mathlib.Core.List.{◌++◌}
 use Prim.Native.Nat.{ℕ, ◌+◌, ◌*◌, ◌≤◌}
 use native.Mathlib.Omega.{arith}
 use lib.ListN.{length}
 use mir.Syntax.{w64}
 use mir.Val.{Fits}
-use Rattle.refusals.specs.Refusals.{first_of}
-use Rattle.slots.specs.State.{head_at}
-use Rattle.slots.specs.Calls.{store_rules, owner_rules, streams_number}
+use Rattle.slots.specs.Calls.{streams_number}
 use Rattle.slot_calls.proofs.OwnerParts.{owner_number, owner_head}
 use Rattle.packing.specs.Store.{places_in}
 use Rattle.reading.proofs.Form.{streams_asked}
 use Rattle.streaming.proofs.Answering.{owner_refused, found_most, streams_chained, streams_refused, Streaming, circle_within, index_few, three_needs, streams_told}
-use Rattle.streaming.proofs.streams_form.Goals.{After-block_number-number, After-owner-owner, After-size_of-d, Else-number-ne0}
+use Rattle.streaming.proofs.streams_form.Goals.{After-block_number-number, After-size_of-d, Else-number-ne0}
 use Rattle.streaming.proofs.streams_form.Goals as goal
-
--- the owner's number, and the slot's head
-number : (c : After-owner-owner) → let e = c.args in
-    c.owner-owner.result.number ≡ first_of (store_rules e.state c.places_asked-asked.result e.slot ++ owner_rules e.state e.slot e.terminal)
-number c = let e = c.args in owner_number e.state _ e.slot e.terminal c.owner-owner.ensures
-
-head : (c : After-owner-owner) → let e = c.args in c.owner-owner.result.head ≡ head_at e.state e.slot
-head c = let e = c.args in owner_head e.state _ e.slot e.terminal c.owner-owner.ensures
-
--- a number that is Streams' for the store's length is the places' own
-told : (c : After-owner-owner) {n : ℕ} → let e = c.args in
-    n ≡ streams_number e.state c.places_asked-asked.result e.slot e.terminal e.block (length e.out.now)
-    → n ≡ streams_number e.state (length (places_in e.four e.store.now)) e.slot e.terminal e.block (length e.out.now)
-told c n = let e = c.args in streams_asked e.four e.state e.store.now e.slot e.terminal e.block _ c.places_asked-asked.ensures n
 
 -- no size is above 6,144
 most : (c : After-size_of-d) → c.size_of-d.result ≤ 6144
 most c =
     let e = c.args in
-    found_most e.state _ e.slot e.terminal e.block (length e.out.now) ((let e = c.args in owner_number e.state _ e.slot e.terminal c.owner-owner.ensures)) c.if-owner-ne0.false ((let e = c.args in owner_head e.state _ e.slot e.terminal c.owner-owner.ensures))
+    found_most e.state _ e.slot e.terminal e.block (length e.out.now) (owner_number e.state _ e.slot e.terminal c.owner-owner.ensures) c.if-owner-ne0.false (owner_head e.state _ e.slot e.terminal c.owner-owner.ensures)
     c.segments_for-s.ensures c.size_of-d.ensures
 
 -- the number of the code block and the output is the call's
@@ -43,8 +26,8 @@ block_told : (c : After-block_number-number) → let e = c.args in
     c.block_number-number.result ≡ streams_number e.state (length (places_in e.four e.store.now)) e.slot e.terminal e.block (length e.out.now)
 block_told c =
     let e = c.args in
-    told c
-    (streams_chained e.state _ e.slot e.terminal e.block (length e.out.now) ((let e = c.args in owner_number e.state _ e.slot e.terminal c.owner-owner.ensures)) c.if-owner-ne0.false ((let e = c.args in owner_head e.state _ e.slot e.terminal c.owner-owner.ensures))
+    streams_asked e.four e.state e.store.now e.slot e.terminal e.block _ c.places_asked-asked.ensures
+    (streams_chained e.state _ e.slot e.terminal e.block (length e.out.now) (owner_number e.state _ e.slot e.terminal c.owner-owner.ensures) c.if-owner-ne0.false (owner_head e.state _ e.slot e.terminal c.owner-owner.ensures)
     c.segments_for-s.ensures c.size_of-d.ensures c.block_number-number.ensures)
 
 -- the call comes to the room
@@ -52,7 +35,17 @@ asked : (c : Else-number-ne0) → let e = c.args in
     Streaming e.state (places_in e.four e.store.now) e.slot e.terminal e.block e.out.now
     c.block_number-number.result c.owner-owner.result.head c.segments_for-s.result
 asked c =
-    record { number = (let e = c.args in told c (streams_chained e.state _ e.slot e.terminal e.block (length e.out.now) (number c) c.if-owner-ne0.false (head c) c.segments_for-s.ensures c.size_of-d.ensures c.block_number-number.ensures)); zero = c.if-number-ne0.false; c = (let e = c.args in owner_head e.state _ e.slot e.terminal c.owner-owner.ensures); told = c.segments_for-s.ensures }
+    let e = c.args in
+    let head = owner_head e.state _ e.slot e.terminal c.owner-owner.ensures in
+    record {
+      number =
+          streams_asked e.four e.state e.store.now e.slot e.terminal e.block _ c.places_asked-asked.ensures
+          (streams_chained e.state _ e.slot e.terminal e.block (length e.out.now) (owner_number e.state _ e.slot e.terminal c.owner-owner.ensures) c.if-owner-ne0.false head
+          c.segments_for-s.ensures c.size_of-d.ensures c.block_number-number.ensures);
+      zero = c.if-number-ne0.false;
+      found = head;
+      told = c.segments_for-s.ensures;
+    }
 
 -- the circle's number and what it is made of
 product_few : (slot m r : ℕ) → slot * m + r ≤ 40 → Fits w64 (slot * m)
@@ -65,7 +58,8 @@ pub returns-then-owner-ne0 : goal.returns-then-owner-ne0
 returns-then-owner-ne0 c =
     let e = c.args in
     let w = streams_refused e.state (places_in e.four e.store.now) e.slot e.terminal e.block e.out.now
-    (told (goal.at.returns-then-owner-ne0 c).After-owner-owner (owner_refused e.state _ e.slot e.terminal e.block _ (number (goal.at.returns-then-owner-ne0 c).After-owner-owner) c.if-owner-ne0.true)) c.if-owner-ne0.true in
+    (streams_asked e.four e.state e.store.now e.slot e.terminal e.block _ c.places_asked-asked.ensures
+    (owner_refused e.state _ e.slot e.terminal e.block _ (owner_number e.state _ e.slot e.terminal c.owner-owner.ensures) c.if-owner-ne0.true)) c.if-owner-ne0.true in
     record { value = c.refused.ensures ∙ w.0; out_after = w.1 }
 
 pub overflow_add-d : goal.overflow_add-d

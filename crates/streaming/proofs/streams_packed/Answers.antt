@@ -5,6 +5,3 @@ use Rattle.streaming.proofs.streams_packed.Goals as goal
 
 pub streams_form-requires : goal.streams_form-requires
 streams_form-requires c = λ f. search rules
-
-pub returns : goal.returns
-returns c = let told = c.streams_form.ensures in record { value = told.0; out_after = told.1 }
