@@ -1,7 +1,7 @@
 -- What an accepted Receive of 01 may go on, on a store of either form (02 E7): the slot's room lies in the store and has the block's code blocks.
 -- And what it is to answer and to store.
 -- Assumes nothing.
-use mathlib.Core.Path.{◌≡◌, refl, sym, ◌∙◌, ap, ap₂}
+use mathlib.Core.Path.{◌≡◌, refl, sym, ◌∙◌, ap, ap₂, subst}
 use mathlib.Core.Bool.{Bool, true, false, cond}
 use mathlib.Core.List.{List, ◌++◌}
 use Prim.Native.Nat.{ℕ}
@@ -129,12 +129,15 @@ module _ (four : Bool) (state : State) (slot terminal Q N v : ℕ) (bits store :
       go true z = rw (number_is, z, places_are z, sized) refl
       go false z = rw (number_is, z) refl
 
-  pub by_store : {store' : List ℕ} → EachBelow 256 store → store' ≡ store_by four o state.blocks slot Q N v bits store
+  pub by_store : {store' : List ℕ} → EachBelow 256 store' → store' ≡ store_by four o state.blocks slot Q N v bits store
       → store' ≡ in_form four (receive_store state slot terminal Q N v bits (places_in four store))
   unfolding store_by
-  by_store below h = h ∙ go (eqb (receive_number state (length (places_in four store)) slot terminal Q N v bits) 0) refl
+  by_store {store'} below h = go (eqb (receive_number state (length (places_in four store)) slot terminal Q N v bits) 0) refl
     where
       go : (t : Bool) → eqb (receive_number state (length (places_in four store)) slot terminal Q N v bits) 0 ≡ t
-          → store_by four o state.blocks slot Q N v bits store ≡ in_form four (receive_store state slot terminal Q N v bits (places_in four store))
-      go true z = rw (number_is, z) (ap (in_form four) (places_are z))
-      go false z = rw (number_is, z) (sym (form_back four store below) ∙ ap (in_form four) (stays z))
+          → store' ≡ in_form four (receive_store state slot terminal Q N v bits (places_in four store))
+      go true z = h ∙ rw (number_is, z) (ap (in_form four) (places_are z))
+      go false z = kept ∙ sym (form_back four store (subst (EachBelow 256) kept below)) ∙ ap (in_form four) (stays z)
+        where
+          kept : store' ≡ store
+          kept = h ∙ rw (number_is, z) refl

@@ -21,4 +21,9 @@ put_blocks-requires c = room_ready _ _ c.requires c.bytes_a_block.ensures
 
 pub returns : goal.returns
 returns c =
-    let kept = c.put_blocks.auto.room in record { stored = room_stored _ _ c.requires c.bytes_a_block.ensures _ kept c.put_blocks.ensures; count = room_counted _ _ c.requires c.bytes_a_block.ensures _ kept c.put_blocks.ensures }
+    let kept = c.put_blocks.auto.room in
+    let put = c.put_blocks.ensures in
+    record {
+      stored = room_stored _ _ c.requires c.bytes_a_block.ensures _ kept (put.stored, put.count);
+      count = room_counted _ _ c.requires c.bytes_a_block.ensures _ kept (put.stored, put.count);
+    }

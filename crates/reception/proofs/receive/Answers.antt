@@ -18,9 +18,9 @@ pub returns : goal.returns
 unfolding places_in in_form places_asked
 returns c =
     let e = c.args in
-    let told = c.receive_by-answer.ensures in record {
+    record {
       answer = receive_kept e.state e.slot e.terminal e.q e.n e.version e.bits.now e.store.now
           (by_answer false e.state e.slot e.terminal e.q e.n e.version e.bits.now e.store.now refl c.owner-owner.ensures c.receive_by-answer.ensures.answer);
       stored = by_store false e.state e.slot e.terminal e.q e.n e.version e.bits.now e.store.now refl c.owner-owner.ensures
-          (λ i. omega (arith, c.type_inv.store i)) c.receive_by-answer.ensures.stored;
+          (λ i. (c.type_inv.store i).fits) c.receive_by-answer.ensures.stored;
     }

@@ -15,9 +15,9 @@ receive_by-answer-requires c =
 pub returns : goal.returns
 returns c =
     let e = c.args in
-    let told = c.receive_by-answer.ensures in record {
+    record {
       answer = receive_kept e.state e.slot e.terminal e.q e.n e.version e.bits.now (places_in true e.store.now)
           (by_answer true e.state e.slot e.terminal e.q e.n e.version e.bits.now e.store.now c.places_asked-asked.ensures c.owner-owner.ensures c.receive_by-answer.ensures.answer);
       stored = by_store true e.state e.slot e.terminal e.q e.n e.version e.bits.now e.store.now c.places_asked-asked.ensures c.owner-owner.ensures
-          (λ i. omega (arith, c.type_inv.store i)) c.receive_by-answer.ensures.stored;
+          (λ i. (c.type_inv.store i).fits) c.receive_by-answer.ensures.stored;
     }

@@ -18,10 +18,10 @@ block : (c : In-loop-r) → Block c.args.a c.segments_for-s.result c.loop-r.r
 block c = block_of _ c.segments_for-s.ensures c.loop-r-test.true
 
 size : (c : After-size_of-k) → c.size_of-k.result ≡ size_of (c.args.a + 24) c.loop-r.r
-size c = c.size_of-k.ensures ∙ ((block_of _ c.segments_for-s.ensures c.loop-r-test.true)).size
+size c = c.size_of-k.ensures ∙ (block_of _ c.segments_for-s.ensures c.loop-r-test.true).size
 
 filled : (c : After-filler_of-filler) → c.filler_of-filler.result ≡ filler_of (c.args.a + 24) c.loop-r.r
-filled c = c.filler_of-filler.ensures ∙ ((block_of _ c.segments_for-s.ensures c.loop-r-test.true)).filled
+filled c = c.filler_of-filler.ensures ∙ (block_of _ c.segments_for-s.ensures c.loop-r-test.true).filled
 
 share_of_lem : (c : After-share_of) → let e = c.args in
     c.share_of.result ≡ share_of (blocks (e.a + 24)) e.grant.modulation e.grant.layers e.grant.bits c.loop-r.r
@@ -29,16 +29,18 @@ share_of_lem c = rw (count_is _ c.requires.size c.segments_for-s.ensures) at c.s
 
 -- its stretch of the bits and its bytes of the room
 bits_fit : (c : After-share_of) → c.loop-r.at + c.share_of.result ≤ length c.args.bits.now
-bits_fit c = stretch_within _ _ c.requires ((block_of _ c.segments_for-s.ensures c.loop-r-test.true)).below c.loop-r.invariant (share_of_lem c)
+bits_fit c = stretch_within _ _ c.requires (block_of _ c.segments_for-s.ensures c.loop-r-test.true).below c.loop-r.invariant (share_of_lem c)
 
 bytes_fit : (c : After-share_of) → c.loop-r.from + c.bytes_a_row-row.result * ((c.size_of-k.result + 4 + 31) / 32) ≤ length c.loop-r.room
 unfolding rows
 bytes_fit c =
-    bytes_within _ _ c.requires ((block_of _ c.segments_for-s.ensures c.loop-r-test.true)).below c.loop-r.invariant ((c.size_of-k.ensures ∙ (block c).size)) ((c.filler_of-filler.ensures ∙ (block c).filled)) c.bytes_a_row-row.ensures
+    let b = block_of _ c.segments_for-s.ensures c.loop-r-test.true in
+    bytes_within _ _ c.requires b.below c.loop-r.invariant (c.size_of-k.ensures ∙ b.size) (c.filler_of-filler.ensures ∙ b.filled) c.bytes_a_row-row.ensures
 
 small : (c : After-share_of) → c.size_of-k.result ≤ 6144
 small c =
-    size_few _ _ c.requires ((block_of _ c.segments_for-s.ensures c.loop-r-test.true)).below c.loop-r.invariant ((c.size_of-k.ensures ∙ (block c).size)) ((c.filler_of-filler.ensures ∙ (block c).filled)) c.bytes_a_row-row.ensures
+    let b = block_of _ c.segments_for-s.ensures c.loop-r-test.true in
+    size_few _ _ c.requires b.below c.loop-r.invariant (c.size_of-k.ensures ∙ b.size) (c.filler_of-filler.ensures ∙ b.filled) c.bytes_a_row-row.ensures
 
 pub loop-r-init : goal.loop-r-init
 loop-r-init c = filling_start

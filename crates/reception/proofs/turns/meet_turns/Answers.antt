@@ -86,7 +86,7 @@ agree_run-requires-2 c =
 pub shape_of-ring : goal.shape_of-ring
 shape_of-ring c =
     let w = c.loop-i in
-    ap length c.agree_run-2.ensures ∙ length_first _ _ w.ring-1 ∙ w.invariant.0.long
+    ap length c.agree_run-2.ensures ∙ length_first _ _ w.ring ∙ w.invariant.0.long
 
 pub returns : goal.returns
 returns c =
