@@ -33,7 +33,7 @@ layers N h =
     let both = or-false (eqb N 0) (ltb 4 N) h in
     omega (arith, eqb-false N 0 both.0, ltb-false 4 N both.1)
 
--- N-as-Q of an accepted allocation
+-- N·Q of an accepted allocation
 pub step : (Q N : ℕ) → (0 < Q) × (Q ≤ 6) → (0 < N) × (N ≤ 4) → (0 < N * Q) × (N * Q ≤ 24)
 step Q N q n =
     let low : 1 * 1 ≤ N * Q = mul-le-mul n.0 q.0 in

@@ -18,7 +18,7 @@ ceiling g C pos h =
     let whole : g + (C - 1) ≡ (g / C + 1) * C + (g % C - 1) = omega arith in
     ap (λ (x : ℕ). x / C) whole ∙ digits_div (g / C + 1) (omega arith)
 
--- E of code block r: N-as-Q symbols' worth of the floor, and one more for the last G' mod C blocks
+-- E of code block r: N·Q symbols' worth of the floor, and one more for the last G' mod C blocks
 pub share_is : (C Q N G r : ℕ) → 0 < C → r < C
     → share C Q N G r ≡ N * Q * (symbols Q N G / C + (r + 1 - (C - symbols Q N G % C) - (r - (C - symbols Q N G % C))))
 unfolding share

@@ -1,4 +1,4 @@
--- Demand 1, 'none where none applies': after any history that began with an accepted New over a store of at least S-as-M-18,528 bytes each call in 01's ranges is accepted.
+-- Demand 1, 'none where none applies': after any history that began with an accepted New over a store of at least S·M·18,528 bytes each call in 01's ranges is accepted.
 -- What is said is 01's ranges, and numbers by 01's definition of an answer's number.
 -- Assumes nothing.
 use mathlib.Core.Path.{◌≡◌, refl, ap}

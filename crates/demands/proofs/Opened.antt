@@ -115,7 +115,7 @@ module _ (S M : ℕ) (store₀ : List ℕ) (h : History) where
       let good = accepted_shape S M n slot h o' in
       ready good (rooms_there S M n slot good h o')
 
-  -- New was accepted over a store of at least S-as-M-18,528 bytes
+  -- New was accepted over a store of at least S·M·18,528 bytes
   pub new_ready : bad_shape S M ≡ false → S * room_length M ≤ length store₀ → Ready S M store₀ h
   unfolding begin store_length new_state
   new_ready good enough =

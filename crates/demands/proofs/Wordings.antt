@@ -29,7 +29,7 @@ check_bits_mean = check.meaning
 pub generators_listed : (g_crc24a ≡ of_powers powers_crc24a) × (g_crc24b ≡ of_powers powers_crc24b) × (g_crc16 ≡ of_powers powers_crc16)
 generators_listed = check.generators
 
--- 5.1.2: K+ is the minimum K in the table such that C-as-K ≥ B'.
+-- 5.1.2: K+ is the minimum K in the table such that C·K ≥ B'.
 pub long_minimum : (B : ℕ) → B ≤ 30600 → Minimum (blocks B) (with_checks B) (long B)
 long_minimum B high = segmentation.long_is B high
 

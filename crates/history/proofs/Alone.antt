@@ -164,7 +164,7 @@ module _ (S M : ℕ) (store₀ : List ℕ) (earlier : History) (past₀ : List �
 
 -- ---- there is such a G
 
--- N-as-Q is one of 2, 4, 6, 8, 12, 16, 18 and 24, each of which divides 18,576 = 144·129
+-- N·Q is one of 2, 4, 6, 8, 12, 16, 18 and 24, each of which divides 18,576 = 144·129
 step_divides : (Q N : ℕ) → bad_modulation Q ≡ false → bad_layers N ≡ false → (m : ℕ) × (m * (N * Q) ≡ 18576)
 unfolding bad_modulation
 step_divides Q N q n = by_modulation (eqb Q 2) (eqb Q 4) (eqb Q 6) refl refl refl (not-false _ q)

@@ -54,7 +54,7 @@ module _ (A : ℕ) (good : bad_size A ≡ false) where
   pub few_blocks : (1 ≤ blocks (A + 24)) × (blocks (A + 24) ≤ 5)
   few_blocks = (blocks_least (A + 24) high, blocks_most (A + 24) high)
 
--- ---- N-as-Q times as many
+-- ---- N·Q times as many
 
 module _ (step need : ℕ) (some : 0 < step) (most : step ≤ 24) (modest : Modest need) where
   pub units_some : 1 ≤ rounded_up step need
@@ -88,7 +88,7 @@ module _ (need : ℕ → ℕ) (modest : (r : ℕ) → Modest (need r)) (C step :
       let each : largest (symbols_for need C step) C ≤ 92335 / step = largest_within _ C _ (λ r l. (le-div_iff_mul-le {k = step} some).1 (one_small r)) in
       omega (arith, (le-div_iff_mul-le {k = step} some).0 each)
 
-  -- and N-as-Q for each code block
+  -- and N·Q for each code block
   least_some : C ≤ least_symbols need C step
   unfolding least_symbols symbols_for
   least_some =

@@ -1,4 +1,4 @@
--- `bad_allocation` meets its contract: each return by the tests on the way; N-as-Q is between 1 and 24 where it is made.
+-- `bad_allocation` meets its contract: each return by the tests on the way; N·Q is between 1 and 24 where it is made.
 -- Assumes nothing.
 use borrow.Author.Tests.{eq-eqb, ne_eqb, lt-ltb, le-ltb}
 use mathlib.Core.Path.{◌≡◌, sym, ◌∙◌}

@@ -37,7 +37,7 @@ first c =
     let below : e.r < e.blocks = c.if-r-blocks.false in
     omega (arith, mod-lt (e.g / (e.n * e.q)) {m = e.blocks} (omega arith), few c)
 
--- N-as-Q times what is at most 345,600
+-- N·Q times what is at most 345,600
 small : (c : Else-bad_allocation) (x : ℕ) → x ≤ 345600 → c.args.n * c.args.q * x ≤ 24 * 345600
 small c x h = mul-le-mul (accepted c).step_fits.1 h
 
