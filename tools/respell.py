@@ -1,7 +1,9 @@
 #!/usr/bin/env python3
 """Spells the repository's own definitions and lemmas in snake case, in every crate, and in the must-fail edits and the pages that name them.
 
-usage: python3 tools/respell.py [--dry]     at the top of the repository, once, right after the kit's port.py
+usage: python3 tools/respell.py [--dry] [--list]     at the top of the repository, once, right after the kit's port.py
+
+--dry writes nothing; --list prints, for each crate, the names of specs/ that turn, and then only the other names whose new spelling is not plain.
 
 A name of specs/ or proofs/ that begins with a small letter and has a hump or a dash gets underscores: putFirst is put_first, first-append is first_append. Types, modules, what is
 imported from the libraries, and what Rattle makes (tie.., and the steps of c in a Proof.antt) stay. Where two names would fall together, or a new name is spelled like another
@@ -141,6 +143,17 @@ def main(argv):
                     left[n] += 1
     print("left:", dict(left.most_common(80)))
     print(len(turned), "names turn;", bad, "meet")
+    if "--list" in argv:
+        where = collections.defaultdict(list)
+        for n, new in turned.items():
+            specs = sorted({f.split("/")[1] for f in declared[n] if "/specs/" in f})
+            for c in specs:
+                where[c].append(f"{n} {new}")
+            if not specs and new != n.replace("-", "_"):
+                for c in sorted({f.split("/")[1] for f in declared[n]}):
+                    where[c + " (laws)"].append(f"{n} {new}")
+        for c in sorted(where):
+            print(f"list: {c}: " + ", ".join(sorted(where[c])))
     if "--dry" in argv:
         return
     cut = re.compile(rf"{NAME}")
