@@ -6,4 +6,4 @@ use Rattle.answers.proofs.put_refusal.Goals as goal
 
 pub returns : goal.returns
 unfolding refusal_row refused_row row_of end_of
-returns c = let told = c.put_told.ensures in record { value = told.0; out_after = told.1 }
+returns c = record { value = c.put_told.ensures.value; out_after = c.put_told.ensures.out_after }

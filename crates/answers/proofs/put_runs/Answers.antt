@@ -31,10 +31,10 @@ returns c = let args = c.args in
     let room : 6 + length a + length b + length d ≤ length args.out.now = leb-true _ _ (sym c.is_room.ensures ∙ c.if-not-is_room.false) in
     let whole = begin (runs_row a b d) args.out.now (omega (arith, runs_length a b d)) in
     let told = row_put
-    (piece (newline ∷ []) c.put_bytes.ensures
-    (piece (digits_of d) c.put_digits-third_end.ensures
-    (piece (tab ∷ []) c.put_bytes-third_at.ensures
-    (piece (digits_of b) c.put_digits-second_end.ensures
-    (piece (tab ∷ []) c.put_bytes-second_at.ensures
-    (piece (digits_of a) c.put_digits-first_end.ensures
-    (piece (ok ++ (tab ∷ [])) c.put_bytes-first_at.ensures whole))))))) in record { value = told.0; out_after = told.1 }
+    (piece (newline ∷ []) (c.put_bytes.ensures.value, c.put_bytes.ensures.out_after)
+    (piece (digits_of d) (c.put_digits-third_end.ensures.value, c.put_digits-third_end.ensures.out_after)
+    (piece (tab ∷ []) (c.put_bytes-third_at.ensures.value, c.put_bytes-third_at.ensures.out_after)
+    (piece (digits_of b) (c.put_digits-second_end.ensures.value, c.put_digits-second_end.ensures.out_after)
+    (piece (tab ∷ []) (c.put_bytes-second_at.ensures.value, c.put_bytes-second_at.ensures.out_after)
+    (piece (digits_of a) (c.put_digits-first_end.ensures.value, c.put_digits-first_end.ensures.out_after)
+    (piece (ok ++ (tab ∷ [])) (c.put_bytes-first_at.ensures.value, c.put_bytes-first_at.ensures.out_after) whole))))))) in record { value = told.0; out_after = told.1 }

@@ -8,8 +8,8 @@ use Rattle.answers.proofs.put_worst.Goals as goal
 
 pub returns-in-Given : goal.returns-in-Given
 unfolding worst_row accepted_row values_of row_of end_of
-returns-in-Given c = rw c.answer-1.given.1 c.put_told.ensures
+returns-in-Given c = record { value = rw c.in-Given.is c.put_told.ensures.value; out_after = rw c.in-Given.is c.put_told.ensures.out_after }
 
 pub returns-in-Refused : goal.returns-in-Refused
 unfolding worst_row refusal_row number_of values_of
-returns-in-Refused c = rw c.answer-in-Refused-1.given.1 c.put_refusal.ensures
+returns-in-Refused c = record { value = rw c.in-Refused.is c.put_refusal.ensures.value; out_after = rw c.in-Refused.is c.put_refusal.ensures.out_after }

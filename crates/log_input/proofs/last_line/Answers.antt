@@ -7,8 +7,8 @@ use Rattle.log_input.proofs.last_line.Goals as goal
 
 pub returns-then-kept-eq0 : goal.returns-then-kept-eq0
 unfolding last_line text_ended
-returns-then-kept-eq0 c = rw (eq-eqb _ 0 c.if-kept-eq0.true) (c.nothing_left.ensures, refl)
+returns-then-kept-eq0 c = record { value = rw (eq-eqb _ 0 c.if-kept-eq0.true) c.nothing_left.ensures; text_after = rw (eq-eqb _ 0 c.if-kept-eq0.true) }
 
 pub returns : goal.returns
 unfolding last_line text_ended
-returns c = rw (ne_eqb _ 0 c.if-kept-eq0.false) (refl, refl)
+returns c = record { value = rw (ne_eqb _ 0 c.if-kept-eq0.false); text_after = rw (ne_eqb _ 0 c.if-kept-eq0.false) }

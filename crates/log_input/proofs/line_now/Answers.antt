@@ -9,7 +9,7 @@ returns-then-outside c = let args = c.args in
 
 pub returns-then-goes_on : goal.returns-then-goes_on
 returns-then-goes_on c = let args = c.args in
-    let told = now_read args.text.now args.line args.count c.outside.ensures c.if-outside.false c.goes_on.ensures c.if-goes_on.true c.line_read.ensures in record { value = told.0; text_after = told.1.0; stands = told.1.1 }
+    let told = now_read args.text.now args.line args.count c.outside.ensures c.if-outside.false c.goes_on.ensures c.if-goes_on.true (c.line_read.ensures.value, (c.line_read.ensures.text_after, c.line_read.ensures.stands)) in record { value = told.0; text_after = told.1.0; stands = told.1.1 }
 
 pub returns : goal.returns
 returns c = let args = c.args in

@@ -5,16 +5,16 @@ use Rattle.log_input.proofs.line_read.Goals as goal
 
 pub returns-then-text-kept : goal.returns-then-text-kept
 returns-then-text-kept c = let args = c.args in
-    let told = read_full args.text.now args.auto args.count c.if-text-kept.true c.nothing_left.ensures in record { value = told.0; text_after = told.1.0; stands = told.1.1 }
+    let told = read_full args.text.now args.kept args.count c.if-text-kept.true c.nothing_left.ensures in record { value = told.0; text_after = told.1.0; stands = told.1.1 }
 
 pub returns-then-text-kept-2 : goal.returns-then-text-kept-2
 returns-then-text-kept-2 c = let args = c.args in
-    let told = read_beyond args.text.now args.auto args.count c.if-text-kept.false c.if-text-kept-2.true c.nothing_left-then-text-kept-2.ensures in record { value = told.0; text_after = told.1.0; stands = told.1.1 }
+    let told = read_beyond args.text.now args.kept args.count c.if-text-kept.false c.if-text-kept-2.true c.nothing_left-then-text-kept-2.ensures in record { value = told.0; text_after = told.1.0; stands = told.1.1 }
 
 pub returns-then-count-eq0 : goal.returns-then-count-eq0
 returns-then-count-eq0 c = let args = c.args in
-    let told = read_last args.text.now args.auto args.count c.if-text-kept.false c.if-text-kept-2.false c.if-count-eq0.true c.last_Line.ensures c.last_Line.auto.0 in record { value = told.0; text_after = told.1.0; stands = told.1.1 }
+    let told = read_last args.text.now args.kept args.count c.if-text-kept.false c.if-text-kept-2.false c.if-count-eq0.true (c.last_line.ensures.value, c.last_line.ensures.text_after) c.last_line.auto.text in record { value = told.0; text_after = told.1.0; stands = told.1.1 }
 
 pub returns : goal.returns
 returns c = let args = c.args in
-    let told = read_some args.text.now args.auto args.count c.if-text-kept.false c.if-text-kept-2.false c.if-count-eq0.false c.line_in.ensures in record { value = told.0; text_after = told.1.0; stands = told.1.1 }
+    let told = read_some args.text.now args.kept args.count c.if-text-kept.false c.if-text-kept-2.false c.if-count-eq0.false c.line_in.ensures in record { value = told.0; text_after = told.1.0; stands = told.1.1 }

@@ -7,13 +7,13 @@ use Rattle.log_input.proofs.settle.Goals as goal
 
 pub returns-then-line : goal.returns-then-line
 unfolding settled text_settled
-returns-then-line c = rw (lt-ltb _ _ c.if-line.true) (refl, refl)
+returns-then-line c = record { value = rw (lt-ltb _ _ c.if-line.true); text_after = rw (lt-ltb _ _ c.if-line.true) }
 
 pub returns-then-line-2 : goal.returns-then-line-2
 unfolding settled text_settled
-returns-then-line-2 c = rw (le-ltb _ _ c.if-line.false, c.if-line-2.true) (c.nothing_left.ensures, refl)
+returns-then-line-2 c = record { value = rw (le-ltb _ _ c.if-line.false, c.if-line-2.true) c.nothing_left.ensures; text_after = rw (le-ltb _ _ c.if-line.false, c.if-line-2.true) }
 
 pub returns : goal.returns
 unfolding settled text_settled
 returns c =
-    rw (le-ltb _ _ c.if-line.false, c.if-line-2.false) (ap kept_line c.keep-kept.ensures.value, c.keep-kept.ensures.text_after)
+    record { value = rw (le-ltb _ _ c.if-line.false, c.if-line-2.false) (ap kept_line c.keep-kept.ensures.value); text_after = rw (le-ltb _ _ c.if-line.false, c.if-line-2.false) c.keep-kept.ensures.text_after }

@@ -9,10 +9,10 @@ pub returns-in-Read : goal.returns-in-Read
 unfolding number_at value_of
 returns-in-Read c =
     let read = c.read_number.ensures ∙ ap₂ line_of c.digits_at.ensures c.word.ensures in
-    ap value_of (sym c.n-1.given.1 ∙ read)
+    ap value_of (sym c.in-Read.is ∙ read)
 
 pub returns-in-Unreadable : goal.returns-in-Unreadable
 unfolding number_at value_of
 returns-in-Unreadable c =
     let read = c.read_number.ensures ∙ ap₂ line_of c.digits_at.ensures c.word.ensures in
-    ap value_of (sym c.enum_told-1.given.1 ∙ read)
+    ap value_of (sym c.in-Unreadable.is ∙ read)

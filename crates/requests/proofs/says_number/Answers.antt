@@ -9,10 +9,10 @@ pub returns-in-Read : goal.returns-in-Read
 unfolding says_number is_number
 returns-in-Read c =
     let read = c.read_number.ensures ∙ ap₂ line_of c.digits_at.ensures c.word.ensures in
-    ap is_number (sym c.enum_told-1.given.1 ∙ read)
+    ap is_number (sym c.in-Read.is ∙ read)
 
 pub returns-in-Unreadable : goal.returns-in-Unreadable
 unfolding says_number is_number
 returns-in-Unreadable c =
     let read = c.read_number.ensures ∙ ap₂ line_of c.digits_at.ensures c.word.ensures in
-    ap is_number (sym c.enum_told-in-Unreadable-1.given.1 ∙ read)
+    ap is_number (sym c.in-Unreadable.is ∙ read)
