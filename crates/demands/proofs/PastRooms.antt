@@ -1,5 +1,5 @@
 -- Demand 1, 'bytes past the rooms are never written' (01): whatever is called, every byte from S·M·18,528 on stays as it was, and in a packed store (02, E7) every byte from
--- S·M-4,632 on.
+-- S·M·4,632 on.
 -- Assumes nothing.
 use mathlib.Core.Path.{◌≡◌, refl, sym, ◌∙◌, ap}
 use mathlib.Core.Bool.{true}
