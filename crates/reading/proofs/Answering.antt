@@ -10,7 +10,6 @@ use borrow.Author.Tests.{ne_eqb, ltb-false}
 use borrow.Rule.Slice.PartMut.{mid_of}
 use Rattle.refusals.specs.Refusals.{Rule, rule, first_of, or_else}
 use Rattle.refusals.proofs.Refusals.{done, next, chained_on, passed, listed}
-use Rattle.segmentation.specs.Segmentation.{blocks}
 use Rattle.segmentation.specs.Sizes.{bad_size}
 use Rattle.segmentation.proofs.Segmentation.{good_size}
 use Rattle.slots.specs.declared.Head.{Head}

@@ -8,7 +8,7 @@ use native.Mathlib.Omega.{arith}
 use lib.ListN.{length, take}
 use borrow.Author.Tests.{le-leb}
 use Rattle.rate_matching.specs.SubBlocks.{rows}
-use Rattle.rate_matching.specs.Circle.{circle_length, cut_at}
+use Rattle.rate_matching.specs.Circle.{circle_length}
 use Rattle.rate_matching.specs.Places.{longest}
 use Rattle.rate_matching.specs.Matrix.{length_within}
 use Rattle.rate_matching.specs.Shape.{shape, bit_places}
@@ -40,10 +40,14 @@ two : (c : After-put_rest-second) → let e = c.args in
 two c = put_append (omega arith) c.put_units-first.ensures c.put_rest-second.ensures
 
 pub returns-then-turn-eq0 : goal.returns-then-turn-eq0
-returns-then-turn-eq0 c = let told = none_sent _ _ _ _ _ _ (unsent _ _ _ _ c.turn_of-turn.ensures c.if-turn-eq0.true) in record { part = told.0; count = told.1 }
+returns-then-turn-eq0 c =
+    let told = none_sent _ _ _ _ _ _ (unsent _ _ _ _ c.turn_of-turn.ensures c.if-turn-eq0.true) in
+    record { part = told.0; count = told.1 }
 
 pub returns-then-part-circle_length : goal.returns-then-part-circle_length
-returns-then-part-circle_length c = let told = too_short _ _ _ _ _ _ (omega (arith, long (sent _ _ _ _ c.turn_of-turn.ensures c.if-turn-eq0.false) c.circle_length.ensures, c.if-part-circle_length.true)) in record { part = told.0; count = told.1 }
+returns-then-part-circle_length c =
+    let told = too_short _ _ _ _ _ _ (omega (arith, long (sent _ _ _ _ c.turn_of-turn.ensures c.if-turn-eq0.false) c.circle_length.ensures, c.if-part-circle_length.true)) in
+    record { part = told.0; count = told.1 }
 
 pub put_units-first-requires : goal.put_units-first-requires
 put_units-first-requires c =
@@ -57,7 +61,9 @@ put_units-requires c =
     (walked_still (sends (goal.at.put_units-requires c).Else-part-circle_length).walked (put_long first), omega arith, omega (arith, all), put_within first)
 
 pub returns-then-turn-eq0-2 : goal.returns-then-turn-eq0-2
-returns-then-turn-eq0-2 c = let told = turn_put _ (sends (goal.at.returns-then-turn-eq0-2 c).Else-part-circle_length) (put_as (round_uncut (sends (goal.at.returns-then-turn-eq0-2 c).Else-part-circle_length) c.turn_of-turn.ensures c.if-turn-eq0-2.true) (put_append (omega arith) c.put_units-first.ensures c.put_units.ensures)) in record { part = told.0; count = told.1 }
+returns-then-turn-eq0-2 c =
+    let told = turn_put _ (sends (goal.at.returns-then-turn-eq0-2 c).Else-part-circle_length) (put_as (round_uncut (sends (goal.at.returns-then-turn-eq0-2 c).Else-part-circle_length) c.turn_of-turn.ensures c.if-turn-eq0-2.true) (put_append (omega arith) c.put_units-first.ensures c.put_units.ensures)) in
+    record { part = told.0; count = told.1 }
 
 pub put_rest-second-requires : goal.put_rest-second-requires
 put_rest-second-requires c =
@@ -71,4 +77,6 @@ put_units-requires-2 c =
     (walked_still (sends (goal.at.put_units-requires-2 c).Else-part-circle_length).walked (put_long (two (goal.at.put_units-requires-2 c).After-put_rest-second)), omega arith, omega (arith, all), put_within (two (goal.at.put_units-requires-2 c).After-put_rest-second))
 
 pub returns : goal.returns
-returns c = let told = turn_put _ (sends (goal.at.returns c).Else-part-circle_length) (put_as (round_is (sends (goal.at.returns c).Else-part-circle_length) c.turn_of-turn.ensures c.unit_at-cut.ensures) (put_append (omega arith) (two (goal.at.returns c).After-put_rest-second) c.put_units-2.ensures)) in record { part = told.0; count = told.1 }
+returns c =
+    let told = turn_put _ (sends (goal.at.returns c).Else-part-circle_length) (put_as (round_is (sends (goal.at.returns c).Else-part-circle_length) c.turn_of-turn.ensures c.unit_at-cut.ensures) (put_append (omega arith) (two (goal.at.returns c).After-put_rest-second) c.put_units-2.ensures)) in
+    record { part = told.0; count = told.1 }

@@ -2,7 +2,6 @@
 -- Assumes nothing.
 use mathlib.Core.Path.{refl}
 use mathlib.Core.Bool.{false}
-use native.Mathlib.Omega.{arith}
 use Rattle.packing.specs.Store.{places_in, in_form, places_asked}
 use Rattle.reading.proofs.Kept.{receive_kept}
 use Rattle.reception.proofs.Accepts.{by_ready, by_answer, by_store}

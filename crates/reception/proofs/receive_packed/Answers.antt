@@ -1,7 +1,6 @@
 -- `receive_packed` meets its contract: the owner's rules and the head are those of the state, on the form with four places a byte.
 -- Assumes nothing.
 use mathlib.Core.Bool.{true}
-use native.Mathlib.Omega.{arith}
 use Rattle.packing.specs.Store.{places_in}
 use Rattle.reading.proofs.Kept.{receive_kept}
 use Rattle.reception.proofs.Accepts.{by_ready, by_answer, by_store}

@@ -10,4 +10,6 @@ streams_form-requires c = λ f. absurd (true≢false (sym f))
 
 pub returns : goal.returns
 unfolding places_in
-returns c = let told = c.streams_form.ensures in record { value = told.value; out_after = told.out_after }
+returns c =
+    let told = c.streams_form.ensures in
+    record { value = told.value; out_after = told.out_after }

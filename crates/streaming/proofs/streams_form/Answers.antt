@@ -86,4 +86,6 @@ runs_of-requires c =
     (record { enough = circle_within (asked (goal.at.runs_of-requires c).Else-number-ne0); unpacks = c.requires }, w.0, w.1, w.2)
 
 pub returns : goal.returns
-returns c = let told = streams_told (asked (goal.at.returns c).Else-number-ne0) c.size_of-d.ensures c.filler_of.ensures c.runs_of.ensures in record { value = told.0; out_after = told.1 }
+returns c =
+    let told = streams_told (asked (goal.at.returns c).Else-number-ne0) c.size_of-d.ensures c.filler_of.ensures c.runs_of.ensures in
+    record { value = told.0; out_after = told.1 }

@@ -1,4 +1,3 @@
-use Prim.Native.Nat.{◌-◌}
 use native.Mathlib.Omega.{arith}
 use Rattle.bit_placement.proofs.Along.{meeting_start, meeting_long, meeting_next, meeting_finish}
 use Rattle.bit_placement.proofs.runs.meet_run.Goals as goal

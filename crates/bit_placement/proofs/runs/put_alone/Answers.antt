@@ -1,4 +1,3 @@
-use Prim.Native.Nat.{◌-◌}
 use native.Mathlib.Omega.{arith}
 use Rattle.bit_placement.proofs.Along.{put_long, put_within}
 use Rattle.bit_placement.proofs.Walking.{alone_start, alone_next, alone_finish}

@@ -1,5 +1,5 @@
 use mathlib.Core.Path.{◌≡◌, ◌∙◌}
-use Prim.Native.Nat.{◌-◌, ◌≤◌, ◌<◌}
+use Prim.Native.Nat.{◌≤◌, ◌<◌}
 use native.Mathlib.Omega.{arith}
 use lib.ListN.{length}
 use Rattle.rate_matching.specs.Units.{unit_within}
@@ -18,7 +18,7 @@ low : (c : In-loop-u) → c.loop-u.u < 32
 low c = omega (arith, c.loop-u-test.true, c.requires.2)
 
 is : (c : After-column_unit_at-unit) → let e = c.args in c.column_unit_at-unit.result ≡ unit_within e.d e.filler c.loop-u.u
-is c = c.column_unit_at-unit.ensures ∙ column_is _ _ ((omega (arith, c.loop-u-test.true, c.requires.2)))
+is c = c.column_unit_at-unit.ensures ∙ column_is _ _ (omega (arith, c.loop-u-test.true, c.requires.2))
 
 pub loop-u-init : goal.loop-u-init
 loop-u-init c = units_start (asked (goal.at.loop-u-init c).Start)

@@ -1,5 +1,5 @@
 use mathlib.Core.Path.{◌≡◌, ◌∙◌}
-use Prim.Native.Nat.{◌-◌, ◌≤◌}
+use Prim.Native.Nat.{◌≤◌}
 use native.Mathlib.Omega.{arith}
 use lib.ListN.{length}
 use Rattle.rate_matching.specs.Units.{unit_within}
@@ -18,7 +18,7 @@ high : (c : In-loop-u) → 32 ≤ c.loop-u.u
 high c = omega (arith, c.requires.1, c.loop-u.invariant.passed.0)
 
 is : (c : After-pair_unit_at) → let e = c.args in c.pair_unit_at.result ≡ unit_within e.d e.filler c.loop-u.u
-is c = c.pair_unit_at.ensures ∙ pair_is _ _ ((omega (arith, c.requires.1, c.loop-u.invariant.passed.0)))
+is c = c.pair_unit_at.ensures ∙ pair_is _ _ (omega (arith, c.requires.1, c.loop-u.invariant.passed.0))
 
 pub loop-u-init : goal.loop-u-init
 loop-u-init c = units_start (asked (goal.at.loop-u-init c).Start)

@@ -1,5 +1,5 @@
 use mathlib.Core.Path.{◌≡◌}
-use Prim.Native.Nat.{ℕ, ◌+◌, ◌-◌, ◌*◌, ◌≤◌}
+use Prim.Native.Nat.{ℕ, ◌+◌, ◌*◌, ◌≤◌}
 use native.Mathlib.Nat.{sub-zero}
 use native.Mathlib.Omega.{arith}
 use lib.ListN.{length}
@@ -33,7 +33,8 @@ pub count_row-n-requires : goal.count_row-n-requires
 count_row-n-requires c = (omega arith, row_needs (goal.at.count_row-n-requires c).At-loop-above c.loop-above.above 32 (omega arith) (omega arith))
 
 pub overflow_add-n : goal.overflow_add-n
-overflow_add-n c = let w = c.loop-above.invariant.1 in omega (arith, w.few, (before_part w 32 (omega arith) c.count_row-n.ensures).1, c.requires.1.most)
+overflow_add-n c =
+    let w = c.loop-above.invariant.1 in omega (arith, w.few, (before_part w 32 (omega arith) c.count_row-n.ensures).1, c.requires.1.most)
 
 pub loop-above-preserved : goal.loop-above-preserved
 loop-above-preserved c = (omega arith, before_next c.loop-above.invariant.1 c.count_row-n.ensures)

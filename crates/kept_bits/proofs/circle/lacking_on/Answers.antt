@@ -29,10 +29,11 @@ end_fits c = omega (arith, end_is c, stream_fits c.args.circle.now c.requires.0 
 -- the counts add up
 parts : (c : After-count_row-back) → c.count_missing-all.result ≡ c.count_before-front.result + (lacking_on c.args.circle.now c.args.k c.args.f + c.count_row-back.result)
 parts c =
+    let w = c.requires.1.sized in
     let found = heads_there c.requires.1 in
     let begin = c.matrix_place-data.result in
     let end = c.matrix_place-tail.result in
-    all_parts c.args.circle.now c.requires.0 c.requires.1 c.matrix_place-tail.ensures c.matrix_place-data.ensures ((let w = c.requires.1.sized in ap (λ (u : Unit). u.end.0) c.column_unit_at.ensures ∙ stream_ends w.most (omega (arith, w.least)))) c.count_missing-all.ensures
+    all_parts c.args.circle.now c.requires.0 c.requires.1 c.matrix_place-tail.ensures c.matrix_place-data.ensures (ap (λ (u : Unit). u.end.0) c.column_unit_at.ensures ∙ stream_ends w.most (omega (arith, w.least))) c.count_missing-all.ensures
     (c.count_before-front.ensures ∙ ap (λ (hs : List CirclePlace). sum_from (missing_by c.args.circle.now hs) 0 (32 * begin.row + begin.column)) found)
     (c.count_row-back.ensures ∙ ap (λ (hs : List CirclePlace). sum_from (missing_below c.args.circle.now hs end.row) end.column (32 - end.column)) found)
 

@@ -1,4 +1,3 @@
-use Prim.Native.Nat.{◌-◌}
 use native.Mathlib.Omega.{arith}
 use Rattle.kept_bits.proofs.Rows.{any_stream}
 use Rattle.kept_bits.proofs.Runs.{running_start, run_within, run_long, running_next, running_finish}

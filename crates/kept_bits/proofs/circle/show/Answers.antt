@@ -1,4 +1,3 @@
-use Prim.Native.Nat.{◌-◌}
 use native.Mathlib.Omega.{arith}
 use Rattle.kept_bits.proofs.Runs.{showing_start, showing_next, showing_finish}
 use Rattle.kept_bits.proofs.circle.show.Goals as goal

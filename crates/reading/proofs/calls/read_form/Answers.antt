@@ -38,10 +38,12 @@ asked c =
 -- its bytes are there
 there : (c : After-bytes_a_block) → let e = c.args in
     e.slot * (e.state.blocks * c.bytes_a_block.result) + e.state.blocks * c.bytes_a_block.result ≤ length e.store.now
-there c = let e = c.args in room_there e.four e.state.blocks e.slot e.store.now (room_within (asked c)) c.bytes_a_block.ensures
+there c =
+    let e = c.args in room_there e.four e.state.blocks e.slot e.store.now (room_within (asked c)) c.bytes_a_block.ensures
 
 pub returns-then-number-ne0 : goal.returns-then-number-ne0
-returns-then-number-ne0 c = let w = read_refused _ _ _ _ _ (number (goal.at.returns-then-number-ne0 c).After-or_else-number) c.if-number-ne0.true in record { value = ap (λ (o : Outcome). o.answer) w.0; out_after = w.1 }
+returns-then-number-ne0 c =
+    let w = read_refused _ _ _ _ _ (number (goal.at.returns-then-number-ne0 c).After-or_else-number) c.if-number-ne0.true in record { value = ap (λ (o : Outcome). o.answer) w.0; out_after = w.1 }
 
 pub overflow_mul-long : goal.overflow_mul-long
 overflow_mul-long c = omega (arith, there (goal.at.overflow_mul-long c).After-bytes_a_block)

@@ -1,4 +1,3 @@
-use Prim.Native.Nat.{◌-◌}
 use native.Mathlib.Omega.{arith}
 use Rattle.packing.specs.Store.{places_in}
 use mathlib.Core.Path.{refl, ◌∙◌}

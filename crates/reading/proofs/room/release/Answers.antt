@@ -17,20 +17,24 @@ pub collect-heard-requires : goal.collect-heard-requires
 collect-heard-requires c = (c.requires.0, c.requires.1, c.requires.3)
 
 pub returns-then-heard-ne0 : goal.returns-then-heard-ne0
-returns-then-heard-ne0 c = let told = some_lacking _ _ _ c.collect-heard.ensures.count c.if-heard-ne0.true in record { value = told.0; out_after = told.1 }
+returns-then-heard-ne0 c =
+    let told = some_lacking _ _ _ c.collect-heard.ensures.count c.if-heard-ne0.true in
+    record { value = told.0; out_after = told.1 }
 
 pub returns-then-heard-block_count : goal.returns-then-heard-block_count
-returns-then-heard-block_count c = let none = c.if-heard-ne0.false in
-    let heard = c.collect-heard.ensures in
-    let told = some_wrong_lem _ _ _ c.collect-heard.ensures.count none (c.collect-heard.ensures.right none) c.block_count.ensures c.if-heard-block_count.true in record { value = told.0; out_after = told.1 }
+returns-then-heard-block_count c =
+    let none = c.if-heard-ne0.false in
+    let told = some_wrong_lem _ _ _ c.collect-heard.ensures.count none (c.collect-heard.ensures.right none) c.block_count.ensures c.if-heard-block_count.true in
+    record { value = told.0; out_after = told.1 }
 
 pub slice_bounds-crc24a-end-2 : goal.slice_bounds-crc24a-end-2
 slice_bounds-crc24a-end-2 c = front_count _ _ (long (goal.at.slice_bounds-crc24a-end-2 c).After-collect-heard)
 
 pub returns-then-crc24a-ne0 : goal.returns-then-crc24a-ne0
-returns-then-crc24a-ne0 c = let none = c.if-heard-ne0.false in
-    let heard = c.collect-heard.ensures in
-    let told = wrong _ _ _ c.collect-heard.ensures.count none (c.collect-heard.ensures.right none) c.block_count.ensures c.if-heard-block_count.false _ c.collect-heard.ensures.sequence c.crc24a.ensures c.if-crc24a-ne0.true in record { value = told.0; out_after = told.1 }
+returns-then-crc24a-ne0 c =
+    let none = c.if-heard-ne0.false in
+    let told = wrong _ _ _ c.collect-heard.ensures.count none (c.collect-heard.ensures.right none) c.block_count.ensures c.if-heard-block_count.false _ c.collect-heard.ensures.sequence c.crc24a.ensures c.if-crc24a-ne0.true in
+    record { value = told.0; out_after = told.1 }
 
 pub slice_bounds-copy-end-2 : goal.slice_bounds-copy-end-2
 slice_bounds-copy-end-2 c =
@@ -42,7 +46,8 @@ copy-requires c =
     rw (← (front_count c.args.a c.collect-heard.new.b whole)) c.requires.2
 
 pub returns : goal.returns
-returns c = let none = c.if-heard-ne0.false in
+returns c =
+    let none = c.if-heard-ne0.false in
     let block = take c.args.a c.collect-heard.new.b in
     let told = right_all _ _ _ c.collect-heard.ensures.count none (c.collect-heard.ensures.right none) c.block_count.ensures c.if-heard-block_count.false _
     c.collect-heard.ensures.sequence c.crc24a.ensures c.if-crc24a-ne0.false (omega (arith, long (goal.at.returns c).After-collect-heard)) (copied block _ c.copy.ensures.after) in record { value = told.0; out_after = told.1 }

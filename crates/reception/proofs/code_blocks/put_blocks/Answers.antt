@@ -105,5 +105,7 @@ pub shape_of-room : goal.shape_of-room
 shape_of-room c = c.loop-r.invariant.long
 
 pub returns : goal.returns
-returns c = let all = count_is _ c.requires.size c.segments_for-s.ensures in
-    let told = filling_finish (omega arith) c.loop-r.invariant in record { stored = told.0; count = told.1 }
+returns c =
+    let all = count_is _ c.requires.size c.segments_for-s.ensures in
+    let told = filling_finish (omega arith) c.loop-r.invariant in
+    record { stored = told.0; count = told.1 }

@@ -1,7 +1,6 @@
 -- `code_blocks::put_blocks` meets its contract: the code blocks passed have their bits and are counted (`Filling`).
 -- Assumes nothing.
 use Prim.Native.Nat.{◌-◌}
-use Rattle.segmentation.specs.Segmentation.{blocks}
 use Rattle.reception.proofs.Filling.{Filling}
 use Rattle.reception.proofs.code_blocks.put_blocks.Given as goal
 

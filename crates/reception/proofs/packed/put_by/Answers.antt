@@ -10,7 +10,8 @@ use Rattle.reception.proofs.packed.put_by.Goals as goal
 pub returns : goal.returns
 returns c =
     let a = c.args in
-    let told = c.put_circle-lacking.ensures in record {
+    let told = c.put_circle-lacking.ensures in
+    record {
       stored = part_stored _ _ _ _ a.bits.now a.part.now a.circle.now c.requires.2 c.requires.3 c.unpack_places.ensures c.put_circle-lacking.ensures.stored c.pack_places.ensures;
       count = c.put_circle-lacking.ensures.count
           ∙ ap (λ (l : List ℕ). lacking_on l a.k a.filler)

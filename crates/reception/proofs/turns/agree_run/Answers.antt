@@ -1,5 +1,4 @@
 use mathlib.Core.Path.{sym, ◌∙◌}
-use Prim.Native.Nat.{◌-◌}
 use native.Mathlib.Omega.{arith}
 use Rattle.bit_placement.proofs.Along.{meeting_start, meeting_long, meeting_next, meeting_finish}
 use Rattle.reception.proofs.Ring.{known_put, meet_known_is}
