@@ -8,7 +8,7 @@ use Rattle.call_rows.proofs.put_built.Goals as goal
 pub returns-then-number-ne0 : goal.returns-then-number-ne0
 unfolding built_row
 returns-then-number-ne0 c =
-    rw (ne_eqb _ 0 c.if-number-ne0.true) c.put_refusal.ensures
+    record { value = rw (ne_eqb _ 0 c.if-number-ne0.true) c.put_refusal.ensures.value; out_after = rw (ne_eqb _ 0 c.if-number-ne0.true) c.put_refusal.ensures.out_after }
 
 pub slice_bounds-put_run-end : goal.slice_bounds-put_run-end
 slice_bounds-put_run-end c =
@@ -17,4 +17,4 @@ slice_bounds-put_run-end c =
 pub returns : goal.returns
 unfolding built_row
 returns c =
-    rw (eq-eqb _ 0 c.if-number-ne0.false) c.put_run.ensures
+    record { value = rw (eq-eqb _ 0 c.if-number-ne0.false) c.put_run.ensures.value; out_after = rw (eq-eqb _ 0 c.if-number-ne0.false) c.put_run.ensures.out_after }

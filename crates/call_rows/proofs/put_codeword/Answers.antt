@@ -8,4 +8,5 @@ put_built-requires c = (build_row_lem _ _ _ (fresh _ c.code_room-code.ensures) c
 
 pub returns : goal.returns
 returns c =
-    rw (build_row_lem _ _ _ (fresh _ c.code_room-code.ensures) c.build-number.ensures.number c.build-number.ensures.output c.build-number.auto.out).1 at c.put_built.ensures
+    let row = (build_row_lem _ _ _ (fresh _ c.code_room-code.ensures) c.build-number.ensures.number c.build-number.ensures.output c.build-number.auto.out).1 in
+    record { value = rw row at c.put_built.ensures.value; out_after = rw row at c.put_built.ensures.out_after }

@@ -8,4 +8,5 @@ put_built-requires c = (down_row _ _ _ _ _ _ _ _ (fresh _ c.code_room-code.ensur
 
 pub returns : goal.returns
 returns c =
-    rw (down_row _ _ _ _ _ _ _ _ (fresh _ c.code_room-code.ensures) c.build_down-number.ensures.number c.build_down-number.ensures.output c.build_down-number.auto.out).1 at c.put_built.ensures
+    let row = (down_row _ _ _ _ _ _ _ _ (fresh _ c.code_room-code.ensures) c.build_down-number.ensures.number c.build_down-number.ensures.output c.build_down-number.auto.out).1 in
+    record { value = rw row at c.put_built.ensures.value; out_after = rw row at c.put_built.ensures.out_after }

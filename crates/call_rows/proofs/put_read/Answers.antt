@@ -33,9 +33,11 @@ slice_bounds-put_run-end c = front_count _ _ (given (goal.at.slice_bounds-put_ru
 
 pub returns-then-is_done : goal.returns-then-is_done
 returns-then-is_done c =
-    rw (given (goal.at.returns-then-is_done c).After-head_at-head).1 at c.put_run.ensures
+    let row = (given (goal.at.returns-then-is_done c).After-head_at-head).1 in
+    record { value = rw row at c.put_run.ensures.value; out_after = rw row at c.put_run.ensures.out_after }
 
 pub returns-else-is_done : goal.returns-else-is_done
 returns-else-is_done c =
     let args = c.args in
-    rw (read_refused args.state (places_in args.four args.store.now) args.slot args.terminal c.block_room-block.result (fresh _ c.block_room-block.ensures) c.read_in-outcome.ensures.value (sym c.is_done.ensures ∙ c.if-is_done.false)) at c.put_answer.ensures
+    let row = read_refused args.state (places_in args.four args.store.now) args.slot args.terminal c.block_room-block.result (fresh _ c.block_room-block.ensures) c.read_in-outcome.ensures.value (sym c.is_done.ensures ∙ c.if-is_done.false) in
+    record { value = rw row at c.put_answer.ensures.value; out_after = rw row at c.put_answer.ensures.out_after }

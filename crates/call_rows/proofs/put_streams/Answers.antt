@@ -36,9 +36,11 @@ put_three-requires c = omega (arith, size (goal.at.put_three-requires c).After-s
 
 pub returns-then-is_done : goal.returns-then-is_done
 returns-then-is_done c =
-    rw (streams_row_lem _ _ _ _ _ _ (fresh _ c.streams_room-runs.ensures) (done (goal.at.returns-then-is_done c).After-size_of) c.streams_in-outcome.ensures.out_after (size (goal.at.returns-then-is_done c).After-size_of)) at c.put_three.ensures
+    let row = streams_row_lem _ _ _ _ _ _ (fresh _ c.streams_room-runs.ensures) (done (goal.at.returns-then-is_done c).After-size_of) c.streams_in-outcome.ensures.out_after (size (goal.at.returns-then-is_done c).After-size_of) in
+    record { value = rw row at c.put_three.ensures.value; out_after = rw row at c.put_three.ensures.out_after }
 
 pub returns-else-is_done : goal.returns-else-is_done
 returns-else-is_done c =
     let args = c.args in
-    rw (streams_refused args.state (places_in args.four args.store.now) args.slot args.terminal args.block c.streams_room-runs.result (fresh _ c.streams_room-runs.ensures) c.streams_in-outcome.ensures.value (sym c.is_done.ensures ∙ c.if-is_done.false)) at c.put_answer.ensures
+    let row = streams_refused args.state (places_in args.four args.store.now) args.slot args.terminal args.block c.streams_room-runs.result (fresh _ c.streams_room-runs.ensures) c.streams_in-outcome.ensures.value (sym c.is_done.ensures ∙ c.if-is_done.false) in
+    record { value = rw row at c.put_answer.ensures.value; out_after = rw row at c.put_answer.ensures.out_after }

@@ -17,71 +17,71 @@ nothing out = (sym (end_fits 0 [] out (omega arith)), sym (put_fits 0 [] out (om
 pub returns-in-New : goal.returns-in-New
 unfolding row_by
 returns-in-New c =
-    rw c.enum_told-1.given.1 c.put_answer.ensures
+    record { value = rw c.in-New.is c.put_answer.ensures.value; out_after = rw c.in-New.is c.put_answer.ensures.out_after }
 
 pub returns-in-Open : goal.returns-in-Open
 unfolding row_by
 returns-in-Open c =
-    rw c.enum_told-in-Open-1.given.1 c.put_answer-in-Open.ensures
+    record { value = rw c.in-Open.is c.put_answer-in-Open.ensures.value; out_after = rw c.in-Open.is c.put_answer-in-Open.ensures.out_after }
 
 pub returns-in-OpenDown : goal.returns-in-OpenDown
 unfolding row_by
 returns-in-OpenDown c =
-    rw c.enum_told-in-OpenDown-1.given.1 c.put_share.ensures
+    record { value = rw c.in-OpenDown.is c.put_share.ensures.value; out_after = rw c.in-OpenDown.is c.put_share.ensures.out_after }
 
 pub returns-in-Close : goal.returns-in-Close
 unfolding row_by
 returns-in-Close c =
-    rw c.enum_told-in-Close-1.given.1 c.put_answer-in-Close.ensures
+    record { value = rw c.in-Close.is c.put_answer-in-Close.ensures.value; out_after = rw c.in-Close.is c.put_answer-in-Close.ensures.out_after }
 
 pub returns-in-Receive : goal.returns-in-Receive
 unfolding row_by
 returns-in-Receive c =
-    rw c.enum_told-in-Receive-1.given.1 c.put_answer-in-Receive.ensures
+    record { value = rw c.in-Receive.is c.put_answer-in-Receive.ensures.value; out_after = rw c.in-Receive.is c.put_answer-in-Receive.ensures.out_after }
 
 pub returns-in-Read : goal.returns-in-Read
 unfolding row_by
 returns-in-Read c =
-    rw c.enum_told-in-Read-1.given.1 c.put_read.ensures
+    record { value = rw c.in-Read.is c.put_read.ensures.value; out_after = rw c.in-Read.is c.put_read.ensures.out_after }
 
 pub returns-in-Streams : goal.returns-in-Streams
 unfolding row_by
 returns-in-Streams c =
-    rw c.enum_told-in-Streams-1.given.1 c.put_streams.ensures
+    record { value = rw c.in-Streams.is c.put_streams.ensures.value; out_after = rw c.in-Streams.is c.put_streams.ensures.out_after }
 
 pub returns-in-Build : goal.returns-in-Build
 unfolding row_by
 returns-in-Build c =
-    rw c.enum_told-in-Build-1.given.1 c.put_codeword.ensures
+    record { value = rw c.in-Build.is c.put_codeword.ensures.value; out_after = rw c.in-Build.is c.put_codeword.ensures.out_after }
 
 pub returns-in-BuildDown : goal.returns-in-BuildDown
 unfolding row_by
 returns-in-BuildDown c =
-    rw c.enum_told-in-BuildDown-1.given.1 c.put_codeword_down.ensures
+    record { value = rw c.in-BuildDown.is c.put_codeword_down.ensures.value; out_after = rw c.in-BuildDown.is c.put_codeword_down.ensures.out_after }
 
 pub returns-in-Sizes : goal.returns-in-Sizes
 unfolding row_by
 returns-in-Sizes c =
-    rw (c.enum_told-in-Sizes-1.given.1, ← c.sizes_for.ensures) c.put_sizes.ensures
+    record { value = rw (c.in-Sizes.is, ← c.sizes_for.ensures) c.put_sizes.ensures.value; out_after = rw (c.in-Sizes.is, ← c.sizes_for.ensures) c.put_sizes.ensures.out_after }
 
 pub returns-in-Worst : goal.returns-in-Worst
 unfolding row_by
 returns-in-Worst c =
-    rw (c.enum_told-in-Worst-1.given.1, ← c.worst_for.ensures) c.put_worst.ensures
+    record { value = rw (c.in-Worst.is, ← c.worst_for.ensures) c.put_worst.ensures.value; out_after = rw (c.in-Worst.is, ← c.worst_for.ensures) c.put_worst.ensures.out_after }
 
 pub returns-in-Pack : goal.returns-in-Pack
 unfolding row_by
-returns-in-Pack c = rw c.enum_told-in-Pack-1.given.1 (nothing _)
+returns-in-Pack c = record { value = rw c.in-Pack.is (nothing _).0; out_after = rw c.in-Pack.is (nothing _).1 }
 
 pub returns-in-Unpack : goal.returns-in-Unpack
 unfolding row_by
-returns-in-Unpack c = rw c.enum_told-in-Unpack-1.given.1 (nothing _)
+returns-in-Unpack c = record { value = rw c.in-Unpack.is (nothing _).0; out_after = rw c.in-Unpack.is (nothing _).1 }
 
 pub returns-in-Nothing : goal.returns-in-Nothing
 unfolding row_by
-returns-in-Nothing c = rw c.enum_told-in-Nothing-1.given.1 (nothing _)
+returns-in-Nothing c = record { value = rw c.in-Nothing.is (nothing _).0; out_after = rw c.in-Nothing.is (nothing _).1 }
 
 pub returns-in-Unreadable : goal.returns-in-Unreadable
 unfolding row_by
 returns-in-Unreadable c =
-    rw c.enum_told-in-Unreadable-1.given.1 c.put_refusal.ensures
+    record { value = rw c.in-Unreadable.is c.put_refusal.ensures.value; out_after = rw c.in-Unreadable.is c.put_refusal.ensures.out_after }

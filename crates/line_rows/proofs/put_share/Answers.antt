@@ -9,9 +9,12 @@ use Rattle.line_rows.proofs.put_share.Goals as goal
 pub returns-then-is_done : goal.returns-then-is_done
 unfolding share_row share_at_head
 returns-then-is_done c =
-    rw (sym c.is_done.ensures ∙ c.if-is_done.true, ← (ap (λ (h : Head). h.share) c.head_at-head.ensures)) c.put_number.ensures
+    let done = sym c.is_done.ensures ∙ c.if-is_done.true in
+    let share = ap (λ (h : Head). h.share) c.head_at-head.ensures in
+    record { value = rw (done, ← share) c.put_number.ensures.value; out_after = rw (done, ← share) c.put_number.ensures.out_after }
 
 pub returns-else-is_done : goal.returns-else-is_done
 unfolding share_row
 returns-else-is_done c =
-    rw (sym c.is_done.ensures ∙ c.if-is_done.false) c.put_answer.ensures
+    let refused = sym c.is_done.ensures ∙ c.if-is_done.false in
+    record { value = rw refused c.put_answer.ensures.value; out_after = rw refused c.put_answer.ensures.out_after }

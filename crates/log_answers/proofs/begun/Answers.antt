@@ -9,10 +9,9 @@ use Rattle.log_answers.specs.Turn.{first_log}
 use Rattle.log_answers.proofs.begun.Goals as goal
 
 abbrev log_of : Outcome → Line → Log
-log_of o l = record { step = record { state = o.state-1; four = false; written = 0 }; line = l }
+log_of o l = record { step = record { state = o.state; four = false; written = 0 }; line = l }
 
 pub returns : goal.returns
 unfolding first_log
 returns c =
-    let new = c.new-outcome in
-    ap (log_of new.result) c.unread.ensures ∙ ap (λ (o : Outcome). log_of o _) c.new-outcome.ensures
+    ap (log_of c.new-outcome.result) c.unread.ensures ∙ ap (λ (o : Outcome). log_of o _) c.new-outcome.ensures

@@ -9,4 +9,4 @@ returns-then-out-lt-LONGEST_ROW c = let args = c.args in
 
 pub returns : goal.returns
 returns c = let args = c.args in
-    let told = line_made args.state args.four args.plain.now args.packed.now args.line.now args.out.now c.if-out-lt-LONGEST_ROW.false _ _ _ _ c.line_on.ensures in record { value = told.0; plain_after = told.1.0; packed_after = told.1.1.0; out_after = told.1.1.1 }
+    let told = line_made args.state args.four args.plain.now args.packed.now args.line.now args.out.now c.if-out-lt-LONGEST_ROW.false _ _ _ _ (c.line_on.ensures.value, (c.line_on.ensures.plain_after, (c.line_on.ensures.packed_after, c.line_on.ensures.out_after))) in record { value = told.0; plain_after = told.1.0; packed_after = told.1.1.0; out_after = told.1.1.1 }
