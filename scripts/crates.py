@@ -3,7 +3,7 @@
 
     python3 scripts/crates.py FOLDER
 
-What a crate uses stands in its own files: of another's code in its sources, of another's definitions and laws in `use Rattle·NAME`
+What a crate uses stands in its own files: of another's code in its sources, of another's definitions and laws in `use Rattle.NAME`
 lines. A use that follows from others along the way down is left out. The sentence is the first line of the crate's source.
 """
 
@@ -20,7 +20,7 @@ CODE, LAWS = "#0072b2", "#e69f00"
 
 def names():
     with open("crates.txt", encoding="utf-8") as file:
-        return [line.split(":")[0] for line in file if line.strip() and not line.startswith("#")]
+        return [line.split(":")[0].split()[0] for line in file if line.strip() and not line.startswith("#")]
 
 
 def files(crate, folders, ending):
@@ -41,7 +41,7 @@ def code_uses(crate, all_names):
 def law_uses(crate, all_names):
     """The crates whose definitions or laws the contracts, definitions and proofs name."""
     text = "\n".join(list(files(crate, ["src"], ".rt")) + list(files(crate, ["specs", "proofs"], ".antt")))
-    return {name for name in all_names if name != crate and f"Rattle·{name}." in text}
+    return {name for name in all_names if name != crate and f"Rattle.{name}." in text}
 
 
 def sentence(crate):

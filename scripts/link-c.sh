@@ -1,6 +1,6 @@
 # Sourced after needs.sh: link_c NAME compiles face/NAME.c and links it with the proved libraries into target/face/NAME;
 # link_c NAME c++ compiles it as C++ and links it into target/face/NAME-c++. Either puts the path into $linked.
-# The kit's own compiler and linker are used on either machine, since the libraries are for x86-64.
+# The kit's own compiler and linker do it; the libraries are those that scripts/build has left.
 need gcc gcc
 
 link_c() {
@@ -15,12 +15,11 @@ link_c() {
     mkdir -p target/face || return 1
     local name libraries=()
     for name in "${exports[@]}"; do
-        [ -n "${face_built:-}" ] || rt staticlib "$name" || return 1
-        libraries+=("target/staticlib/lib$name.a")
+        libraries+=("$(library_of "$name")")
     done
-    face_built=1
+    built "${libraries[@]}"
     "$toolchain/bin/clang" --target=x86_64-unknown-linux-gnu -O2 -fPIC "${alone[@]}" -Wall -Wextra \
         -isystem "$(gcc -print-file-name=include)" -Iinclude -x "${2:-c}" -c "face/$1.c" -o "$linked.o" || return 1
-    "$kit/on/$(uname -m)/bin/rattle-link" --target x86_64-unknown-linux-gnu --toolchain "$toolchain" \
+    "$kit/bin/rattle-link" --target x86_64-unknown-linux-gnu --toolchain "$toolchain" \
         -o "$linked" "$linked.o" "${libraries[@]}"
 }

@@ -18,14 +18,27 @@ need() {
 }
 
 command -v rt > /dev/null 2>&1 || die "the Rattle kit is not installed: rt is missing"
+[ "$(uname -m)" = x86_64 ] || die 'the kit proves and compiles on x86-64, and for it alone'
 need cmp diffutils
 
-# Rattle compiles for x86-64. "${x86[@]}" PROGRAM runs such a program here with the kit's loader and C library, under the kit's
-# emulator where this is no x86-64 machine.
-kit=${RATTLE_HOME:-$(dirname "$(dirname "$(readlink -f "$(command -v rt)")")")}
-toolchain=$kit/on/$(uname -m)/toolchain
-x86=("$toolchain/lib/ld-linux-x86-64.so.2" --library-path "$toolchain/lib")
-[ "$(uname -m)" = x86_64 ] || x86=("$toolchain/bin/qemu-x86_64" "${x86[@]}")
+# The kit's folder, which holds the page that rt doc names; its compiler and linker.
+kit=$(dirname "$(rt doc)")
+toolchain=$kit/toolchain
 
-# The crates whose exports are the library for C: each is made by itself, and one archive or one call of the linker brings them together.
-exports=(face slot_face)
+# The crates whose exports are the library for C: each is a static library by itself, and one archive or one call of the linker brings them together.
+exports=(face_c slot_face_c)
+
+# What ./run and the checks run, as prove (scripts/prove.sh) leaves it.
+replay=crates/replay/out/replay
+sizes=crates/sizes/out/sizes
+library_of() {
+    printf 'crates/%s/out/lib%s.a' "$1" "$1"
+}
+
+# built FILE..: ends where one is missing.
+built() {
+    local file
+    for file; do
+        [ -s "$file" ] || die "$file is not built: scripts/build"
+    done
+}

@@ -5,11 +5,13 @@ statements.py [--list] [--self-test]
 
 1. A contract of a function that is public out of its crate asks nothing of its caller, and is an equation for the answer and one for every slice that is lent to be
    written, each with a right side in which neither the answer nor anything at exit stands. Of such an equation no two outcomes are possible (`single`, crate statements).
+   The crates of LIBRARY stand at the foot for what a library of the language would do: their contracts are a library's, with a `requires` that each caller proves.
 2. A public statement is such a contract or a theorem of a page (PAGES below). What it names, and what the definitions of those names name in turn, must be believed.
    A file of specs/ with such a name stands in specs/ itself, one with none in specs/inner/.
 3. Every must-fail edit is named in docs/STATEMENTS.md, beside what it speaks for.
 
-Prints what fails, with --list every file with its kind, with --self-test what the first check says of contracts that are known to be wrong; last 'N passed, M failed'.
+Prints what fails, with --list every file with its kind, with --self-test what the first check says of contracts that are known to be right or wrong; last
+'N passed, M failed'.
 """
 import pathlib
 import re
@@ -19,17 +21,34 @@ CRATES = pathlib.Path("crates")
 PAGES = ["*/proofs/Promises.antt", "statements/proofs/*.antt", "sums/proofs/*.antt"] + [
     f"demands/proofs/{page}.antt" for page in "Numbers Answers Accepted Slots PastRooms Exports Codeword Wordings Matrix Filling Encoder Release".split()
 ]
-WORD = re.compile(r"[^\s(){}\[\],;.⌜⌝→λ]+")
-IMPORT = re.compile(r"^(?:ghost )?use Rattle·(\w+)(?:·specs)?\.specs\.([\w.]+?)(?:\.the-variants)?\.\{([^}]*)\}", re.M)
+LIBRARY = {"octets"}
+WORD = re.compile(r"[^\s(){}\[\],;.→λ]+")
+IMPORT = re.compile(r"^(?:ghost )?use Rattle\.(\w+)\.specs\.([\w.]+?)(?:\.TheVariants)?\.\{([^}]*)\}", re.M)
+ALIAS = re.compile(r"^(?:ghost )?use Rattle\.(\w+)\.specs\.([\w.]+?)(?:\.TheVariants)? as (\S+?);?$", re.M)
 FUNCTION = re.compile(r"^pub (extern \"C\" )?fn (\w+)(.*?)^\{", re.M | re.S)
+RIGHT = [
+    "(a: usize) -> usize\n    ensures { result ≡ f a }\n",
+    "(a: &[u8]) -> &[u8]\n    ensures { result.now ≡ f a.now }\n",
+    "(a: &[u8], out: &mut [u8])\n    ensures { out.new ≡ f a.now\n        out.old }\n",
+    "(a: &[u8], out: &mut [u8]) -> usize\n    ensures number { result ≡ f a.now (length out.old) }\n    ensures output { out.new ≡ cond {A = ℕ} (g a.now) out.old }\n",
+]
 WRONG = [
     ("(a: usize) -> usize\n", "nothing is said of the answer"),
-    ("(a: usize) -> usize\n    requires { ⌜ a ≤ 5 ⌝ }\n    ensures { λ r. ⌜ r ≡ f a ⌝ }\n", "it asks something of the caller"),
-    ("(a: usize) -> usize\n    ensures { λ r. ⌜ r ≤ f a ⌝ }\n", "nothing is said of the answer"),
-    ("(a: usize) -> usize\n    ensures { λ r. ⌜ r ≡ f r ⌝ }\n", "an equation speaks of the outcome on its right"),
-    ("(a: usize, out: &mut [u8]) -> usize\n    ensures { λ r. ⌜ r ≡ f a ⌝ }\n", "nothing is said of out"),
-    ("(out: &mut [u8])\n    ensures { λ _. ⌜ now (out .exit) ≡ f (now (out .exit)) ⌝ }\n", "an equation speaks of the outcome on its right"),
-    ("(out: &mut [u8])\n    ensures { λ _. ⌜ now (out .exit) ≡ f (now (out .entry)) ∨ g ⌝ }\n", "an equation is not all that is said"),
+    ("(a: usize) -> usize\n    requires { a ≤ 5 }\n    ensures { result ≡ f a }\n", "it asks something of the caller"),
+    ("(a: usize) -> usize\n    requires few { a ≤ 5 }\n    requires more { 2 ≤ a }\n    ensures { result ≡ f a }\n", "it asks something of the caller"),
+    ("(a: usize) -> usize\n    ensures { result ≤ f a }\n", "nothing is said of the answer"),
+    ("(a: usize) -> usize\n    ensures { f result ≡ g a }\n", "nothing is said of the answer"),
+    ("(a: usize) -> Pair\n    ensures { result.first ≡ f a }\n", "nothing is said of the answer"),
+    ("(a: usize) -> Cell\n    ensures { result.now ≡ f a }\n", "nothing is said of the answer"),
+    ("(a: usize) -> usize\n    ensures { result ≡ f result }\n", "an equation speaks of the outcome on its right"),
+    ("(a: usize) -> Pair\n    ensures { result ≡ f (result.first) }\n", "an equation speaks of the outcome on its right"),
+    ("(a: usize, out: &mut [u8]) -> usize\n    ensures { result ≡ f a }\n", "nothing is said of out"),
+    ("(a: usize, out: &mut [u8]) -> usize\n    ensures number { result ≡ f a }\n    ensures output { take 3 out.new ≡ g a }\n", "nothing is said of out"),
+    ("(out: &mut [u8])\n    ensures { out.new ≡ f out.new }\n", "an equation speaks of the outcome on its right"),
+    ("(out: &mut [u8])\n    ensures { out.new ≡ f out }\n", "an equation speaks of the outcome on its right"),
+    ("(out: &mut [u8])\n    ensures { out.new ≡ f out.old ∨ g }\n", "an equation is not all that is said"),
+    ("(a: usize) -> usize\n    ensures { a ≤ 5 → result ≡ f a }\n", "nothing is said of the answer"),
+    ("(a: usize) -> usize\n    ensures { result ≡ f a → g a }\n", "an equation is not all that is said"),
 ]
 
 
@@ -38,41 +57,61 @@ def text_of(path):
     return re.sub(r"(--|//)[^\n]*", "", path.read_text())
 
 
+def handed_on(text):
+    """The names that a root file hands on from its modules."""
+    for listed, name in re.findall(r"^pub use (?:\w+::)*(?:\{([^}]*)\}|(\w+));", text, re.M):
+        yield from listed.replace(",", " ").split() if listed else [name]
+
+
 def public_functions(crate):
     """Of each function that is public out of a crate, an export among them: its file, the file's text, its name, and what stands before its body."""
     src = crate / "src"
     root = src / ("lib.rt" if (src / "lib.rt").exists() else "main.rt")
     text = text_of(root)
     whole = {root} | {src / (m + ".rt") for m in re.findall(r"^pub mod (\w+);", text, re.M)}
-    handed_on = set(re.findall(r"^pub use (?:\w+::)*(\w+);", text, re.M))
+    public = set(handed_on(text))
     for path in sorted(src.glob("*.rt")):
         code = text_of(path)
         for m in FUNCTION.finditer(code):
-            if m.group(1) or path in whole or m.group(2) in handed_on:
+            if m.group(1) or path in whole or m.group(2) in public:
                 yield path, code, m.group(2), m.group(3)
 
 
 # ---- single outcomes by the form of the contracts
 
 
+def clauses(head, kind):
+    """What stands between the braces of each clause of a kind."""
+    for start in re.finditer(rf"^\s*{kind}\b[^{{\n]*\{{", head, re.M):
+        depth, at = 1, start.end()
+        while depth and at < len(head):
+            depth += {"{": 1, "}": -1}.get(head[at], 0)
+            at += 1
+        yield head[start.end():at - 1].strip()
+
+
 def faults(head):
     """What is wrong with the contract of a function, from its arguments on."""
+    signature = re.split(r"^\s*(?:requires|ensures)\b", head, flags=re.M)[0]
+    lent = re.findall(r"(\w+)\s*:\s*&mut\b", signature)
     found = []
     if re.search(r"^\s*requires\b", head, re.M):
         found.append("it asks something of the caller")
     told = set()
-    for result, claim in re.findall(r"ensures[^{]*\{\s*λ (\w+)\.\s*⌜(.*?)⌝\s*\}", head, re.S):
+    for claim in clauses(head, "ensures"):
         left, _, right = (part.strip() for part in claim.partition("≡"))
-        if "≡" in right or "∨" in right or "⊎" in right or "×" in right:
+        whole = any(re.search(rf"(?<![\w.]){name}(?!\w|\.old\b)", right) for name in lent)
+        if any(mark in right for mark in "≡∨⊎×→"):
             found.append("an equation is not all that is said")
-        elif ".exit" in right or result in WORD.findall(right):
+        elif re.search(r"\.new\b", right) or whole or "result" in WORD.findall(right):
             found.append("an equation speaks of the outcome on its right")
         else:
-            told.add("the answer" if left in (result, f"now {result}") else left)
-    if "->" in head.split("ensures")[0] and "the answer" not in told and not found:
+            told.add(left)
+    answer = "result.now" if re.search(r"->\s*&(?!mut\b)", signature) else "result"
+    if "->" in signature and answer not in told and not found:
         found.append("nothing is said of the answer")
-    for name in re.findall(r"(\w+)\s*:\s*&mut\b", head):
-        if f"now ({name} .exit)" not in told and f"{name} .exit" not in told and not found:
+    for name in lent:
+        if f"{name}.new" not in told and not found:
             found.append(f"nothing is said of {name}")
     return found
 
@@ -81,7 +120,7 @@ def check_contracts():
     passed = failed = 0
     for crate in sorted(CRATES.iterdir()):
         for path, _, name, head in public_functions(crate):
-            wrong = faults(head)
+            wrong = faults(head) if crate.name not in LIBRARY else []
             passed, failed = (passed, failed + 1) if wrong else (passed + 1, failed)
             if wrong:
                 print(f"{path}: {name}: {', '.join(wrong)}")
@@ -89,29 +128,41 @@ def check_contracts():
 
 
 def self_test():
-    """Contracts that are known to be wrong are found out, each for its own fault."""
+    """Contracts that are known to be wrong are found out, each for its own fault; of those that are right nothing is said."""
     missed = [(head, fault) for head, fault in WRONG if fault not in faults(head)]
     for head, fault in missed:
         print(f"not found: {fault}: {head!r}")
-    return len(WRONG) - len(missed), len(missed)
+    blamed = [head for head in RIGHT if faults(head)]
+    for head in blamed:
+        print(f"found where nothing is wrong: {', '.join(faults(head))}: {head!r}")
+    bad = len(missed) + len(blamed)
+    return len(WRONG) + len(RIGHT) - bad, bad
 
 
 # ---- what must be believed
 
 
+def file_of(crate, module):
+    return CRATES / crate / "specs" / (module.replace(".", "/") + ".antt")
+
+
 def imported(text):
-    """For each name that a file takes from a file of definitions: that file."""
+    """For each name that a file takes from a file of definitions, by itself or with its module's name before it: that file, and its name there."""
     names = {}
     for crate, module, listed in IMPORT.findall(text):
-        for name in listed.replace(",", " ").split():
-            names[name] = CRATES / crate / "specs" / (module.replace(".", "/") + ".antt")
+        for item in listed.split(","):
+            name, _, here = item.strip().partition(" as ")
+            names[here or name] = file_of(crate, module), name
+    for crate, module, alias in ALIAS.findall(text):
+        for name in re.findall(rf"(?<![^\s(){{}}\[\],;→]){re.escape(alias)}\.([^\s(){{}}\[\],;.→λ]+)", text):
+            names.setdefault(f"{alias}.{name}", (file_of(crate, module), name))
     return names
 
 
 def named_in(path, text, names, own):
     """The definitions that a text names, each as its file and its name."""
-    words = set(WORD.findall(text))
-    return {(path, w) for w in words if w in own} | {(names[w], w) for w in words if w in names and w not in own}
+    words = set(WORD.findall(text)) | {name for name in names if "." in name and name in text}
+    return {(path, w) for w in words if w in own} | {names[w] for w in words if w in names and w not in own}
 
 
 def declarations(path):
