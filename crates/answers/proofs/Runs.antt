@@ -1,5 +1,5 @@
 -- Laws of a row that is put piece by piece where all of it fits, and the lengths of the rows of bits.
--- In a Proof file: `row_put (piece w (c … .CALLEE .ensures) (… (begin _ _ (the row fits))))`, the last piece outermost.
+-- In an answer: `row_put (piece w (c.CALLEE.ensures ..) (.. (begin _ _ (the row fits))))`, the last piece outermost.
 -- Assumes nothing.
 use mathlib.Core.Path.{◌≡◌, sym, ◌∙◌}
 use mathlib.Core.List.{List, [], ◌++◌}

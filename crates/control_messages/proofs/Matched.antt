@@ -17,7 +17,7 @@ use Rattle.rate_matching.specs.SubBlocks.{rows, dummies, padded, y_at}
 use Rattle.rate_matching.specs.Walk.{on_circle, is_bit, holds_bit, itself, round, turn, turn_after_turn, sent_places, selected}
 use Rattle.rate_matching.proofs.Places.{dummies_add, columns_read_lt}
 use Rattle.rate_matching.proofs.Circle.{padded_dummy, padded_bit}
-use Rattle.rate_matching.proofs.Walk.{get_d_map, sent_map}
+use Rattle.rate_matching.proofs.Walk.{get_or_map, sent_map}
 use Rattle.rate_matching.proofs.Kept.{keep_from}
 use Rattle.control_messages.specs.RateMatching.{control_column, read_control, interleaved, control_circle, matched}
 use Rattle.control_messages.specs.Working.{Sized, past_dummies, entry_at, in_columns, bit_at, one_turn}
@@ -111,9 +111,9 @@ module _ {D : ℕ} (z : Sized D) (d0 d1 d2 : List ℕ) (l0 : length d0 ≡ D) (l
         tab_of (in_columns D d) D (bit_at (in_columns D x) s) (length_in_columns d z)
         (λ i k.
         let p : i < length (places_read D) = rw (length_places_read z) k in
-        get_d_map (entry_at D d) (places_read D) i p
+        get_or_map (entry_at D d) (places_read D) i p
         ∙ sym (b (get_or (places_read D) i 0 - dummies D) (read_place_lt D i p))
-        ∙ ap (λ (y : ℕ). y / 2 ^ s % 2) (sym (get_d_map (entry_at D x) (places_read D) i p)))
+        ∙ ap (λ (y : ℕ). y / 2 ^ s % 2) (sym (get_or_map (entry_at D x) (places_read D) i p)))
 
     circle_turn : keep is_bit (control_circle d0 d1 d2) ≡ one_turn D (in_columns D x)
     unfolding one_turn

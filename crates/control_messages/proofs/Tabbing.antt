@@ -1,5 +1,5 @@
 -- The law for a loop that fills a slice with f 0, f 1, .., one entry a turn.
--- In a Proof file: the invariant has `Tabbing f n out₀ out i`; `loop-holds` is `start`, `loop-again` is `next`, `returns` is `finish`.
+-- In a loop over i: the invariant has `Tabbing f n l.initial.out l.out l.i`; `loop-i-init` is `start`, `loop-i-preserved` is `next`, `returns` is `finish`.
 -- Assumes nothing.
 use mathlib.Core.Path.{◌≡◌, sym, ◌∙◌, ap}
 use mathlib.Core.List.{List, ◌∷◌}

@@ -1,4 +1,4 @@
--- A one_to_one map of 0 .. n - 1 into 0 .. m - 1 shows that n is at most m, and one into itself is onto.
+-- A one-to-one map of 0 .. n - 1 into 0 .. m - 1 shows that n is at most m, and one into itself is onto.
 -- Assumes nothing.
 use mathlib.Core.Path.{◌≡◌}
 use mathlib.Core.Logic.{◌≢◌, ◌⊎◌, inl, inr, ⊎_elim}
@@ -31,7 +31,7 @@ closed_inj v x y nx ny e = ⊎_elim
     (λ w. ⊎_elim (λ u. omega arith) (λ u. omega arith) (closing v y ny))
     (closing v x nx)
 
--- there is no one_to_one map of 0 .. m into 0 .. m - 1
+-- there is no one-to-one map of 0 .. m into 0 .. m - 1
 no_room : (m : ℕ) (f : ℕ → ℕ) → Into (suc m) m f → OneToOne (suc m) f → ⊥
 no_room zero f into one = omega (arith, into 0 (omega arith))
 no_room (suc m) f into one =

@@ -1,5 +1,5 @@
--- What the library's `bytes::copy` leaves: the source w over the front of the destination, and w alone where both are as long.
--- In a proof: `copied w _ c.copy.ensures.1`.
+-- What `octets::copy` leaves: the source w over the front of the destination, and w alone where both are as long.
+-- In a proof: `copied w _ c.copy.ensures.after`.
 -- Assumes nothing.
 use mathlib.Core.Path.{◌≡◌, ◌∙◌}
 use mathlib.Core.List.{List, ◌++◌, append-nil}

@@ -1,5 +1,5 @@
 -- The one law for every loop that sets a slice to one value from the front: the first i entries are v, and the others as they were.
--- In a Proof file: the invariant has `Filling v d₀ d i`; `loop-holds` is `start`, `loop-again` is `fill`, `returns` is `told`, or `filled` where
+-- In a loop over i: the invariant has `Filling v l.initial.d l.d l.i`; `loop-i-init` is `start`, `loop-i-preserved` is `fill`, `returns` is `told`, or `filled` where
 -- the loop goes to the end.
 -- Assumes nothing.
 use mathlib.Core.Path.{◌≡◌, refl, ◌∙◌, ap}

@@ -1,7 +1,7 @@
 -- A list after a part of it was lent as `&mut s[a..b]` and came back: the borrow checker shows `put_mid a (b - a) xs ys`, with ys what the
--- callee left in the part (`c … .CALLEE .last .0`), and gives the callee the list `mid_of a (b - a) xs`. After `&mut s[..b]` it shows `ys ++ drop b xs`.
--- In a Proof file: `returns c = put_as _ _ _ (c … .CALLEE .ensures) (omega arith) ∙ ..`, then `put_is`, `length_mid` or `length_put`; a
--- `Need-slice-aggregate` of `&mut s[..b]` or `&s[..b]` is `front_count _ _ (omega arith)`.
+-- callee left in the part (`c.CALLEE.new.s`), and gives the callee the list `mid_of a (b - a) xs`. After `&mut s[..b]` it shows `ys ++ drop b xs`.
+-- In an answer: `returns c = put_as _ _ _ c.CALLEE.ensures (omega arith) ∙ ..`, then `put_is`, `length_mid` or `length_put`; a
+-- goal `slice_bounds-CALLEE-end-2` of `&mut s[..b]` or `&s[..b]` is `front_count _ _ (omega arith)`.
 -- Assumes nothing.
 use mathlib.Core.Path.{◌≡◌, sym, ◌∙◌, ap, ap₂}
 use mathlib.Core.List.{List, ◌++◌, append-nil}

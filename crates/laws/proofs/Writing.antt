@@ -1,7 +1,7 @@
 -- The one law for every loop that writes a slice from the front: what stands before the counter, followed by what is
 -- still to come, is the whole result, and what stands from the counter on is as it was.
--- In a Proof file: the invariant has `Writing out₀ out i (what the definition still gives) (the whole result)`;
--- `loop-holds` is `start`, `loop-again` is `push` (`push_part` after a lent part), `returns` is `finish` or `finish_all`;
+-- In a loop over i: the invariant has `Writing l.initial.out l.out l.i (what the definition still gives) (the whole result)`;
+-- `loop-i-init` is `start`, `loop-i-preserved` is `push` (`push_part` after a lent part), `returns` is `finish` or `finish_all`;
 -- `same` says what is still to come in another way, as by one unfolding. `start_at` serves a loop that begins at another place.
 -- `drop_next` is the turn of a list that is read from the front.
 -- Assumes nothing.

@@ -28,7 +28,7 @@ use Rattle.rate_matching.specs.Units.{unit_start, start_unit, whole_units, rest_
 use Rattle.rate_matching.proofs.Columns.{column_rule}
 use Rattle.rate_matching.proofs.Places.{dummies_add, place_lt, held_place}
 use Rattle.rate_matching.proofs.Matrix.{pair_head}
-use Rattle.rate_matching.proofs.Walk.{get_d_map, turn_pos, turn_lt}
+use Rattle.rate_matching.proofs.Walk.{get_or_map, turn_pos, turn_lt}
 use Rattle.rate_matching.proofs.Circle.{circle_holds, eighths, start_below}
 use Rattle.rate_matching.proofs.ShapeTurn.{bit_places_none, turn_parts, blanks, stream, length_shape}
 use Rattle.rate_matching.proofs.ShapeColumns.{bit_places_split, pair_places_lem}
@@ -272,7 +272,7 @@ module _ (D F : ℕ) (some : D % 8 ≡ 4) (few : F < D) (c : ℕ) (h : c < 32) w
       size = length-map (pair_places e f last) (λ (k : ℕ). j + k) ∙ long e f last ordered.alone ordered.after
 
       entry : (i : ℕ) → i < length all → get_or all i 0 ≡ j + get_or (pair_places e f last) i 0
-      entry i g = get_d_map (λ (k : ℕ). j + k) (pair_places e f last) i (omega (arith, length-map (pair_places e f last) (λ (k : ℕ). j + k)))
+      entry i g = get_or_map (λ (k : ℕ). j + k) (pair_places e f last) i (omega (arith, length-map (pair_places e f last) (λ (k : ℕ). j + k)))
 
 -- ---- the turn of a circle that is cut
 

@@ -96,10 +96,10 @@ pub length_selected : (w : List ℕ) (k0 E : ℕ) → length (selected w k0 E) �
 unfolding selected sent_places
 length_selected w k0 E = length-map (tab E (turn_after_turn (turn w k0))) (on_circle w) ∙ length_tab E (turn_after_turn (turn w k0))
 
-pub get_d_map : (f : ℕ → ℕ) (l : List ℕ) (i : ℕ) → i < length l → get_or (map f l) i 0 ≡ f (get_or l i 0)
-get_d_map f [] i h = absurd (omega arith)
-get_d_map f (x ∷ l) zero h = refl
-get_d_map f (x ∷ l) (suc i) h = get_d_map f l i (omega arith)
+pub get_or_map : (f : ℕ → ℕ) (l : List ℕ) (i : ℕ) → i < length l → get_or (map f l) i 0 ≡ f (get_or l i 0)
+get_or_map f [] i h = absurd (omega arith)
+get_or_map f (x ∷ l) zero h = refl
+get_or_map f (x ∷ l) (suc i) h = get_or_map f l i (omega arith)
 
 -- what stands at the places sent, from what stands at those of one turn
 pub sent_map : (f : ℕ → ℕ) (places : List ℕ) (E : ℕ) → 0 < length places → map f (tab E (turn_after_turn places)) ≡ tab E (turn_after_turn (map f places))
@@ -107,7 +107,7 @@ unfolding turn_after_turn
 sent_map f places E h =
     map_tab E (turn_after_turn places) f
     ∙ tab_ext E (λ (k : ℕ). f (turn_after_turn places k)) (turn_after_turn (map f places))
-    (λ k l. rw (length-map places f) (sym (get_d_map f places (k % length places) (mod-lt k h))))
+    (λ k l. rw (length-map places f) (sym (get_or_map f places (k % length places) (mod-lt k h))))
 
 -- l, m times
 turns : ℕ → List ℕ → List ℕ
@@ -203,7 +203,7 @@ module _ (w : List ℕ) (k0 : ℕ) (h : k0 < length w) where
       (length-take-le E (map (on_circle w) sent) (rw length-map long))
       (λ i l.
       get_or-take E (map (on_circle w) sent) i 0 l
-      ∙ get_d_map (on_circle w) sent i (omega arith)
+      ∙ get_or_map (on_circle w) sent i (omega arith)
       ∙ ap (on_circle w)
       (get_or-append (turns E (turn w k0)) rest 0 i (omega arith) ∙ turns_at E (turn w k0) i (omega (arith, length_turns E (turn w k0)))))
       ∙ sym (map_tab E (turn_after_turn (turn w k0)) (on_circle w))

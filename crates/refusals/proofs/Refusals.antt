@@ -1,6 +1,6 @@
 -- Laws of refusals in order: a chain of `or_else` is `first_of`; what 0 says, and what another number says.
--- In a Proof file: `chained (next (c … .or_else .ensures) (next c.or-else2.ensures done)) tt`, one `next` a call, proves
--- `r ≡ first_of rules` under `unfolding rules`. Behind `if no != 0 { return .. }`, `passed rules (c … .F .ensures) c.if1.left tt (size_rule A) (search listed)`
+-- In an answer: `chained (next c.or_else.ensures (next c.or_else-2.ensures done)) tt`, one `next` a call, proves
+-- `r ≡ first_of rules` under `unfolding rules`. Behind `if no != 0 { return .. }`, `passed rules c.F.ensures c.if-no-ne0.false tt (size_rule A) (search listed)`
 -- proves that the test of the rule so named is false, wherever it stands among the rules. A rule's test is written as the code has it: `a >= 7` is `leb 7 a`.
 -- Assumes nothing.
 use mathlib.Core.Path.{◌≡◌, refl, sym, ◌∙◌, ap, ap₂}

@@ -1,5 +1,5 @@
 -- What is known of the state, the store and the slot's head where a call's first refusals do not apply (number 0).
--- In a Proof file, behind `if number != 0 { return .. }`: `openable`, `closing`, `served`, or `stored` and `owned`, from what the
+-- In an answer, behind `if number != 0 { return .. }`: `openable`, `closing`, `served`, or `stored` and `owned`, from what the
 -- number's function ensures.
 -- Assumes nothing.
 use mathlib.Core.Path.{◌≡◌, refl, sym, ◌∙◌, ap}

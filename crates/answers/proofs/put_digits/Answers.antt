@@ -1,5 +1,4 @@
 use mathlib.Core.Path.{sym}
-use Prim.Native.Nat.{◌-◌}
 use native.Mathlib.Omega.{arith}
 use Rattle.lines.proofs.Putting.{put_none, end_none}
 use Rattle.answers.proofs.Digits.{digits_length, start, next, finish}

@@ -1,5 +1,4 @@
 use mathlib.Core.Path.{◌∙◌}
-use Prim.Native.Nat.{◌-◌}
 use native.Mathlib.Omega.{arith}
 use Rattle.check_bits.proofs.Running.{start, next48, rest}
 use Rattle.check_bits.proofs.strides.Goals as goal

@@ -36,19 +36,19 @@ loop-left-init c =
     begin args.four args.m args.n args.from.now args.to.now (room args.m (not args.four) c.bytes_a_block.ensures) (room args.m args.four c.bytes_a_block-2.ensures)
 
 pub overflow_add-i_end : goal.overflow_add-i_end
-overflow_add-i_end c = omega (arith, from_fits c.loop-left.invariant c.loop-left-test.true c.requires.m_in_bounds.0)
+overflow_add-i_end c = omega (arith, from_fits c.loop-left.invariant (omega arith) c.requires.m_in_bounds.0)
 
 pub overflow_add-j_end : goal.overflow_add-j_end
-overflow_add-j_end c = omega (arith, to_fits c.loop-left.invariant c.loop-left-test.true c.requires.m_in_bounds.1)
+overflow_add-j_end c = omega (arith, to_fits c.loop-left.invariant (omega arith) c.requires.m_in_bounds.1)
 
 pub slice_bounds-change_room-end : goal.slice_bounds-change_room-end
-slice_bounds-change_room-end c = from_fits c.loop-left.invariant c.loop-left-test.true c.requires.m_in_bounds.0
+slice_bounds-change_room-end c = from_fits c.loop-left.invariant (omega arith) c.requires.m_in_bounds.0
 
 pub slice_bounds-change_room-end-in-loop-left : goal.slice_bounds-change_room-end-in-loop-left
-slice_bounds-change_room-end-in-loop-left c = to_fits c.loop-left.invariant c.loop-left-test.true c.requires.m_in_bounds.1
+slice_bounds-change_room-end-in-loop-left c = to_fits c.loop-left.invariant (omega arith) c.requires.m_in_bounds.1
 
 pub loop-left-preserved : goal.loop-left-preserved
-loop-left-preserved c = next c.loop-left.invariant c.loop-left-test.true c.requires.m_in_bounds.1 c.change_room.ensures c.change_room.auto.to
+loop-left-preserved c = next c.loop-left.invariant (omega arith) c.requires.m_in_bounds.1 c.change_room.ensures c.change_room.auto.to
 
 pub shape_of-to : goal.shape_of-to
 shape_of-to c = c.loop-left.invariant.written.long

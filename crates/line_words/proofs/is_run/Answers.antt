@@ -1,4 +1,3 @@
-use Prim.Native.Nat.{◌-◌}
 use native.Mathlib.Omega.{arith}
 use Rattle.line_words.proofs.Runs.{start_run, none_run, next_run, low, high, finish_run}
 use Rattle.line_words.proofs.is_run.Goals as goal

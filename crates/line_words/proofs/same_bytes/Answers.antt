@@ -1,4 +1,3 @@
-use Prim.Native.Nat.{◌-◌}
 use native.Mathlib.Omega.{arith}
 use Rattle.line_words.proofs.Runs.{start, next, differ, finish, lengths_differ}
 use Rattle.line_words.proofs.same_bytes.Goals as goal

@@ -1,4 +1,4 @@
-use Prim.Native.Nat.{◌-◌, ◌^◌, ◌<◌}
+use Prim.Native.Nat.{◌^◌, ◌<◌}
 use native.Mathlib.Omega.{arith}
 use Rattle.lines.proofs.Reading.{start, next, low, high, finish, held}
 use Rattle.lines.proofs.read_digits.Goals.{Else-digit-gt-NINE}

@@ -1,6 +1,5 @@
 -- `log_input::last_line` meets its contract.
 -- Assumes nothing.
-use mathlib.Core.Path.{refl}
 use borrow.Author.Tests.{eq-eqb, ne_eqb}
 use Rattle.log_input.specs.Line.{last_line, text_ended}
 use Rattle.log_input.proofs.last_line.Goals as goal

@@ -1,6 +1,6 @@
 -- `log_input::settle` meets its contract.
 -- Assumes nothing.
-use mathlib.Core.Path.{refl, ap}
+use mathlib.Core.Path.{ap}
 use borrow.Author.Tests.{lt-ltb, le-ltb}
 use Rattle.log_input.specs.Line.{kept_line, settled, text_settled}
 use Rattle.log_input.proofs.settle.Goals as goal

@@ -1,4 +1,3 @@
-use Prim.Native.Nat.{◌-◌}
 use native.Mathlib.Omega.{arith}
 use Rattle.log_text.proofs.Kept.{begin, next, all_moved}
 use Rattle.log_text.proofs.move_down.Goals as goal

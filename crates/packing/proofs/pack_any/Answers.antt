@@ -1,4 +1,3 @@
-use Prim.Native.Nat.{◌-◌}
 use native.Mathlib.Omega.{arith}
 use Rattle.packing.proofs.Changing.{packing_start, packing_next, packing_finish}
 use Rattle.packing.proofs.pack_any.Goals as goal

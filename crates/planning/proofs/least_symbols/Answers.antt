@@ -1,4 +1,3 @@
-use Prim.Native.Nat.{◌-◌}
 use native.Mathlib.Omega.{arith}
 use Rattle.planning.proofs.Looking as looking
 use Rattle.planning.proofs.least_symbols.Goals as goal

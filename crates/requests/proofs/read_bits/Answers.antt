@@ -1,4 +1,3 @@
-use Prim.Native.Nat.{◌-◌}
 use native.Mathlib.Omega.{arith}
 use Rattle.requests.proofs.WrittenBits.{begin, next, past, short, all}
 use Rattle.requests.proofs.read_bits.Goals as goal

@@ -1,5 +1,4 @@
 use mathlib.Core.Path.{sym, ◌∙◌}
-use Prim.Native.Nat.{◌-◌}
 use native.Mathlib.Omega.{arith}
 use Rattle.requests.proofs.Forms.{start, next, unsaid, finish}
 use Rattle.requests.proofs.said_from.Goals as goal

@@ -1,5 +1,4 @@
 use mathlib.Core.Path.{sym}
-use Prim.Native.Nat.{◌-◌}
 use native.Mathlib.Omega.{arith}
 use Rattle.laws.proofs.Tab.{tab_rest, rest_none}
 use Rattle.laws.proofs.Writing.{start, same, finish_all}

@@ -1,5 +1,4 @@
 use mathlib.Core.Path.{sym, ◌∙◌}
-use Prim.Native.Nat.{◌-◌}
 use native.Mathlib.Omega.{arith}
 use Rattle.build_calls.proofs.Rooms.{lent, enough}
 use Rattle.codeword.proofs.Segmented.{count_told}

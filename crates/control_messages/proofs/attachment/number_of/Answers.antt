@@ -1,4 +1,4 @@
-use Prim.Native.Nat.{◌<◌, ◌-◌}
+use Prim.Native.Nat.{◌<◌}
 use native.Mathlib.Omega.{arith}
 use Rattle.rate_matching.specs.Columns.{number_of}
 use Rattle.control_messages.proofs.Attached.{number_lt, numbering_start, numbering_few, numbering_next, numbering_ends}

@@ -1,4 +1,3 @@
-use Prim.Native.Nat.{◌-◌}
 use native.Mathlib.Omega.{arith}
 use Rattle.control_messages.specs.Working.{three}
 use Rattle.control_messages.proofs.Tabbing.{start, next, finish}

@@ -1,4 +1,3 @@
-use Prim.Native.Nat.{◌-◌}
 use native.Mathlib.Omega.{arith}
 use Rattle.interleaver.proofs.Walk as walk
 use Rattle.interleaver.proofs.block.walk.Goals as goal

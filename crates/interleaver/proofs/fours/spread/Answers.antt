@@ -1,5 +1,4 @@
 use mathlib.Core.Path.{refl}
-use Prim.Native.Nat.{◌-◌}
 use native.Mathlib.Omega.{arith}
 use Rattle.interleaver.specs.inner.Quarters.{digit}
 use Rattle.interleaver.proofs.Filling as F

@@ -1,4 +1,3 @@
-use Prim.Native.Nat.{◌-◌}
 use native.Mathlib.Omega.{arith}
 use Rattle.packing.proofs.Changing.{packing_start, packing_next, packing_finish}
 use Rattle.packing.proofs.small.pack_small.Goals as goal

@@ -4,7 +4,7 @@ use mathlib.Core.Path.{refl, ◌∙◌}
 use mathlib.Core.Bool.{◌&&◌, and-eq-true_iff}
 use Prim.Native.Nat.{◌≤◌, ◌<◌}
 use lib.Dec.{leb, ltb}
-use borrow.Author.Tests.{leb-true, ltb-true, not-true, not-false}
+use borrow.Author.Tests.{leb-true, ltb-true}
 use Rattle.rate_matching.specs.Matrix.{heads_within}
 use Rattle.rate_matching.proofs.mapping.column_heads.Goals.{Else-not-there}
 use Rattle.rate_matching.proofs.mapping.column_heads.Goals as goal

@@ -5,7 +5,7 @@ use mathlib.Core.Bool.{not, ◌&&◌, and-eq-true_iff}
 use Prim.Native.Nat.{◌%◌, ◌≤◌, ◌<◌}
 use native.Mathlib.Omega.{arith}
 use lib.Dec.{leb, ltb, eqb}
-use borrow.Author.Tests.{leb-true, ltb-true, eqb-false, not-true, not-false}
+use borrow.Author.Tests.{leb-true, ltb-true, eqb-false, not-true}
 use Rattle.rate_matching.specs.SubBlocks.{rows, dummies}
 use Rattle.rate_matching.specs.Matrix.{written_at, matrix_within}
 use Rattle.rate_matching.proofs.mapping.matrix_place.Goals.{Else-not-there}

@@ -3,7 +3,7 @@
 use mathlib.Core.Bool.{◌&&◌, and-eq-true_iff}
 use Prim.Native.Nat.{◌≤◌, ◌<◌}
 use lib.Dec.{leb, ltb}
-use borrow.Author.Tests.{leb-true, ltb-true, not-true, not-false}
+use borrow.Author.Tests.{leb-true, ltb-true}
 use Rattle.rate_matching.specs.Units.{pair_within}
 use Rattle.rate_matching.proofs.mapping.pair_unit_at.Goals.{Else-not-there}
 use Rattle.rate_matching.proofs.mapping.pair_unit_at.Goals as goal

@@ -1,4 +1,3 @@
-use Prim.Native.Nat.{◌-◌}
 use native.Mathlib.Omega.{arith}
 use Rattle.report_code.specs.Code.{control_bits}
 use Rattle.report_code.proofs.Linear.{length_block}

@@ -1,6 +1,6 @@
 -- `block::packed` meets its contract: from the highest bit down, the word is that of the bits from here on.
 -- Assumes nothing.
-use Prim.Native.Nat.{◌-◌, ◌≤◌}
+use Prim.Native.Nat.{◌≤◌}
 use mathlib.Core.Path.{◌≡◌}
 use lib.ListN.{drop}
 use Rattle.report_code.specs.Words.{number_of}

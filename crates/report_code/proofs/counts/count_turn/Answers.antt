@@ -1,4 +1,3 @@
-use Prim.Native.Nat.{◌-◌}
 use native.Mathlib.Omega.{arith}
 use Rattle.report_code.proofs.Folding.{counting_start, ones_fit, zeros_fit, counting_next, counting_finish}
 use Rattle.report_code.proofs.counts.count_turn.Goals as goal

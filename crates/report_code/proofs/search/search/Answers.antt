@@ -1,4 +1,3 @@
-use Prim.Native.Nat.{◌-◌}
 use native.Mathlib.Omega.{arith}
 use Rattle.report_code.proofs.CountingUp.{start, below, step_lt, small, next, finish}
 use Rattle.report_code.proofs.search.search.Goals as goal

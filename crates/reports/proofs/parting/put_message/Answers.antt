@@ -1,4 +1,3 @@
-use Prim.Native.Nat.{◌-◌}
 use native.Mathlib.Omega.{arith}
 use Rattle.laws.proofs.Writing.{start, same, push, finish_all}
 use Rattle.reports.proofs.Parted.{message_all, message_more, message_none}

@@ -1,4 +1,3 @@
-use Prim.Native.Nat.{◌-◌}
 use native.Mathlib.Omega.{arith}
 use Rattle.laws.proofs.Filling.{start, fill, filled}
 use Rattle.slot_calls.proofs.opening.fill.Goals as goal

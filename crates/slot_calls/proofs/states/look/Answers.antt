@@ -1,5 +1,4 @@
 use mathlib.Core.Path.{◌≡◌, refl, sym, ◌∙◌}
-use Prim.Native.Nat.{◌-◌}
 use Rattle.slots.specs.State.{closed_head, head_at, bad_state}
 use Rattle.slots.proofs.Accepted.{good_shape}
 use Rattle.slots.proofs.Heads as heads

@@ -1,7 +1,6 @@
 -- `states::look` meets its contract: the loop keeps `Looking`, over the heads below S.
 -- Assumes nothing.
 use Prim.Native.Nat.{◌-◌, ◌≤◌}
-use Rattle.slots.proofs.Heads as heads
 use Rattle.slots.proofs.Heads.{Looking}
 use Rattle.slot_calls.proofs.states.look.Given as goal
 

@@ -1,4 +1,3 @@
-use Prim.Native.Nat.{◌-◌}
 use native.Mathlib.Omega.{arith}
 use Rattle.state_bytes.proofs.Bytes.{low_start, low_next, low_finish}
 use Rattle.state_bytes.proofs.numbers.put_number.Goals as goal

@@ -1,5 +1,5 @@
 use mathlib.Core.Path.{◌≡◌, refl, ◌∙◌, ap}
-use Prim.Native.Nat.{ℕ, ◌-◌}
+use Prim.Native.Nat.{ℕ}
 use native.Mathlib.Omega.{arith}
 use Rattle.turbo.specs.inner.Eight.{reach, encoded_front, front_end}
 use Rattle.turbo.proofs.InEights.{begin, lent, turn, eights_end}
