@@ -19,13 +19,21 @@ by_sum room a b c h = go (leb c (room - 6 - a - b)) refl
     go false e = e ∙ too_small room a b c (omega (arith, leb-false c (room - 6 - a - b) e))
 
 pub returns-then-room-lt6 : goal.returns-then-room-lt6
-returns-then-room-lt6 c = let args = c.args in too_small args.room args.a args.b args.c (omega arith)
+returns-then-room-lt6 c =
+    let args = c.args in
+    too_small args.room args.a args.b args.c (omega arith)
 
 pub returns-then-room-a : goal.returns-then-room-a
-returns-then-room-a c = let args = c.args in too_small args.room args.a args.b args.c (omega arith)
+returns-then-room-a c =
+    let args = c.args in
+    too_small args.room args.a args.b args.c (omega arith)
 
 pub returns-then-room-a-2 : goal.returns-then-room-a-2
-returns-then-room-a-2 c = let args = c.args in too_small args.room args.a args.b args.c (omega arith)
+returns-then-room-a-2 c =
+    let args = c.args in
+    too_small args.room args.a args.b args.c (omega arith)
 
 pub returns : goal.returns
-returns c = let args = c.args in by_sum args.room args.a args.b args.c (omega arith)
+returns c =
+    let args = c.args in
+    by_sum args.room args.a args.b args.c (omega arith)

@@ -22,4 +22,6 @@ pub shape_of-out : goal.shape_of-out
 shape_of-out c = c.loop-i.invariant.writing.long
 
 pub returns : goal.returns
-returns c = let told = finish (omega arith) c.loop-i.invariant in record { value = told.0; out_after = told.1 }
+returns c =
+    let told = finish (omega arith) c.loop-i.invariant in
+    record { value = told.0; out_after = told.1 }

@@ -25,6 +25,8 @@ returns-then-out-bits c =
 
 pub returns : goal.returns
 unfolding run_row row_of end_of
-returns c = let args = c.args in
+returns c =
+    let args = c.args in
     let whole = begin (run_row args.bits.now) args.out.now (omega (arith, run_length args.bits.now)) in
-    let told = row_put (piece (newline ∷ []) (c.put_bytes.ensures.value, c.put_bytes.ensures.out_after) (piece (digits_of args.bits.now) (c.put_digits-end.ensures.value, c.put_digits-end.ensures.out_after) (piece (ok ++ (tab ∷ [])) (c.put_bytes-from.ensures.value, c.put_bytes-from.ensures.out_after) whole))) in record { value = told.0; out_after = told.1 }
+    let told = row_put (piece (newline ∷ []) (c.put_bytes.ensures.value, c.put_bytes.ensures.out_after) (piece (digits_of args.bits.now) (c.put_digits-end.ensures.value, c.put_digits-end.ensures.out_after) (piece (ok ++ (tab ∷ [])) (c.put_bytes-from.ensures.value, c.put_bytes-from.ensures.out_after) whole))) in
+    record { value = told.0; out_after = told.1 }

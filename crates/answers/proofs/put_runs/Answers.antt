@@ -24,7 +24,8 @@ returns-then-not-is_room c =
 
 pub returns : goal.returns
 unfolding runs_row row_of end_of
-returns c = let args = c.args in
+returns c =
+    let args = c.args in
     let a = args.first.now in
     let b = args.second.now in
     let d = args.third.now in
@@ -37,4 +38,5 @@ returns c = let args = c.args in
     (piece (digits_of b) (c.put_digits-second_end.ensures.value, c.put_digits-second_end.ensures.out_after)
     (piece (tab ∷ []) (c.put_bytes-second_at.ensures.value, c.put_bytes-second_at.ensures.out_after)
     (piece (digits_of a) (c.put_digits-first_end.ensures.value, c.put_digits-first_end.ensures.out_after)
-    (piece (ok ++ (tab ∷ [])) (c.put_bytes-first_at.ensures.value, c.put_bytes-first_at.ensures.out_after) whole))))))) in record { value = told.0; out_after = told.1 }
+    (piece (ok ++ (tab ∷ [])) (c.put_bytes-first_at.ensures.value, c.put_bytes-first_at.ensures.out_after) whole))))))) in
+    record { value = told.0; out_after = told.1 }

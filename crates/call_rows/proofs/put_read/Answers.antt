@@ -19,7 +19,6 @@ given : (c : After-head_at-head) → let args = c.args in let out = c.read_in-ou
     (c.head_at-head.result.size ≤ length out) × (run_row (take c.head_at-head.result.size out) ≡ read_row args.state (places_in args.four args.store.now) args.slot args.terminal)
 unfolding size_at_head
 given c =
-    let made = c.read_in-outcome in
     let kept = c.read_in-outcome.auto.out in
     let row = read_row_lem _ _ _ _ _ (fresh _ c.block_room-block.ensures) c.read_in-outcome.ensures.value (sym c.is_done.ensures ∙ c.if-is_done.true) c.read_in-outcome.ensures.out_after kept in
     let size = ap (λ (h : Head). h.size) c.head_at-head.ensures in

@@ -19,7 +19,8 @@ returns-then-out-at-2 c = record { value = sym (end_none _ _ _ (omega arith)); o
 pub returns : goal.returns
 unfolding put_over
 returns c =
-    let args = c.args in record {
+    let args = c.args in
+    record {
       value = sym (end_fits _ _ _ (omega arith));
       out_after = put_as args.at (args.at + length args.given.now) args.out.now (all_copied args.given.now _ c.copy.ensures.after (length_mid args.at (args.at + length args.given.now) args.out.now (omega arith) ∙ omega arith)) (omega arith)
           ∙ sym (put_fits _ _ _ (omega arith));

@@ -38,17 +38,20 @@ pub loop-next-preserved : goal.loop-next-preserved
 loop-next-preserved c =
     let inv = c.loop-next.invariant in
     let end = c.line_end-end.ensures in
-    let row = c.put_row-written in
     turn _ inv (omega arith) (omega arith) end c.line_next-next.ensures (c.put_row-written.ensures.value, c.put_row-written.ensures.out_after) c.put_row-written.auto.out
 
 pub shape_of-out-after-loop-next : goal.shape_of-out-after-loop-next
 shape_of-out-after-loop-next c = c.loop-next.invariant.writing.long
 
 pub returns-after-loop-next : goal.returns-after-loop-next
-returns-after-loop-next c = let told = finish c.loop-next.invariant (lines_past _ _ _ (omega arith)) in record { value = told.0; out_after = told.1 }
+returns-after-loop-next c =
+    let told = finish c.loop-next.invariant (lines_past _ _ _ (omega arith)) in
+    record { value = told.0; out_after = told.1 }
 
 pub shape_of-out-then-out-written-lt-ROW_ROOM : goal.shape_of-out-then-out-written-lt-ROW_ROOM
 shape_of-out-then-out-written-lt-ROW_ROOM c = c.loop-next.invariant.writing.long
 
 pub returns-then-out-written-lt-ROW_ROOM : goal.returns-then-out-written-lt-ROW_ROOM
-returns-then-out-written-lt-ROW_ROOM c = let told = finish c.loop-next.invariant (lines_full _ _ _ (omega (arith, c.loop-next.invariant.writing.long))) in record { value = told.0; out_after = told.1 }
+returns-then-out-written-lt-ROW_ROOM c =
+    let told = finish c.loop-next.invariant (lines_full _ _ _ (omega (arith, c.loop-next.invariant.writing.long))) in
+    record { value = told.0; out_after = told.1 }

@@ -4,17 +4,25 @@ use Rattle.log_input.proofs.Lines.{read_full, read_beyond, read_last, read_some}
 use Rattle.log_input.proofs.line_read.Goals as goal
 
 pub returns-then-text-kept : goal.returns-then-text-kept
-returns-then-text-kept c = let args = c.args in
-    let told = read_full args.text.now args.kept args.count c.if-text-kept.true c.nothing_left.ensures in record { value = told.0; text_after = told.1.0; stands = told.1.1 }
+returns-then-text-kept c =
+    let args = c.args in
+    let told = read_full args.text.now args.kept args.count c.if-text-kept.true c.nothing_left.ensures in
+    record { value = told.0; text_after = told.1.0; stands = told.1.1 }
 
 pub returns-then-text-kept-2 : goal.returns-then-text-kept-2
-returns-then-text-kept-2 c = let args = c.args in
-    let told = read_beyond args.text.now args.kept args.count c.if-text-kept.false c.if-text-kept-2.true c.nothing_left-then-text-kept-2.ensures in record { value = told.0; text_after = told.1.0; stands = told.1.1 }
+returns-then-text-kept-2 c =
+    let args = c.args in
+    let told = read_beyond args.text.now args.kept args.count c.if-text-kept.false c.if-text-kept-2.true c.nothing_left-then-text-kept-2.ensures in
+    record { value = told.0; text_after = told.1.0; stands = told.1.1 }
 
 pub returns-then-count-eq0 : goal.returns-then-count-eq0
-returns-then-count-eq0 c = let args = c.args in
-    let told = read_last args.text.now args.kept args.count c.if-text-kept.false c.if-text-kept-2.false c.if-count-eq0.true (c.last_line.ensures.value, c.last_line.ensures.text_after) c.last_line.auto.text in record { value = told.0; text_after = told.1.0; stands = told.1.1 }
+returns-then-count-eq0 c =
+    let args = c.args in
+    let told = read_last args.text.now args.kept args.count c.if-text-kept.false c.if-text-kept-2.false c.if-count-eq0.true (c.last_line.ensures.value, c.last_line.ensures.text_after) c.last_line.auto.text in
+    record { value = told.0; text_after = told.1.0; stands = told.1.1 }
 
 pub returns : goal.returns
-returns c = let args = c.args in
-    let told = read_some args.text.now args.kept args.count c.if-text-kept.false c.if-text-kept-2.false c.if-count-eq0.false c.line_in.ensures in record { value = told.0; text_after = told.1.0; stands = told.1.1 }
+returns c =
+    let args = c.args in
+    let told = read_some args.text.now args.kept args.count c.if-text-kept.false c.if-text-kept-2.false c.if-count-eq0.false c.line_in.ensures in
+    record { value = told.0; text_after = told.1.0; stands = told.1.1 }
