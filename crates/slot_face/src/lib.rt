@@ -1,4 +1,4 @@
-// The face to C of the slots: what include/zemrukste.h declares of them, thin over the proved libraries. A library of its own, put into one archive with `face`.
+// The face to C of the slots: what include/zemrukste.h declares of them, thin over the proved libraries. A C program links `slot_face_c`, which is put into one archive with `face_c`.
 #![tactic(auto)]
 
 mod calls;
