@@ -5,7 +5,6 @@ statements.py [--list] [--self-test]
 
 1. A contract of a function that is public out of its crate asks nothing of its caller, and is an equation for the answer and one for every slice that is lent to be
    written, each with a right side in which neither the answer nor anything at exit stands. Of such an equation no two outcomes are possible (`single`, crate statements).
-   The crates of LIBRARY stand at the foot for what a library of the language would do: their contracts are a library's, with a `requires` that each caller proves.
 2. A public statement is such a contract or a theorem of a page (PAGES below). What it names, and what the definitions of those names name in turn, must be believed.
    A file of specs/ with such a name stands in specs/ itself, one with none in specs/inner/.
 3. Every must-fail edit is named in docs/STATEMENTS.md, beside what it speaks for.
@@ -21,7 +20,6 @@ CRATES = pathlib.Path("crates")
 PAGES = ["*/proofs/Promises.antt", "statements/proofs/*.antt", "sums/proofs/*.antt"] + [
     f"demands/proofs/{page}.antt" for page in "Numbers Answers Accepted Slots PastRooms Exports Codeword Wordings Matrix Filling Encoder Release".split()
 ]
-LIBRARY = {"octets"}
 WORD = re.compile(r"[^\s(){}\[\],;.→λ]+")
 IMPORT = re.compile(r"^(?:ghost )?use Rattle\.(\w+)\.specs\.([\w.]+?)(?:\.TheVariants)?\.\{([^}]*)\}", re.M)
 ALIAS = re.compile(r"^(?:ghost )?use Rattle\.(\w+)\.specs\.([\w.]+?)(?:\.TheVariants)? as (\S+?);?$", re.M)
@@ -120,7 +118,7 @@ def check_contracts():
     passed = failed = 0
     for crate in sorted(CRATES.iterdir()):
         for path, _, name, head in public_functions(crate):
-            wrong = faults(head) if crate.name not in LIBRARY else []
+            wrong = faults(head)
             passed, failed = (passed, failed + 1) if wrong else (passed + 1, failed)
             if wrong:
                 print(f"{path}: {name}: {', '.join(wrong)}")

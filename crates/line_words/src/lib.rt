@@ -30,7 +30,7 @@ fn word_end(line: &[u8], from: usize) -> usize
     ensures value { result ≡ blank_from line.now from }
     ensures upper_bound { result ≤ length line.now }
 {
-    octets::find(line, from, line.len(), BLANK)
+    octets::find(line, from, BLANK)
 }
 
 // Where word i starts: past the line's end where the line has fewer words.

@@ -10,7 +10,7 @@ use native.Mathlib.Omega.{arith}
 use lib.Dec.{ltb, lit<}
 use lib.ListN.{length, length-append}
 use borrow.Author.Tests.{ltb-true, ltb-false}
-use Rattle.octets.specs.Digits.{last_digits, hex_digit_ascii, IsDigitCount}
+use Rattle.lines.specs.Digits.{last_digits, hex_digit_ascii, IsDigitCount}
 use Rattle.lines.specs.Row.{places_in, decimal_of}
 
 pub length_digits : (b k n : ℕ) → length (last_digits b k n) ≡ k

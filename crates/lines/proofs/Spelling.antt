@@ -11,7 +11,7 @@ use lib.Dec.{leb, ltb, eqb, lit<}
 use lib.Arith.{mod-mul}
 use lib.ListN.{length}
 use borrow.Author.Tests.{leb-true, le-leb, ltb-true, ltb-false, lt-ltb, eq-eqb, ne_eqb, eqb-false}
-use Rattle.octets.specs.Digits.{last_digits, hex_digit_ascii, IsDigitCount}
+use Rattle.lines.specs.Digits.{last_digits, hex_digit_ascii, IsDigitCount}
 use Rattle.lines.specs.declared.Line.TheVariants.{Read, Unreadable}
 use Rattle.lines.specs.Line.{is_digit, read_on, too_long, leading_zero, line_of}
 use Rattle.lines.specs.Row.{places_in, decimal_of}

@@ -1,7 +1,7 @@
 -- The row that answers a line: tab-parted fields and a newline (01, "The sizes program").
 -- Assumes nothing.
 use Rattle.std.specs.Prelude.{true, false, List, [], ◌∷◌, ◌++◌, map, ℕ, zero, suc, ◌/◌, ltb}
-use Rattle.octets.specs.Digits.{last_digits}
+use Rattle.lines.specs.Digits.{last_digits}
 use Rattle.segmentation.specs.declared.SizesAnswer.{SizesAnswer}
 use Rattle.segmentation.specs.declared.SizesAnswer.TheVariants.{Given, Refused}
 use Rattle.segmentation.specs.Sizes.{sizes_answer, number_of, values_of}

@@ -1,7 +1,8 @@
 // Lines of decimal numbers in, tab-parted rows out: the text side of the sizes program of 01.
 #![tactic(auto)]
 
-ghost use Rattle.std.specs.Prelude.{◌≡◌, cond, ◌∷◌, [], map, ◌+◌, ◌*◌, ◌≤◌, min, length};
+ghost use Rattle.std.specs.Prelude.{◌≡◌, cond, ◌∷◌, [], map, ◌+◌, ◌*◌, ◌<◌, ◌≤◌, min, length, take, drop};
+ghost use Rattle.lines.specs.Digits.{last_digits, hex_digit_ascii, IsDigitCount};
 ghost use Rattle.lines.specs.Line.{line_of, read_on};
 ghost use Rattle.lines.specs.Numbers.{put_numbers, end_numbers};
 ghost use Rattle.lines.specs.Put.{put_over, put_at, end_at};
@@ -98,7 +99,7 @@ pub fn line_end(text: &[u8], from: usize) -> usize
     if text.len() < from {
         return from;
     }
-    octets::find(text, from, text.len(), NEWLINE)
+    octets::find(text, from, NEWLINE)
 }
 
 // The start of the next line, or the text's end. A text's last line may lack its newline.
@@ -131,8 +132,56 @@ pub fn put_decimal(n: usize, out: &mut [u8], at: usize) -> usize
     ensures out_after { out.new ≡ put_at at (decimal_of n) out.old }
 {
     let mut digits = [0u8; 20];
-    let count = octets::decimal(n as u64, &mut digits);
+    let count = write_decimal(n as u64, &mut digits);
     put_bytes(&digits[..count], out, at)
+}
+
+// Puts n's decimal digits at the start of `out`, and tells how many there are: as few as hold n.
+fn write_decimal(n: u64, out: &mut [u8; 20]) -> usize
+    ensures room { result ≤ 20 }
+    ensures fewest { IsDigitCount 10 1 n result }
+    ensures digits { take result out.new ≡ last_digits 10 result n }
+    ensures rest { drop result out.new ≡ drop result out.old }
+{
+    let k = digit_count(n);
+    write_digits(n, k, out);
+    k
+}
+
+// How many digits n takes.
+fn digit_count(n: u64) -> usize
+    ensures { IsDigitCount 10 1 n result }
+{
+    let mut k = 1;
+    let mut rest = n / 10;
+    while rest > 0 {
+        k += 1;
+        rest /= 10;
+    }
+    k
+}
+
+// Puts the last k digits of n at the start of `out`.
+fn write_digits(n: u64, k: usize, out: &mut [u8])
+    requires { k ≤ length out.old }
+    ensures digits { take k out.new ≡ last_digits 10 k n }
+    ensures rest { drop k out.new ≡ drop k out.old }
+{
+    let mut i = k;
+    let mut rest = n;
+    while i > 0 {
+        i -= 1;
+        out[i] = digit_mark(rest % 10);
+        rest /= 10;
+    }
+}
+
+// The mark of a digit.
+fn digit_mark(digit: u64) -> u8
+    requires { digit < 10 }
+    ensures { result ≡ hex_digit_ascii digit }
+{
+    b'0' + digit as u8
 }
 
 // Puts the header of the sizes program into out as put_bytes does.

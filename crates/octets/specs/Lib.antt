@@ -1,3 +1,2 @@
 -- What the contracts of octets cite.
 pub mod Bytes
-pub mod Digits

@@ -1,4 +1,4 @@
--- `lines::line_end` meets its contract, which is that of `octets::find` on the rest of the text.
+-- `lines::line_end` meets its contract, which is that of `octets::find`.
 -- Assumes nothing.
 use mathlib.Core.Path.{sym, ◌∙◌, ap}
 use mathlib.Core.List.{List}
@@ -21,6 +21,4 @@ returns-then-text-from c =
 
 pub returns : goal.returns
 unfolding line_end
-returns c =
-    let args = c.args in
-    c.find.ensures.place ∙ ap (λ (l : List ℕ). args.from + index_of newline (drop args.from l)) (take-length args.text.now)
+returns c = c.find.ensures

@@ -4,6 +4,7 @@ use mathlib.Core.Path.{sym, ◌∙◌}
 use Prim.Native.Nat.{◌+◌}
 use native.Mathlib.Omega.{arith}
 use lib.ListN.{length}
+use Rattle.octets.proofs.Copied.{over}
 use Rattle.laws.proofs.Copied.{all_copied}
 use Rattle.laws.proofs.Parts.{put_as, length_mid}
 use Rattle.lines.specs.Put.{put_over}
@@ -20,8 +21,9 @@ pub returns : goal.returns
 unfolding put_over
 returns c =
     let args = c.args in
+    let room = length_mid args.at (args.at + length args.given.now) args.out.now (omega arith) in
     record {
       value = sym (end_fits _ _ _ (omega arith));
-      out_after = put_as args.at (args.at + length args.given.now) args.out.now (all_copied args.given.now _ c.copy.ensures.after (length_mid args.at (args.at + length args.given.now) args.out.now (omega arith) ∙ omega arith)) (omega arith)
+      out_after = put_as args.at (args.at + length args.given.now) args.out.now (all_copied args.given.now _ (over _ _ c.copy.ensures (omega (arith, room))) (room ∙ omega arith)) (omega arith)
           ∙ sym (put_fits _ _ _ (omega arith));
     }

@@ -2,9 +2,11 @@
 -- Assumes nothing.
 use mathlib.Core.Path.{◌∙◌}
 use native.Mathlib.Omega.{arith}
+use Rattle.octets.proofs.Copied.{over}
+use Rattle.std.proofs.lemmas.Grind.{common_steps}
 use Rattle.turbo.proofs.Completing.{completing}
 use Rattle.turbo.proofs.complete.Goals as goal
 
 pub returns : goal.returns
 returns c =
-    c.set_absent.ensures ∙ completing c.args.filler c.args.d.now c.args.tail c.requires (omega (arith, c.well_formed)) c.copy.ensures.after
+    c.set_absent.ensures ∙ completing c.args.filler c.args.d.now c.args.tail c.requires (omega (arith, c.well_formed)) (over _ _ c.copy.ensures (grind (arith, common_steps)))

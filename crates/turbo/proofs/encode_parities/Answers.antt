@@ -9,6 +9,7 @@ use lib.ListN.{length, drop}
 use Rattle.interleaver.specs.Place.{interleaved}
 use Rattle.interleaver.proofs.Into.{length_interleaved}
 use Rattle.interleaver.proofs.Rows.{row_keeps}
+use Rattle.octets.proofs.Copied.{over}
 use Rattle.laws.proofs.Copied.{copied}
 use Rattle.laws.proofs.Parts.{front_count}
 use Rattle.turbo.specs.Streams.{first_end, second_end}
@@ -28,7 +29,7 @@ returns c =
     let d2 = c.args.d2.now in
     let whole : length bits % 8 ≡ 0 = ap (λ (n : ℕ). n % 8) c.requires.1 ∙ (row_keeps row c.requires.0).bytes in
     let front = front_interleaved row bits d2 c.requires.0 c.requires.1 (omega arith) c.interleave.ensures in
-    let first = begun bits c.args.d1.now refl c.requires.2 (copied bits _ c.copy.ensures.after) in
+    let first = begun bits c.args.d1.now refl c.requires.2 (copied bits _ (over _ _ c.copy.ensures (omega arith))) in
     let second =
     begun (interleaved row bits) d2 (length_interleaved row bits ∙ sym c.requires.1) c.requires.3 (ap (λ (l : List ℕ). l ++ drop (length bits) d2) front) in
     let all = reached whole first second in

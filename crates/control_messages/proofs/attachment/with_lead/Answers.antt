@@ -6,6 +6,7 @@ use Prim.Native.Nat.{ℕ, ◌-◌, ◌≤◌}
 use native.Mathlib.Omega.{arith}
 use lib.ListN.{length, take, drop, length-drop}
 use lib.Seq.{length-take-le}
+use Rattle.octets.proofs.Copied.{over}
 use Rattle.laws.proofs.Copied.{copied, all_copied}
 use Rattle.laws.proofs.Parts.{front_count}
 use Rattle.control_messages.proofs.Attaching.{led_put, last_part}
@@ -17,11 +18,8 @@ as_long c led h l = rw (last_part c, length-drop, length-take-le 6 led l) (omega
 pub slice_bounds-copy-end-3 : goal.slice_bounds-copy-end-3
 slice_bounds-copy-end-3 c = front_count 6 c.args.led.now (omega arith)
 
-pub copy-requires : goal.copy-requires
-copy-requires c = omega (arith, as_long c.args.bits.now c.args.led.now c.requires.0 (omega arith))
-
 pub returns : goal.returns
 returns c =
     led_put c.args.bits.now (drop 6 c.args.led.now) _ c.requires.0
-    (all_copied _ _ c.copy.ensures.after (as_long c.args.bits.now c.args.led.now c.requires.0 (omega arith)) ∙ last_part c.args.bits.now)
-    (copied c.args.bits.now _ c.copy-2.ensures.after)
+    (all_copied _ _ (over _ _ c.copy.ensures (omega (arith, as_long c.args.bits.now c.args.led.now c.requires.0 (omega arith)))) (as_long c.args.bits.now c.args.led.now c.requires.0 (omega arith)) ∙ last_part c.args.bits.now)
+    (copied c.args.bits.now _ (over _ _ c.copy-2.ensures (omega (arith, length-drop 6 c.args.led.now))))

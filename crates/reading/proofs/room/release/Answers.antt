@@ -3,6 +3,7 @@
 use Prim.Native.Nat.{◌+◌, ◌≤◌}
 use native.Mathlib.Omega.{arith}
 use lib.ListN.{length, take}
+use Rattle.octets.proofs.Copied.{over}
 use Rattle.laws.proofs.Copied.{copied}
 use Rattle.laws.proofs.Parts.{front_count}
 use Rattle.reading.proofs.Release.{some_lacking, some_wrong_lem, wrong, right_all}
@@ -40,14 +41,10 @@ pub slice_bounds-copy-end-2 : goal.slice_bounds-copy-end-2
 slice_bounds-copy-end-2 c =
     front_count _ _ (omega (arith, long (goal.at.slice_bounds-copy-end-2 c).After-collect-heard))
 
-pub copy-requires : goal.copy-requires
-copy-requires c =
-    let whole : c.args.a ≤ length c.collect-heard.new.b = omega (arith, long (goal.at.copy-requires c).After-collect-heard) in
-    rw (← (front_count c.args.a c.collect-heard.new.b whole)) c.requires.2
-
 pub returns : goal.returns
 returns c =
     let none = c.if-heard-ne0.false in
+    let whole : c.args.a ≤ length c.collect-heard.new.b = omega (arith, long (goal.at.returns c).After-collect-heard) in
     let block = take c.args.a c.collect-heard.new.b in
     let told = right_all _ _ _ c.collect-heard.ensures.count none (c.collect-heard.ensures.right none) c.block_count.ensures c.if-heard-block_count.false _
-    c.collect-heard.ensures.sequence c.crc24a.ensures c.if-crc24a-ne0.false (omega (arith, long (goal.at.returns c).After-collect-heard)) (copied block _ c.copy.ensures.after) in record { value = told.0; out_after = told.1 }
+    c.collect-heard.ensures.sequence c.crc24a.ensures c.if-crc24a-ne0.false (omega (arith, long (goal.at.returns c).After-collect-heard)) (copied block _ (over _ _ c.copy.ensures (rw (← (front_count c.args.a c.collect-heard.new.b whole)) c.requires.2))) in record { value = told.0; out_after = told.1 }

@@ -7,6 +7,7 @@ use lib.ListN.{length, take, drop}
 use borrow.Rule.Slice.PartMut.{mid_of}
 use Rattle.laws.specs.Bits.{AreBits}
 use Rattle.laws.proofs.AreBits.{take_below, drop_below}
+use Rattle.octets.proofs.Copied.{over}
 use Rattle.laws.proofs.Copied.{all_copied}
 use Rattle.laws.proofs.Parts.{length_mid, front_count}
 use Rattle.slots.proofs.Meeting.{known_bit}
@@ -30,13 +31,10 @@ known_after js bits ring h g e = rw e (known_along (take (length bits) js) bits 
 first : (c : After-copy) → let e = c.args in c.copy.new.to ≡ take (length e.ring.now) e.bits.now
 first c =
     let n = length c.args.ring.now in
-    all_copied (take n c.args.bits.now) _ c.copy.ensures.after (front_count n c.args.bits.now c.requires.1)
+    all_copied (take n c.args.bits.now) _ (over _ _ c.copy.ensures (omega (arith, front_count n c.args.bits.now c.requires.1))) (front_count n c.args.bits.now c.requires.1)
 
 pub slice_bounds-copy-end : goal.slice_bounds-copy-end
 slice_bounds-copy-end c = front_count _ c.args.bits.now c.requires.1
-
-pub copy-requires : goal.copy-requires
-copy-requires c = omega (arith, front_count (length c.args.ring.now) c.args.bits.now c.requires.1)
 
 pub loop-i-init : goal.loop-i-init
 loop-i-init c =

@@ -6,6 +6,7 @@ use Prim.Native.Nat.{ℕ, ◌+◌, ◌-◌, ◌≤◌}
 use native.Mathlib.Omega.{arith}
 use lib.ListN.{length}
 use borrow.Rule.Slice.PartMut.{mid_of}
+use Rattle.octets.proofs.Copied.{over}
 use Rattle.laws.proofs.Copied.{copied}
 use Rattle.laws.proofs.Parts.{length_mid}
 use Rattle.segmentation.specs.Into.{filled_with}
@@ -29,19 +30,17 @@ slice_bounds-copy-count-2 c = omega (arith, room (goal.at.slice_bounds-copy-coun
 pub slice_bounds-copy-start-2 : goal.slice_bounds-copy-start-2
 slice_bounds-copy-start-2 c = omega (arith, room (goal.at.slice_bounds-copy-start-2 c).After-fill)
 
-pub copy-requires : goal.copy-requires
-copy-requires c =
-    let a = c.args in
-    let place = a.zeros + (c.least-b.result - c.least-a.result) in
-    let put = c.fill.new.c in
-    rw (length_mid (a.from - c.least-a.result) (a.to - c.least-b.result) a.second.now (parted (goal.at.copy-requires c).After-least-b).second_end_lem, length_mid place (length put) put (omega arith))
-    (behind _ place (length put) (room (goal.at.copy-requires c).After-fill))
-
 pub returns : goal.returns
 returns c =
     let a = c.args in
     let x = mid_of c.least-a.result (c.least-b.result - c.least-a.result) a.first.now in
     let y = mid_of (a.from - c.least-a.result) (a.to - c.least-b.result - (a.from - c.least-a.result)) a.second.now in
     let long = length_mid c.least-a.result c.least-b.result a.first.now (parted (goal.at.returns c).After-least-b).first_end_lem in
-    filled_both a.zeros x y a.c.now (ap (λ (n : ℕ). a.zeros + n) (sym long)) c.fill.ensures (copied y _ c.copy.ensures.after)
+    let place = a.zeros + (c.least-b.result - c.least-a.result) in
+    let put = c.fill.new.c in
+    let room_for : length y ≤ length (mid_of place (length put - place) put) =
+    rw (length_mid (a.from - c.least-a.result) (a.to - c.least-b.result) a.second.now (parted (goal.at.returns c).After-least-b).second_end_lem, length_mid place (length put) put (omega arith))
+    (behind _ place (length put) (room (goal.at.returns c).After-fill))
+    in
+    filled_both a.zeros x y a.c.now (ap (λ (n : ℕ). a.zeros + n) (sym long)) c.fill.ensures (copied y _ (over _ _ c.copy.ensures room_for))
     ∙ ap (λ (l : List ℕ). filled_with a.zeros l a.c.now) (parted (goal.at.returns c).After-least-b).joined

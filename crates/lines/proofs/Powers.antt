@@ -1,10 +1,10 @@
--- What the proofs of `digit_count` and `decimal` want of powers of a base.
+-- What the proofs of `digit_count` and `write_decimal` want of powers of a base.
 use Prim.Native.Nat.{ℕ, ◌+◌, ◌-◌, ◌*◌, ◌/◌, ◌^◌, ◌≤◌, ◌<◌}
 use native.Mathlib.Nat.{le_trans, le_of_suc-le-suc, mul-le-mul_right, mul-div-le, one-mul, pow-zero, pow-suc, one-le-pow, pow-le-pow_right, div-div-eq-div-mul, le-div_iff_mul-le, div-lt_iff_lt-mul, lt_of_not-le}
 use native.Mathlib.Numerals.{add-one}
 use native.Mathlib.Omega.{arith}
 use mathlib.Core.Path.{◌≡◌, sym, ap, subst, ◌∙◌}
-use Rattle.octets.specs.Digits.{IsDigitCount}
+use Rattle.lines.specs.Digits.{IsDigitCount}
 
 pub two-mul-div-le : (n b : ℕ) → 1 < b → 2 * (n / b) ≤ n
 two-mul-div-le n b h = le_trans (mul-le-mul_right (n / b) h) (mul-div-le n b)

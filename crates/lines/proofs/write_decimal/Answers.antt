@@ -1,8 +1,8 @@
 -- Twenty digits hold a u64.
 use Rattle.std.proofs.Common.{◌≤◌, arith}
-use Rattle.octets.proofs.Powers.{digit_count_le}
-use Rattle.octets.proofs.decimal.Goals as goal
-use Rattle.octets.proofs.decimal.Goals.{After-digit_count-k}
+use Rattle.lines.proofs.Powers.{digit_count_le}
+use Rattle.lines.proofs.write_decimal.Goals as goal
+use Rattle.lines.proofs.write_decimal.Goals.{After-digit_count-k}
 
 count_fits : (c : goal.After-digit_count-k) → c.digit_count-k.result ≤ 20
 count_fits c = digit_count_le 10 1 c.args.n c.digit_count-k.result 20 (omega arith) c.digit_count-k.ensures (omega arith) (omega arith)

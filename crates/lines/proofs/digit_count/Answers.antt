@@ -1,7 +1,7 @@
 -- What is left after k digits is below a tenth of what was left before.
 use Rattle.std.proofs.Common.{ℕ, ◌/◌, ◌∙◌, ap, arith}
-use Rattle.octets.proofs.Powers.{two-mul-div-le, div-pow-one, div-pow-div, pow-le_of_div_pos, lt-pow_of_div-zero}
-use Rattle.octets.proofs.digit_count.Goals as goal
+use Rattle.lines.proofs.Powers.{two-mul-div-le, div-pow-one, div-pow-div, pow-le_of_div_pos, lt-pow_of_div-zero}
+use Rattle.lines.proofs.digit_count.Goals as goal
 
 pub loop-rest-init : goal.loop-rest-init
 loop-rest-init c =

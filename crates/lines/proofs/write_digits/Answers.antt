@@ -6,8 +6,8 @@ use lib.ListN.{length, take, drop, set, length-set}
 use lib.Seq.{slice, slice_empty, length-take-le, take-set-lt, drop-set-lt, append_snoc}
 use native.Mathlib.Nat.{le_refl, le_of_suc-le-suc, not-suc-le-zero}
 use native.Mathlib.Numerals.{sub-one}
-use Rattle.octets.specs.Digits.{hex_digit_ascii, last_digits}
-use Rattle.octets.proofs.write_digits.Goals as goal
+use Rattle.lines.specs.Digits.{hex_digit_ascii, last_digits}
+use Rattle.lines.proofs.write_digits.Goals as goal
 
 -- after a store at j, the list from j on begins with what was stored
 drop-set : (t : List ℕ) (j g : ℕ) → j < length t → drop j (set t j g) ≡ g ∷ drop (suc j) t

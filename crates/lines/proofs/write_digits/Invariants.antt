@@ -4,8 +4,8 @@ use mathlib.Core.List.{◌++◌}
 use Prim.Native.Nat.{◌≤◌}
 use lib.ListN.{length, drop}
 use lib.Seq.{slice}
-use Rattle.octets.specs.Digits.{last_digits}
-use Rattle.octets.proofs.write_digits.Given as goal
+use Rattle.lines.specs.Digits.{last_digits}
+use Rattle.lines.proofs.write_digits.Given as goal
 
 abbrev pub invariant-loop-i : goal.invariant-loop-i
 invariant-loop-i l = (length l.out ≡ length l.initial.out) × (l.i ≤ l.k) × (last_digits 10 l.i l.rest ++ slice l.i l.k l.out ≡ last_digits 10 l.k l.n) × (drop l.k l.out ≡ drop l.k l.initial.out)
