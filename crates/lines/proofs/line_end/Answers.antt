@@ -1,14 +1,11 @@
 -- `lines::line_end` meets its contract, which is that of `octets::find`.
 -- Assumes nothing.
-use mathlib.Core.Path.{sym, ◌∙◌, ap}
-use mathlib.Core.List.{List}
-use Prim.Native.Nat.{ℕ, ◌+◌, ◌≤◌}
+use mathlib.Core.Path.{sym}
+use Prim.Native.Nat.{◌≤◌}
 use native.Mathlib.Nat.{add-zero}
 use native.Mathlib.Omega.{arith}
-use lib.ListN.{length, drop, drop_of_length-le}
-use lib.Seq.{take-length}
+use lib.ListN.{length, drop_of_length-le}
 use Rattle.octets.specs.Bytes.{index_of}
-use Rattle.lines.specs.Row.{newline}
 use Rattle.lines.specs.Text.{line_end}
 use Rattle.lines.proofs.line_end.Goals as goal
 

@@ -1,5 +1,5 @@
 -- The two cases of the definition, by the test of the room.
-use Rattle.std.proofs.Common.{length, drop, ◌++◌, List, ℕ, ap, ◌∙◌}
+use Rattle.std.proofs.Common.{length}
 use borrow.Author.Tests.{le-leb, lt-leb}
 use Rattle.octets.specs.Bytes.{copied_over}
 use Rattle.octets.proofs.copy.Goals as goal
