@@ -1,5 +1,5 @@
--- What `octets::copy` leaves: the source w over the front of the destination, and w alone where both are as long.
--- In a proof: `copied w _ c.copy.ensures.after`.
+-- What a source w that was put over the front of a list leaves (`octets::copy`, where it has room): w and what stood behind it, and w alone where both are as long.
+-- In an answer: `copied w _ (over _ _ c.copy.ensures (the room))`, with `over` of octets/proofs/Copied.
 -- Assumes nothing.
 use mathlib.Core.Path.{◌≡◌, ◌∙◌}
 use mathlib.Core.List.{List, ◌++◌, append-nil}

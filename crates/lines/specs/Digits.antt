@@ -1,4 +1,4 @@
--- A number as its digits.
+-- A number as its digits, the most significant first.
 use Rattle.std.specs.Prelude.{ℕ, zero, suc, ◌+◌, ◌-◌, ◌/◌, ◌%◌, ◌^◌, ◌<◌, ◌≤◌, cond, List, [], ◌∷◌, ◌++◌, nat_lt}
 
 -- the ASCII code of a digit below 16: `0` to `9`, then `a` to `f`
