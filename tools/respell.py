@@ -6,8 +6,8 @@ usage: python3 tools/respell.py [--dry] [--list]     at the top of the repositor
 --dry writes nothing; --list prints, for each crate, the names of specs/ that turn, and then only the other names whose new spelling is not plain.
 
 A name of specs/ or proofs/ that begins with a small letter and has a hump or a dash gets underscores: putFirst is put_first, first-append is first_append. Types, modules, what is
-imported from the libraries, and what Rattle makes (tie.., and the steps of c in a Proof.antt) stay. Where two names would fall together, or a new name is spelled like another
-token of a file that uses it, OTHER says what the second is called.
+imported from the libraries, and what Rattle makes (tie.., and the steps of c in a Proof.antt) stay. Where two names would fall together, or a new name is spelled like
+another token of a file that uses it, the second ends in _lem, as a lemma does that would have its function's name; PLAIN and MOVED say where that is not so.
 """
 
 import collections
