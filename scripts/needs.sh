@@ -32,7 +32,8 @@ exports=(face_c slot_face_c)
 replay=crates/replay/out/replay
 sizes=crates/sizes/out/sizes
 library_of() {
-    printf 'crates/%s/out/lib%s.a' "$1" "$1"
+    # NAME_c's archive has the name that C programs know, libNAME.a
+    printf 'target/staticlib/lib%s.a' "${1%_c}"
 }
 
 # built FILE..: ends where one is missing.

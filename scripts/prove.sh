@@ -1,6 +1,6 @@
 # Sourced after needs.sh: prove NAME.. proves and builds these crates and what they depend on, the lowest first, with one line for each
-# as it is done; all that the prover says is in target/proving.log. A program stays as crates/NAME/out/NAME, a static library as
-# crates/NAME/out/libNAME.a.
+# as it is done; all that the prover says is in target/proving.log. A program stays as crates/NAME/out/NAME, the archive of a static
+# library NAME_c as target/staticlib/libNAME.a.
 
 # crates_under NAME..: these crates of the repository and all that they depend on, each after those that it depends on.
 crates_under() {
@@ -25,7 +25,8 @@ build() {
         rm -f "crates/$1/out/$1"
         (cd "crates/$1" && rt run < /dev/null) && [ -x "crates/$1/out/$1" ]
     else
-        (cd "crates/$1" && rt lib)
+        (cd "crates/$1" && rt lib) || return 1
+        [ ! -e "crates/$1/out/lib$1.a" ] || { mkdir -p target/staticlib && cp "crates/$1/out/lib$1.a" "$(library_of "$1")"; }
     fi
 }
 
