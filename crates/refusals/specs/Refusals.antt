@@ -1,6 +1,39 @@
--- Refusals in order, of the rules paper's "Numbers given back": the first that applies is given, and none where none applies.
+-- Refusals and their numbers, of the rules paper's "Numbers given back", and refusals in order: the first that applies is given, and none where none applies.
 -- Assumes nothing.
 use Rattle.std.specs.Prelude.{Bool, true, false, cond, List, [], ◌∷◌, ℕ, eqb}
+use Rattle.std.specs.declared.result.Result.{Result}
+use Rattle.std.specs.declared.result.Result.TheVariants.{Ok, Err}
+use Rattle.refusals.specs.declared.Refusal.{Refusal}
+use Rattle.refusals.specs.declared.Refusal.TheVariants.{BadLength, BadBit, BadAllocation, BadVersion, TooShort, NoSlot, OpenAlready, Closed, OtherTerminal, TooManyBlocks, Lacking, WrongCheck, BadState, NoCodeBlock, Unreadable, WrongCodeBlock, BadReport, BadControl, Tied, BadPayload, BadReceiver}
+
+-- the number of a refusal
+abbrev pub number_of : Refusal → ℕ
+number_of BadLength = 1
+number_of BadBit = 2
+number_of BadAllocation = 3
+number_of BadVersion = 4
+number_of TooShort = 5
+number_of NoSlot = 6
+number_of OpenAlready = 7
+number_of Closed = 8
+number_of OtherTerminal = 9
+number_of TooManyBlocks = 10
+number_of (Lacking places) = 11
+number_of WrongCheck = 12
+number_of BadState = 13
+number_of NoCodeBlock = 14
+number_of Unreadable = 15
+number_of (WrongCodeBlock block) = 16
+number_of BadReport = 17
+number_of BadControl = 18
+number_of Tied = 19
+number_of BadPayload = 20
+number_of BadReceiver = 21
+
+-- the number given back with an answer: 0 where the call is accepted
+abbrev pub number_in : {A : Type 0} → Result A Refusal → ℕ
+number_in (Ok given) = 0
+number_in (Err refusal) = number_of refusal
 
 -- a refusal: when it applies, and the number given back then
 pub record Rule : Type 0 where
