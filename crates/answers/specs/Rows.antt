@@ -2,8 +2,8 @@
 -- Assumes nothing.
 use Rattle.std.specs.Prelude.{List, [], ◌∷◌, map, ℕ, ◌+◌, ◌%◌}
 use Rattle.lines.specs.Row.{decimal_of, row_of, refused}
-use Rattle.slots.specs.declared.Answer.{Answer}
-use Rattle.slots.specs.declared.Answer.TheVariants.{Done, StillLacking, Refused, RefusedWith}
+use Rattle.slots.specs.Outcome.{Answer}
+use Rattle.slots.specs.Outcome.{Done, StillLacking, Refused, RefusedWith}
 use Rattle.slots.specs.Answers.{number_of, values_of}
 
 -- `ok`

@@ -16,8 +16,8 @@ use Rattle.slots.specs.declared.State.{State}
 use Rattle.slots.specs.State.{head_at}
 use Rattle.slots.proofs.HeadLaws.{open_size}
 use Rattle.reading.proofs.Blocks.{size_told}
-use Rattle.slots.specs.declared.Outcome.{Outcome}
-use Rattle.slots.specs.declared.Answer.TheVariants.{Done, Refused}
+use Rattle.slots.specs.Outcome.{Outcome}
+use Rattle.slots.specs.Outcome.{Done, Refused}
 use Rattle.slots.specs.Answers.{is_done, unless_refused}
 use Rattle.laws.proofs.Tab.{length_tab}
 use Rattle.segmentation.specs.Segmentation.{blocks}

@@ -9,7 +9,7 @@ use Rattle.codeword.specs.Codeword.{codeword, codeword_in}
 use Rattle.codeword.specs.Build.{build_number}
 use Rattle.codeword.specs.Downlink.{build_down_number}
 use Rattle.slots.specs.declared.State.{State}
-use Rattle.slots.specs.declared.Outcome.{Outcome}
+use Rattle.slots.specs.Outcome.{Outcome}
 use Rattle.slots.specs.Answers.{is_done}
 use Rattle.slots.specs.Room.{room_at, circle_at}
 use Rattle.slots.specs.Circle.{stream_on}

@@ -13,9 +13,9 @@ use Rattle.laws.specs.Bits.{AreBits}
 use Rattle.refusals.specs.Refusals.{first_of}
 use Rattle.segmentation.specs.Segmentation.{blocks, size_of}
 use Rattle.codeword.specs.Shares.{grant}
-use Rattle.slots.specs.declared.Answer.TheVariants.{Done, Refused}
+use Rattle.slots.specs.Outcome.{Done, Refused}
 use Rattle.slots.specs.declared.State.{State}
-use Rattle.slots.specs.declared.Outcome.{Outcome}
+use Rattle.slots.specs.Outcome.{Outcome}
 use Rattle.slots.specs.State.{room_length, head_at}
 use Rattle.slots.specs.Room.{room_at}
 use Rattle.slots.specs.Reading.{lacking, first_wrong, some_wrong, wrong_check, heard_answer}

@@ -8,9 +8,9 @@ use Prim.Native.Nat.{ℕ, ◌≤◌, ◌<◌}
 use lib.ListN.{length, drop, get_or, replicate, length-replicate}
 use borrow.Author.Tests.{lt-ltb, le-ltb, ne_eqb}
 use Rattle.laws.specs.Bits.{EachBelow}
-use Rattle.slots.specs.declared.Answer.{Answer}
+use Rattle.slots.specs.Outcome.{Answer}
 use Rattle.slots.specs.declared.State.{State}
-use Rattle.slots.specs.declared.Outcome.{Outcome}
+use Rattle.slots.specs.Outcome.{Outcome}
 use Rattle.slots.specs.State.{new_state}
 use Rattle.slots.specs.Answers.{number_of, values_of}
 use Rattle.slots.proofs.Refused as refusing

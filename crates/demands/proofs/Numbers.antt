@@ -18,9 +18,9 @@ use Rattle.codeword.specs.Downlink.{build_down_rules, build_down_number}
 use Rattle.planning.specs.declared.WorstAnswer.TheVariants as worst-answer
 use Rattle.planning.specs.Worst as planning
 use Rattle.slots.specs.declared.State.{State}
-use Rattle.slots.specs.declared.Outcome.{Outcome}
-use Rattle.slots.specs.declared.Answer.{Answer}
-use Rattle.slots.specs.declared.Answer.TheVariants.{Done, Refused}
+use Rattle.slots.specs.Outcome.{Outcome}
+use Rattle.slots.specs.Outcome.{Answer}
+use Rattle.slots.specs.Outcome.{Done, Refused}
 use Rattle.slots.specs.State.{room_length, store_length, head_at, bad_state}
 use Rattle.slots.specs.Room.{room_at}
 use Rattle.slots.specs.Reading.{lacking, first_wrong, some_wrong, wrong_check, heard_answer}

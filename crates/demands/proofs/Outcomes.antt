@@ -5,9 +5,9 @@ use mathlib.Core.Bool.{Bool, true, false, cond}
 use Prim.Native.Nat.{ℕ}
 use lib.Dec.{eqb}
 use borrow.Author.Tests.{eqb-true}
-use Rattle.slots.specs.declared.Answer.TheVariants.{Refused}
+use Rattle.slots.specs.Outcome.{Refused}
 use Rattle.slots.specs.declared.State.{State}
-use Rattle.slots.specs.declared.Outcome.{Outcome}
+use Rattle.slots.specs.Outcome.{Outcome}
 use Rattle.slots.specs.Answers.{number_of, unless_refused}
 
 module _ (n : ℕ) (state : State) (o : Outcome) where

@@ -20,7 +20,7 @@ use Rattle.rate_matching.specs.SoftBuffer.{soft_share, whole_share}
 use Rattle.rate_matching.specs.Places.{place_number}
 use Rattle.codeword.specs.Shares.{grant}
 use Rattle.slots.specs.declared.State.{State}
-use Rattle.slots.specs.declared.Outcome.{Outcome}
+use Rattle.slots.specs.Outcome.{Outcome}
 use Rattle.slots.specs.State.{per_block, room_length, room_start, closed_head, open_head, new_state, head_at}
 use Rattle.slots.specs.Room.{is_decided, agreeing, room_at, circle_at, with_room, cleared}
 use Rattle.slots.specs.Circle.{kept_on, shown, stream_on, streams_on}

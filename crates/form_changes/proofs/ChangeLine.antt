@@ -7,7 +7,7 @@ use Prim.Native.Nat.{ℕ}
 use lib.ListN.{length}
 use borrow.Author.Tests.{eq-eqb, ne_eqb}
 use Rattle.slots.specs.declared.State.{State}
-use Rattle.slots.specs.declared.Answer.TheVariants.{Done}
+use Rattle.slots.specs.Outcome.{Done}
 use Rattle.lines.specs.Put.{put_at, end_at}
 use Rattle.answers.specs.Rows.{answer_row, refusal_row}
 use Rattle.form_changes.specs.declared.FormStep.{FormStep}

@@ -13,8 +13,8 @@ use Rattle.laws.specs.Bits.{EachBelow}
 use Rattle.laws.proofs.Tab.{tab_ext}
 use Rattle.segmentation.specs.Segmentation.{size_of}
 use Rattle.segmentation.specs.Sizes.{bad_size}
-use Rattle.slots.specs.declared.Answer.TheVariants.{StillLacking, Refused}
-use Rattle.slots.specs.declared.Outcome.{Outcome}
+use Rattle.slots.specs.Outcome.{StillLacking, Refused}
+use Rattle.slots.specs.Outcome.{Outcome}
 use Rattle.slots.specs.declared.State.{State}
 use Rattle.slots.specs.Answers.{is_done, unless_refused}
 use Rattle.slots.specs.Room.{room_at}

@@ -9,7 +9,7 @@ use lib.Dec.{eqb}
 use lib.ListN.{length, drop}
 use borrow.Author.Tests.{ne_eqb}
 use Rattle.laws.specs.Bits.{AreBits}
-use Rattle.slots.specs.declared.Answer.TheVariants.{Done}
+use Rattle.slots.specs.Outcome.{Done}
 use Rattle.slots.specs.declared.State.{State}
 use Rattle.slots.specs.State.{head_at}
 use Rattle.slots.specs.Answers.{Lacking}

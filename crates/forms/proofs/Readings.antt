@@ -13,8 +13,8 @@ use Rattle.laws.proofs.Tab.{tab_from_ext, tab_ext, map_tab_from}
 use Rattle.check_bits.specs.CheckBits.{crc, g_crc24b}
 use Rattle.segmentation.specs.Segmentation.{check_length, blocks, size_of, filler_of}
 use Rattle.segmentation.specs.Sizes.{bad_size}
-use Rattle.slots.specs.declared.Answer.{Answer}
-use Rattle.slots.specs.declared.Answer.TheVariants.{Done, Refused}
+use Rattle.slots.specs.Outcome.{Answer}
+use Rattle.slots.specs.Outcome.{Done, Refused}
 use Rattle.slots.specs.Answers.{Lacking, WrongBlock, is_done}
 use Rattle.slots.specs.Room.{circle_at}
 use Rattle.slots.specs.Circle.{kept_on, missing, missing_on, lacking_on, heard_on, code_block_on, shown, stream_on, streams_on}

@@ -3,7 +3,7 @@
 -- Assumes nothing.
 use Rattle.std.specs.Prelude.{Bool, List, ℕ}
 use Rattle.slots.specs.declared.State.{State}
-use Rattle.slots.specs.declared.Outcome.{Outcome}
+use Rattle.slots.specs.Outcome.{Outcome}
 use Rattle.slots.specs.Calls.{read_output, streams_output}
 use Rattle.packing.specs.Store.{places_in, in_form}
 use Rattle.history.specs.Calls.{Call}

@@ -31,7 +31,7 @@ use Rattle.codeword.proofs.Shares.{share_is}
 use Rattle.codeword.specs.Build.{bad_modulation, bad_layers, bad_symbol, bad_length, bad_allocation}
 use Rattle.codeword.specs.Codeword.{block_rows, block_cut}
 use Rattle.planning.specs.Needs.{Gives}
-use Rattle.slots.specs.declared.Answer.TheVariants.{Done}
+use Rattle.slots.specs.Outcome.{Done}
 use Rattle.slots.specs.declared.State.{State}
 use Rattle.slots.specs.Reception.{block_places}
 use Rattle.slots.specs.Calls.{size_at_head, share_at_head, read_number, read_outcome, read_output}

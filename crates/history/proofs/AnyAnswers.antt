@@ -9,8 +9,8 @@ use lib.ListN.{length}
 use borrow.Author.Tests.{eq-eqb}
 use Rattle.segmentation.specs.Sizes.{bad_size}
 use Rattle.codeword.proofs.Accepted.{given_bits}
-use Rattle.slots.specs.declared.Answer.TheVariants.{StillLacking, Refused}
-use Rattle.slots.specs.declared.Outcome.{Outcome}
+use Rattle.slots.specs.Outcome.{StillLacking, Refused}
+use Rattle.slots.specs.Outcome.{Outcome}
 use Rattle.slots.specs.declared.State.{State}
 use Rattle.slots.specs.Room.{room_at}
 use Rattle.slots.specs.Reading.{checked_answer, heard_answer}

@@ -11,10 +11,10 @@ use lib.ListN.{length, get_or, drop}
 use borrow.Author.Tests.{eqb-true}
 use Rattle.segmentation.specs.Segmentation.{blocks, size_of}
 use Rattle.segmentation.specs.Sizes.{bad_size}
-use Rattle.slots.specs.declared.Answer.{Answer}
-use Rattle.slots.specs.declared.Answer.TheVariants.{StillLacking, Refused}
+use Rattle.slots.specs.Outcome.{Answer}
+use Rattle.slots.specs.Outcome.{StillLacking, Refused}
 use Rattle.slots.specs.declared.Head.{Head}
-use Rattle.slots.specs.declared.Outcome.{Outcome}
+use Rattle.slots.specs.Outcome.{Outcome}
 use Rattle.slots.specs.declared.State.{State}
 use Rattle.slots.specs.State.{store_length, closed_head, open_head, room_length, room_start, head_at, bad_state}
 use Rattle.slots.specs.Answers.{is_done, unless_refused}

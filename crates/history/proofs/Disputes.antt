@@ -9,9 +9,9 @@ use lib.Dec.{eqb}
 use lib.ListN.{length, drop}
 use borrow.Author.Tests.{eq-eqb, ne_eqb, eqb-true}
 use Rattle.segmentation.specs.Segmentation.{size_of}
-use Rattle.slots.specs.declared.Answer.TheVariants.{Done, StillLacking}
+use Rattle.slots.specs.Outcome.{Done, StillLacking}
 use Rattle.slots.specs.declared.Head.{Head}
-use Rattle.slots.specs.declared.Outcome.{Outcome}
+use Rattle.slots.specs.Outcome.{Outcome}
 use Rattle.slots.specs.declared.State.{State}
 use Rattle.slots.specs.State.{head_at}
 use Rattle.slots.specs.Room.{unheard, disputed, room_at, circle_at}

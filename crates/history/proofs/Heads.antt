@@ -8,9 +8,9 @@ use lib.Dec.{T, eqb}
 use lib.ListN.{length, length-set}
 use borrow.Author.Tests.{eqb-true, eqb-false}
 use Rattle.refusals.specs.Refusals.{Rule, rule, first_of}
-use Rattle.slots.specs.declared.Answer.TheVariants.{Done, Refused}
+use Rattle.slots.specs.Outcome.{Done, Refused}
 use Rattle.slots.specs.declared.Head.{Head}
-use Rattle.slots.specs.declared.Outcome.{Outcome}
+use Rattle.slots.specs.Outcome.{Outcome}
 use Rattle.slots.specs.declared.State.{State}
 use Rattle.slots.specs.State.{closed_head, open_head, new_state, broken, bad_shape, bad_state}
 use Rattle.slots.specs.Answers.{number_of, Lacking, WrongBlock, unless_refused}

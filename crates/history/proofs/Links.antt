@@ -10,7 +10,7 @@ use lib.ListN.{length}
 use Rattle.segmentation.specs.Segmentation.{blocks}
 use Rattle.segmentation.specs.Sizes.{bad_size}
 use Rattle.codeword.specs.Downlink.{too_short}
-use Rattle.slots.specs.declared.Answer.TheVariants.{Done}
+use Rattle.slots.specs.Outcome.{Done}
 use Rattle.slots.specs.declared.State.{State}
 use Rattle.slots.specs.State.{open_head}
 use Rattle.slots.specs.Room.{cleared}

@@ -10,9 +10,9 @@ use lib.Dec.{eqb}
 use lib.ListN.{length}
 use borrow.Author.Tests.{eq-eqb, eqb-true, lt-ltb, le-ltb}
 use Rattle.refusals.specs.Refusals.{first_of}
-use Rattle.slots.specs.declared.Answer.TheVariants.{Done, Refused}
+use Rattle.slots.specs.Outcome.{Done, Refused}
 use Rattle.slots.specs.declared.Head.{Head}
-use Rattle.slots.specs.declared.Outcome.{Outcome}
+use Rattle.slots.specs.Outcome.{Outcome}
 use Rattle.slots.specs.declared.State.{State}
 use Rattle.slots.specs.State.{store_length, room_length, closed_head, open_head, new_state, head_at, bad_shape, bad_state}
 use Rattle.slots.specs.Answers.{unless_refused}

@@ -13,7 +13,7 @@ use Rattle.segmentation.specs.Segmentation.{blocks, size_of}
 use Rattle.segmentation.specs.Sizes.{bad_size}
 use Rattle.rate_matching.specs.SoftBuffer.{whole_share}
 use Rattle.codeword.specs.Build.{bad_modulation, bad_layers, bad_allocation}
-use Rattle.slots.specs.declared.Answer.TheVariants.{Done, StillLacking}
+use Rattle.slots.specs.Outcome.{Done, StillLacking}
 use Rattle.slots.specs.declared.State.{State}
 use Rattle.slots.specs.State.{head_at, bad_shape}
 use Rattle.slots.specs.Answers.{number_of, values_of, Lacking, is_done}

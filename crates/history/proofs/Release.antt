@@ -10,7 +10,7 @@ use lib.Dec.{eqb}
 use lib.ListN.{length, drop}
 use Rattle.laws.specs.Bits.{AreBits}
 use Rattle.segmentation.proofs.Segmentation.{in_range}
-use Rattle.slots.specs.declared.Answer.TheVariants.{Done, StillLacking}
+use Rattle.slots.specs.Outcome.{Done, StillLacking}
 use Rattle.slots.specs.declared.State.{State}
 use Rattle.slots.specs.Answers.{Lacking}
 use Rattle.slots.specs.State.{store_length, new_state, head_at, bad_shape, bad_state}

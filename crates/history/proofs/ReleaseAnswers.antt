@@ -9,9 +9,9 @@ use lib.ListN.{length, drop}
 use borrow.Author.Tests.{eqb-true}
 use Rattle.segmentation.specs.Sizes.{bad_size}
 use Rattle.laws.specs.Bits.{AreBits}
-use Rattle.slots.specs.declared.Answer.{Answer}
-use Rattle.slots.specs.declared.Answer.TheVariants.{Done, Refused}
-use Rattle.slots.specs.declared.Outcome.{Outcome}
+use Rattle.slots.specs.Outcome.{Answer}
+use Rattle.slots.specs.Outcome.{Done, Refused}
+use Rattle.slots.specs.Outcome.{Outcome}
 use Rattle.slots.specs.declared.State.{State}
 use Rattle.slots.specs.Room.{room_at}
 use Rattle.slots.specs.Reading.{first_wrong, some_wrong, wrong_check, heard_answer, heard_block}

@@ -27,7 +27,7 @@ use Rattle.codeword.specs.Codeword.{block_rows}
 use Rattle.codeword.proofs.Accepted.{allocated}
 use Rattle.planning.specs.Needs.{quarter, whole, need_of_three, need_of_one}
 use Rattle.planning.proofs.Promises.{three_iff, one_iff}
-use Rattle.slots.specs.declared.Answer.TheVariants.{Done}
+use Rattle.slots.specs.Outcome.{Done}
 use Rattle.slots.specs.declared.State.{State}
 use Rattle.slots.specs.Reception.{block_places}
 use Rattle.slots.specs.Calls.{size_at_head, share_at_head, receive_number, read_number, read_outcome, read_output, close_number}

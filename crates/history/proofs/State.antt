@@ -10,9 +10,9 @@ use lib.ListN.{length, length-append, length-set}
 use lib.Seq.{length-take-le}
 use borrow.Author.Tests.{eqb-true}
 use Rattle.slots.specs.declared.State.{State}
-use Rattle.slots.specs.declared.Answer.TheVariants.{Refused}
+use Rattle.slots.specs.Outcome.{Refused}
 use Rattle.slots.specs.declared.Head.{Head}
-use Rattle.slots.specs.declared.Outcome.{Outcome}
+use Rattle.slots.specs.Outcome.{Outcome}
 use Rattle.slots.specs.State.{store_length, room_start, room_length, closed_head, open_head}
 use Rattle.slots.specs.Room.{agreeing, room_at, with_room, cleared}
 use Rattle.slots.specs.Reception.{received}

@@ -1,7 +1,7 @@
 -- What a call of a history answers, which slot it names, and what it is to say that a slot is the same in two worlds, 01 'Slots'.
 -- Assumes nothing.
 use Rattle.std.specs.Prelude.{◌≡◌, cond, List, [], ◌∷◌, ℕ, ◌<◌, eqb, length, get_or}
-use Rattle.slots.specs.declared.Answer.{Answer}
+use Rattle.slots.specs.Outcome.{Answer}
 use Rattle.slots.specs.declared.State.{State}
 use Rattle.slots.specs.State.{room_length, head_at, bad_state}
 use Rattle.slots.specs.Room.{room_at}

@@ -4,7 +4,7 @@ use Rattle.std.specs.Prelude.{List, ℕ, ◌+◌}
 use Rattle.segmentation.specs.Segmentation.{blocks}
 use Rattle.rate_matching.specs.SoftBuffer.{soft_share, whole_share}
 use Rattle.slots.specs.declared.State.{State}
-use Rattle.slots.specs.declared.Outcome.{Outcome}
+use Rattle.slots.specs.Outcome.{Outcome}
 use Rattle.slots.specs.Calls.{open_number, open_outcome, open_store, open_down_number, open_down_outcome, open_down_store}
 
 -- an uplink, or a downlink to a receiver with a soft buffer

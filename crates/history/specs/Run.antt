@@ -3,7 +3,7 @@
 -- Assumes nothing.
 use Rattle.std.specs.Prelude.{cond, List, [], ◌∷◌, ◌++◌, ℕ, ltb, length, take}
 use Rattle.slots.specs.declared.State.{State}
-use Rattle.slots.specs.declared.Outcome.{Outcome}
+use Rattle.slots.specs.Outcome.{Outcome}
 use Rattle.slots.specs.State.{store_length}
 use Rattle.slots.specs.Calls.{new_outcome, receive_outcome, receive_store, read_outcome, streams_outcome, close_outcome}
 use Rattle.history.specs.Links.{opening_outcome, opening_store}

@@ -3,8 +3,8 @@
 -- Assumes nothing.
 use Rattle.std.specs.Prelude.{Bool, List, ℕ, length}
 use Rattle.slots.specs.declared.State.{State}
-use Rattle.slots.specs.declared.Answer.TheVariants.{Done}
-use Rattle.slots.specs.declared.Outcome.{Outcome}
+use Rattle.slots.specs.Outcome.{Done}
+use Rattle.slots.specs.Outcome.{Outcome}
 use Rattle.slots.specs.Calls.{new_outcome, open_outcome, open_store, open_down_outcome, open_down_store, receive_outcome, receive_store, close_outcome}
 use Rattle.packing.specs.Store.{places_in, in_form}
 use Rattle.requests.specs.declared.Verb.{Verb}

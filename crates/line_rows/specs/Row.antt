@@ -4,7 +4,7 @@ use Rattle.std.specs.Prelude.{List, [], ℕ}
 use Rattle.segmentation.specs.Sizes.{sizes_answer}
 use Rattle.planning.specs.Worst.{worst_answer}
 use Rattle.codeword.specs.Shares.{grant}
-use Rattle.slots.specs.declared.Outcome.{Outcome}
+use Rattle.slots.specs.Outcome.{Outcome}
 use Rattle.requests.specs.declared.Verb.{Verb}
 use Rattle.requests.specs.declared.Verb.TheVariants.{New, Open, OpenDown, Close, Receive, Read, Streams, Build, BuildDown, Sizes, Worst, Pack, Unpack, Nothing, Unreadable}
 use Rattle.answers.specs.Rows.{answer_row, refusal_row}

@@ -14,8 +14,8 @@ use Rattle.segmentation.specs.Sizes.{bad_size}
 use Rattle.segmentation.proofs.Segmentation.{good_size}
 use Rattle.slots.specs.declared.Head.{Head}
 use Rattle.slots.specs.declared.State.{State}
-use Rattle.slots.specs.declared.Answer.{Answer}
-use Rattle.slots.specs.declared.Answer.TheVariants.{Refused}
+use Rattle.slots.specs.Outcome.{Answer}
+use Rattle.slots.specs.Outcome.{Refused}
 use Rattle.slots.specs.State.{per_block, room_length, room_start, head_at}
 use Rattle.slots.specs.Room.{room_at}
 use Rattle.slots.specs.Answers.{is_done, unless_refused}

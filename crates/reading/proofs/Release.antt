@@ -11,8 +11,8 @@ use borrow.Author.Tests.{eq-eqb, ne_eqb, lt-ltb, le-ltb}
 use Rattle.check_bits.specs.CheckBits.{crc, crc_from, g_crc24a}
 use Rattle.check_bits.proofs.Register.{from_zero}
 use Rattle.segmentation.specs.Segmentation.{blocks}
-use Rattle.slots.specs.declared.Answer.{Answer}
-use Rattle.slots.specs.declared.Answer.TheVariants.{Done, Refused}
+use Rattle.slots.specs.Outcome.{Answer}
+use Rattle.slots.specs.Outcome.{Done, Refused}
 use Rattle.slots.specs.Answers.{Lacking, WrongBlock, is_done}
 use Rattle.slots.specs.Reading.{lacking, first_wrong, some_wrong, heard_sequence, wrong_check, heard_answer, heard_block}
 use Rattle.reading.specs.inner.Room.{room_output}

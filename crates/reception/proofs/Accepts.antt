@@ -19,8 +19,8 @@ use Rattle.codeword.specs.Build.{bad_version}
 use Rattle.codeword.proofs.Accepted.{given_bits}
 use Rattle.slots.specs.declared.Head.{Head}
 use Rattle.slots.specs.declared.State.{State}
-use Rattle.slots.specs.declared.Answer.{Answer}
-use Rattle.slots.specs.declared.Answer.TheVariants.{StillLacking, Refused}
+use Rattle.slots.specs.Outcome.{Answer}
+use Rattle.slots.specs.Outcome.{StillLacking, Refused}
 use Rattle.slots.specs.State.{per_block, room_length}
 use Rattle.slots.specs.Room.{agreeing, room_at, with_room}
 use Rattle.slots.specs.Reception.{received}

@@ -10,8 +10,8 @@ use lib.ListN.{length}
 use borrow.Author.Tests.{eqb-true}
 use Rattle.segmentation.specs.Segmentation.{blocks}
 use Rattle.segmentation.specs.Sizes.{bad_size}
-use Rattle.slots.specs.declared.Answer.TheVariants.{Done, StillLacking, Refused, RefusedWith}
-use Rattle.slots.specs.declared.Outcome.{Outcome}
+use Rattle.slots.specs.Outcome.{Done, StillLacking, Refused, RefusedWith}
+use Rattle.slots.specs.Outcome.{Outcome}
 use Rattle.slots.specs.declared.State.{State}
 use Rattle.slots.specs.Answers.{number_of, values_of, Lacking, WrongBlock, unless_refused}
 use Rattle.slots.specs.Circle.{sum_from}

@@ -12,7 +12,7 @@ use lib.ListN.{length, take, drop}
 use lib.Seq.{take-append_seam}
 use borrow.Author.Tests.{le-ltb}
 use Rattle.slots.specs.declared.State.{State}
-use Rattle.slots.specs.declared.Answer.TheVariants.{Done}
+use Rattle.slots.specs.Outcome.{Done}
 use Rattle.packing.specs.Store.{places_in}
 use Rattle.lines.specs.Put.{put_over}
 use Rattle.lines.proofs.Putting.{put_fits, end_fits}

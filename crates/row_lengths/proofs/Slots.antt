@@ -13,9 +13,9 @@ use borrow.Author.Tests.{eqb-true}
 use Rattle.laws.proofs.Tab.{length_tab}
 use Rattle.segmentation.specs.Segmentation.{blocks}
 use Rattle.rate_matching.specs.SoftBuffer.{n_ir, soft_share}
-use Rattle.slots.specs.declared.Answer.TheVariants.{Refused}
+use Rattle.slots.specs.Outcome.{Refused}
 use Rattle.slots.specs.declared.Head.{Head}
-use Rattle.slots.specs.declared.Outcome.{Outcome}
+use Rattle.slots.specs.Outcome.{Outcome}
 use Rattle.slots.specs.declared.State.{State}
 use Rattle.slots.specs.State.{closed_head, open_head}
 use Rattle.slots.specs.Answers.{is_done, unless_refused}

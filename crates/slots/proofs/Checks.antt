@@ -16,9 +16,9 @@ use Rattle.check_bits.proofs.Carried.{checked, carried}
 use Rattle.segmentation.specs.Segmentation.{blocks}
 use Rattle.segmentation.specs.CodeBlocks.{with_check}
 use Rattle.segmentation.specs.Sizes.{bad_size}
-use Rattle.slots.specs.declared.Answer.{Answer}
-use Rattle.slots.specs.declared.Answer.TheVariants.{Done, Refused}
-use Rattle.slots.specs.declared.Outcome.{Outcome}
+use Rattle.slots.specs.Outcome.{Answer}
+use Rattle.slots.specs.Outcome.{Done, Refused}
+use Rattle.slots.specs.Outcome.{Outcome}
 use Rattle.slots.specs.declared.State.{State}
 use Rattle.slots.specs.Room.{room_at}
 use Rattle.slots.specs.Answers.{number_of, values_of, Lacking, WrongBlock, is_done, unless_refused}

@@ -6,8 +6,8 @@ use Prim.Native.Nat.{ℕ, ◌+◌, ◌≤◌, ◌<◌}
 use native.Mathlib.Omega.{arith}
 use lib.Dec.{eqb}
 use borrow.Author.Tests.{eqb-true}
-use Rattle.slots.specs.declared.Answer.TheVariants.{Done, Refused}
-use Rattle.slots.specs.declared.Outcome.{Outcome}
+use Rattle.slots.specs.Outcome.{Done, Refused}
+use Rattle.slots.specs.Outcome.{Outcome}
 use Rattle.slots.specs.declared.State.{State}
 use Rattle.slots.specs.State.{room_length, room_start}
 use Rattle.slots.specs.Answers.{is_done, unless_refused}

@@ -6,10 +6,10 @@ use mathlib.Core.List.{List}
 use Prim.Native.Nat.{ℕ}
 use lib.Dec.{eqb}
 use lib.ListN.{length}
-use Rattle.slots.specs.declared.Answer.{Answer}
-use Rattle.slots.specs.declared.Answer.TheVariants.{Done, StillLacking, Refused, RefusedWith}
+use Rattle.slots.specs.Outcome.{Answer}
+use Rattle.slots.specs.Outcome.{Done, StillLacking, Refused, RefusedWith}
 use Rattle.slots.specs.declared.State.{State}
-use Rattle.slots.specs.declared.Outcome.{Outcome}
+use Rattle.slots.specs.Outcome.{Outcome}
 use Rattle.slots.specs.State.{new_state}
 use Rattle.slots.specs.Answers.{number_of, is_done, unless_refused}
 use Rattle.slots.specs.Calls.{new_outcome, open_number, open_outcome, open_store, open_down_number, open_down_outcome, open_down_store, receive_number, receive_outcome, receive_store, released, read_outcome, read_output, streams_number, streams_outcome, streams_output, close_number, close_outcome}

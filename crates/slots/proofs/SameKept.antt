@@ -14,8 +14,8 @@ use Rattle.check_bits.specs.CheckBits.{crc, g_crc24a, g_crc24b}
 use Rattle.segmentation.specs.Segmentation.{check_length, blocks, size_of, filler_of}
 use Rattle.slots.specs.Room.{circle_at}
 use Rattle.slots.specs.Circle.{kept_on, missing, missing_on, lacking_on, heard_on, code_block_on, shown, stream_on, streams_on}
-use Rattle.slots.specs.declared.Answer.{Answer}
-use Rattle.slots.specs.declared.Answer.TheVariants.{Done, Refused}
+use Rattle.slots.specs.Outcome.{Answer}
+use Rattle.slots.specs.Outcome.{Done, Refused}
 use Rattle.slots.specs.Answers.{Lacking, WrongBlock}
 use Rattle.slots.specs.Reading.{lacking_in, lacking, heard_code_block, wrong_block, first_wrong, some_wrong, heard_in, heard_from, heard_sequence, wrong_check, heard_answer, heard_block, three_streams}
 use Rattle.slots.proofs.Sums.{sum_from_ext}

@@ -9,8 +9,8 @@ use Rattle.codeword.specs.Build.{bad_allocation, size_rule, version_rule, output
 use Rattle.codeword.specs.Downlink.{buffer_rule}
 use Rattle.slots.specs.declared.Head.{Head}
 use Rattle.slots.specs.declared.State.{State}
-use Rattle.slots.specs.declared.Answer.TheVariants.{Done, StillLacking}
-use Rattle.slots.specs.declared.Outcome.{Outcome}
+use Rattle.slots.specs.Outcome.{Done, StillLacking}
+use Rattle.slots.specs.Outcome.{Outcome}
 use Rattle.slots.specs.State.{store_length, closed_head, open_head, new_state, head_at, too_many, bad_shape, bad_state}
 use Rattle.slots.specs.Room.{agreeing, room_at, with_room, cleared}
 use Rattle.slots.specs.Reception.{received}

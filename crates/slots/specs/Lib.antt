@@ -1,9 +1,10 @@
-pub mod State
-pub mod Putting
-pub mod Room
-pub mod Circle
-pub mod Reception
-pub mod Reading
 pub mod Answers
 pub mod Calls
 pub mod Checks
+pub mod Circle
+pub mod Outcome
+pub mod Putting
+pub mod Reading
+pub mod Reception
+pub mod Room
+pub mod State

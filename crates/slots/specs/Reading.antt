@@ -4,8 +4,8 @@
 use Rattle.std.specs.Prelude.{Bool, cond, not, ◌&&◌, List, [], ◌++◌, ℕ, zero, suc, ◌+◌, ◌-◌, eqb, ltb, take}
 use Rattle.check_bits.specs.CheckBits.{crc, g_crc24a, g_crc24b}
 use Rattle.segmentation.specs.Segmentation.{check_length, blocks, size_of, filler_of}
-use Rattle.slots.specs.declared.Answer.{Answer}
-use Rattle.slots.specs.declared.Answer.TheVariants.{Done, Refused}
+use Rattle.slots.specs.Outcome.{Answer}
+use Rattle.slots.specs.Outcome.{Done, Refused}
 use Rattle.slots.specs.Room.{circle_at}
 use Rattle.slots.specs.Circle.{sum_from, lacking_on, heard_on, code_block_on, streams_on}
 use Rattle.slots.specs.Answers.{Lacking, WrongBlock}

@@ -1,6 +1,8 @@
 // The slots of 01: a state by value, and a store of rooms that the caller lends.
 #![tactic(auto)]
 
+use refusals::Refusal;
+
 // A slot's head: closed, or open for a terminal with a block of `size` bits (A), each code block having `share` places of the soft buffer:
 // 18,528 in an uplink, the floor of N_IR / C in a downlink, 0 in a closed head.
 #[derive(Clone, Copy)]
@@ -19,18 +21,8 @@ pub struct State {
     pub heads: [Head; 8],
 }
 
-// What a call answers.
-#[derive(Clone, Copy)]
-pub enum Answer {
-    // accepted, with nothing to tell
-    Done,
-    // an accepted reception: so many data places still lack a bit
-    StillLacking(usize),
-    // a refusal, by its number
-    Refused(u8),
-    // a refusal that brings a number: 11 how many data places lack a bit, 16 which code block is wrong
-    RefusedWith(u8, usize),
-}
+// What a call answers: accepted, and after a reception how many data places still lack a bit, or a refusal.
+pub type Answer = Result<Option<usize>, Refusal>;
 
 // An answer and the state to hand to the next call.
 #[derive(Clone, Copy)]

@@ -10,8 +10,8 @@ use lib.Dec.{eqb, ltb}
 use lib.ListN.{length, replicate}
 use Rattle.refusals.specs.Refusals.{rule, first_of}
 use Rattle.slots.specs.declared.State.{State}
-use Rattle.slots.specs.declared.Answer.TheVariants.{Done, Refused}
-use Rattle.slots.specs.declared.Outcome.{Outcome}
+use Rattle.slots.specs.Outcome.{Done, Refused}
+use Rattle.slots.specs.Outcome.{Outcome}
 use Rattle.slots.specs.State.{closed_head, new_state, bad_shape}
 use Rattle.slots.specs.Answers.{unless_refused}
 use Rattle.slots.specs.Calls.{new_outcome, open_number, open_down_number, close_number}

@@ -16,8 +16,8 @@ use Rattle.segmentation.specs.Segmentation.{blocks}
 use Rattle.rate_matching.specs.SoftBuffer.{n_ir, soft_share, whole_share}
 use Rattle.slots.specs.declared.Head.{Head}
 use Rattle.slots.specs.declared.State.{State}
-use Rattle.slots.specs.declared.Answer.TheVariants.{Done, Refused}
-use Rattle.slots.specs.declared.Outcome.{Outcome}
+use Rattle.slots.specs.Outcome.{Done, Refused}
+use Rattle.slots.specs.Outcome.{Outcome}
 use Rattle.slots.specs.State.{closed_head, open_head, new_state, head_at, bad_shape, bad_state}
 use Rattle.slots.specs.Answers.{number_of, unless_refused}
 use Rattle.slots.specs.Calls.{with_head, size_at_head, new_outcome, open_number, open_outcome, open_down_number, open_down_outcome, close_number, close_outcome}

@@ -3,8 +3,8 @@
 use Rattle.std.specs.Prelude.{cond, ◌||◌, List, [], ◌∷◌, ◌++◌, ℕ, zero, suc, ◌+◌, ◌*◌, eqb, ltb, length, take, drop, get_or}
 use Rattle.slots.specs.declared.Head.{Head}
 use Rattle.slots.specs.declared.State.{State}
-use Rattle.slots.specs.declared.Answer.{Answer}
-use Rattle.slots.specs.declared.Outcome.{Outcome}
+use Rattle.slots.specs.Outcome.{Answer}
+use Rattle.slots.specs.Outcome.{Outcome}
 use Rattle.slots.specs.State.{open_head, new_state, head_at}
 use Rattle.slots.specs.Answers.{number_of, values_of}
 use Rattle.slots.specs.Calls.{new_outcome}

@@ -10,8 +10,8 @@ use borrow.Author.Tests.{eqb-true}
 use Rattle.refusals.specs.Refusals.{Rule, rule, first_of}
 use Rattle.refusals.proofs.Refusals.{first_of_append}
 use Rattle.slots.specs.declared.State.{State}
-use Rattle.slots.specs.declared.Outcome.{Outcome}
-use Rattle.slots.specs.declared.Answer.TheVariants.{Done, Refused}
+use Rattle.slots.specs.Outcome.{Outcome}
+use Rattle.slots.specs.Outcome.{Done, Refused}
 use Rattle.slots.specs.State.{bad_shape}
 use Rattle.slots.specs.Answers.{number_of, Lacking, WrongBlock, unless_refused}
 use Rattle.slots.specs.Room.{room_at}

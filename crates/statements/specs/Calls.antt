@@ -13,7 +13,7 @@ use Rattle.face.specs.Face.{sizes_number, sizes_bytes}
 use Rattle.control_messages.specs.declared.Owner.{Owner}
 use Rattle.control_messages.specs.Calls.{control_number, control_output, whose_answer, number_of, terminal_of}
 use Rattle.slots.specs.declared.State.{State}
-use Rattle.slots.specs.declared.Outcome.{Outcome}
+use Rattle.slots.specs.Outcome.{Outcome}
 use Rattle.slots.specs.Calls.{new_outcome, open_outcome, open_store, open_down_outcome, open_down_store, receive_outcome, receive_store, read_outcome, read_output, streams_outcome, streams_output, close_outcome}
 use Rattle.packing.specs.Change.{pack_number, pack_output, unpack_number, unpack_output}
 use Rattle.packing.specs.Store.{places_in, in_form}

@@ -16,7 +16,7 @@ use Rattle.segmentation.specs.Segmentation.{blocks, size_of, filler_of}
 use Rattle.segmentation.specs.Sizes.{segments_for}
 use Rattle.slots.specs.declared.Head.{Head}
 use Rattle.slots.specs.declared.State.{State}
-use Rattle.slots.specs.declared.Answer.TheVariants.{Done, Refused}
+use Rattle.slots.specs.Outcome.{Done, Refused}
 use Rattle.slots.specs.State.{per_block, room_length, room_start, head_at}
 use Rattle.slots.specs.Room.{circle_at}
 use Rattle.slots.specs.Circle.{streams_on}

@@ -3,7 +3,7 @@
 
 ghost use Rattle.std.specs.Prelude.{◌≡◌, true, not, [], ◌∷◌, ◌++◌, ◌*◌, ◌≤◌, ltb, length, drop};
 ghost use Rattle.refusals.specs.Refusals.{rule, first_of};
-ghost use Rattle.slots.specs.declared.Answer.TheVariants.{Refused};
+ghost use Rattle.slots.specs.Outcome.{Refused};
 ghost use Rattle.slots.specs.State.{per_block};
 ghost use Rattle.slots.specs.Room.{circle_at};
 ghost use Rattle.slots.specs.Circle.{streams_on};

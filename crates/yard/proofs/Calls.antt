@@ -8,7 +8,7 @@ use Prim.Native.Nat.{ℕ, ◌%◌, ◌≤◌}
 use native.Mathlib.Omega.{arith}
 use lib.ListN.{length}
 use Rattle.slots.specs.declared.State.{State}
-use Rattle.slots.specs.declared.Outcome.{Outcome}
+use Rattle.slots.specs.Outcome.{Outcome}
 use Rattle.packing.specs.Store.{places_in}
 use Rattle.lines.specs.Put.{put_at, end_at}
 use Rattle.requests.specs.declared.Verb.{Verb}

@@ -2,7 +2,7 @@
 -- Assumes nothing.
 use mathlib.Core.Path.{ap, ◌∙◌}
 use mathlib.Core.Bool.{false}
-use Rattle.slots.specs.declared.Outcome.{Outcome}
+use Rattle.slots.specs.Outcome.{Outcome}
 use Rattle.log_input.specs.declared.Line.{Line}
 use Rattle.log_answers.specs.declared.Log.{Log}
 use Rattle.log_answers.specs.Turn.{first_log}

@@ -15,8 +15,8 @@ use Rattle.codeword.specs.Build.{bad_allocation, version_rule, bits_rule}
 use Rattle.codeword.specs.Codeword.{block_rows}
 use Rattle.slots.specs.State.{per_block, room_length, room_start}
 use Rattle.slots.specs.Putting.{put_along}
-use Rattle.slots.specs.declared.Answer.{Answer}
-use Rattle.slots.specs.declared.Answer.TheVariants.{StillLacking, Refused}
+use Rattle.slots.specs.Outcome.{Answer}
+use Rattle.slots.specs.Outcome.{StillLacking, Refused}
 use Rattle.slots.specs.Room.{agreeing, room_at, with_room}
 use Rattle.slots.specs.Reception.{received}
 use Rattle.slots.specs.Reading.{lacking}

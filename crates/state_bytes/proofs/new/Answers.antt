@@ -8,7 +8,7 @@ use borrow.Author.Tests.{lt-ltb, le-ltb}
 use lib.ListN.{drop}
 use lib.Seq.{length-take-le}
 use Rattle.laws.proofs.Parts.{front_count}
-use Rattle.slots.specs.declared.Outcome.{Outcome}
+use Rattle.slots.specs.Outcome.{Outcome}
 use Rattle.slots.specs.Answers.{number_of}
 use Rattle.state_bytes.specs.Numbers.{in_bytes}
 use Rattle.state_bytes.specs.StateBytes.{state_bytes, new_number, new_bytes}

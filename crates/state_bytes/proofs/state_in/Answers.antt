@@ -3,7 +3,7 @@
 use mathlib.Core.Path.{ap}
 use borrow.Author.Tests.{lt-ltb}
 use Rattle.refusals.specs.Refusals.{first_of}
-use Rattle.slots.specs.declared.Outcome.{Outcome}
+use Rattle.slots.specs.Outcome.{Outcome}
 use Rattle.slots.specs.State.{bad_shape}
 use Rattle.slots.specs.Answers.{unless_refused}
 use Rattle.slots.specs.Calls.{new_outcome}

@@ -6,7 +6,7 @@ use Prim.Native.Nat.{ℕ}
 use borrow.Author.Tests.{eqb-true}
 use lib.Dec.{eqb}
 use lib.ListN.{length}
-use Rattle.slots.specs.declared.Outcome.{Outcome}
+use Rattle.slots.specs.Outcome.{Outcome}
 use Rattle.slots.specs.Answers.{is_done}
 use Rattle.slots.specs.Calls.{open_number, open_outcome, open_store}
 use Rattle.slots.proofs.Done.{open_told, open_stored, room_there}

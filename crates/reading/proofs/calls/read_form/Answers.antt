@@ -4,7 +4,7 @@ use mathlib.Core.Path.{◌≡◌, ap}
 use Prim.Native.Nat.{◌+◌, ◌*◌, ◌≤◌}
 use native.Mathlib.Omega.{arith}
 use lib.ListN.{length}
-use Rattle.slots.specs.declared.Outcome.{Outcome}
+use Rattle.slots.specs.Outcome.{Outcome}
 use Rattle.slots.specs.Calls.{read_number}
 use Rattle.slot_calls.proofs.OwnerParts.{owner_number, owner_head}
 use Rattle.packing.specs.Store.{places_in}

@@ -4,7 +4,7 @@ use mathlib.Core.Path.{◌≡◌, sym, ◌∙◌, ap}
 use borrow.Author.Tests.{eqb-true}
 use lib.Dec.{eqb}
 use lib.ListN.{length}
-use Rattle.slots.specs.declared.Outcome.{Outcome}
+use Rattle.slots.specs.Outcome.{Outcome}
 use Rattle.slots.specs.Answers.{is_done}
 use Rattle.slots.specs.Calls.{open_down_number, open_down_store}
 use Rattle.slots.proofs.Done.{down_told, down_stored, room_there}
