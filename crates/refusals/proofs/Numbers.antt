@@ -4,7 +4,7 @@ use mathlib.Core.Path.{◌≡◌, refl}
 use mathlib.Core.Bool.{false}
 use lib.Dec.{eqb}
 use Rattle.refusals.specs.declared.Refusal.{Refusal}
-use Rattle.refusals.specs.declared.Refusal.TheVariants.{BadLength, BadBit, BadAllocation, BadVersion, TooShort, NoSlot, OpenAlready, Closed, OtherTerminal, TooManyBlocks, Lacking, WrongCheck, BadState, NoCodeBlock, Unreadable, WrongCodeBlock, BadReport, BadControl, Tied, BadPayload, BadReceiver}
+use Rattle.refusals.specs.declared.Refusal.TheVariants.{BadLength, BadBit, BadAllocation, BadVersion, TooShort, NoSlot, OpenAlready, Closed, OtherTerminal, TooManyBlocks, WrongCheck, BadState, NoCodeBlock, Unreadable, BadReport, BadControl, Tied, BadPayload, BadReceiver}
 use Rattle.refusals.specs.Refusals.{number_of}
 
 -- no refusal has the number 0
@@ -19,12 +19,10 @@ refusal_ne0 OpenAlready = refl
 refusal_ne0 Closed = refl
 refusal_ne0 OtherTerminal = refl
 refusal_ne0 TooManyBlocks = refl
-refusal_ne0 (Lacking places) = refl
 refusal_ne0 WrongCheck = refl
 refusal_ne0 BadState = refl
 refusal_ne0 NoCodeBlock = refl
 refusal_ne0 Unreadable = refl
-refusal_ne0 (WrongCodeBlock block) = refl
 refusal_ne0 BadReport = refl
 refusal_ne0 BadControl = refl
 refusal_ne0 Tied = refl

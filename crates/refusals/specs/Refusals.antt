@@ -1,14 +1,12 @@
 -- Refusals and their numbers, of the rules paper's "Numbers given back", and refusals in order: the first that applies is given, and none where none applies.
 -- Assumes nothing.
 use Rattle.std.specs.Prelude.{Bool, true, false, cond, List, [], ◌∷◌, ℕ, eqb}
-use Rattle.std.specs.declared.option.Option.{Option}
-use Rattle.std.specs.declared.option.Option.TheVariants.{None, Some}
 use Rattle.std.specs.declared.result.Result.{Result}
 use Rattle.std.specs.declared.result.Result.TheVariants.{Ok, Err}
 use Rattle.refusals.specs.declared.Refusal.{Refusal}
-use Rattle.refusals.specs.declared.Refusal.TheVariants.{BadLength, BadBit, BadAllocation, BadVersion, TooShort, NoSlot, OpenAlready, Closed, OtherTerminal, TooManyBlocks, Lacking, WrongCheck, BadState, NoCodeBlock, Unreadable, WrongCodeBlock, BadReport, BadControl, Tied, BadPayload, BadReceiver}
+use Rattle.refusals.specs.declared.Refusal.TheVariants.{BadLength, BadBit, BadAllocation, BadVersion, TooShort, NoSlot, OpenAlready, Closed, OtherTerminal, TooManyBlocks, WrongCheck, BadState, NoCodeBlock, Unreadable, BadReport, BadControl, Tied, BadPayload, BadReceiver}
 
--- the number of a refusal
+-- the number of a refusal that brings none with it: all but 11 and 16
 abbrev pub number_of : Refusal → ℕ
 number_of BadLength = 1
 number_of BadBit = 2
@@ -20,41 +18,15 @@ number_of OpenAlready = 7
 number_of Closed = 8
 number_of OtherTerminal = 9
 number_of TooManyBlocks = 10
-number_of (Lacking places) = 11
 number_of WrongCheck = 12
 number_of BadState = 13
 number_of NoCodeBlock = 14
 number_of Unreadable = 15
-number_of (WrongCodeBlock block) = 16
 number_of BadReport = 17
 number_of BadControl = 18
 number_of Tied = 19
 number_of BadPayload = 20
 number_of BadReceiver = 21
-
--- the number that a refusal brings: how many data places lack a bit, or which code block is wrong
-abbrev pub value_of : Refusal → Option ℕ
-value_of BadLength = None
-value_of BadBit = None
-value_of BadAllocation = None
-value_of BadVersion = None
-value_of TooShort = None
-value_of NoSlot = None
-value_of OpenAlready = None
-value_of Closed = None
-value_of OtherTerminal = None
-value_of TooManyBlocks = None
-value_of (Lacking places) = Some places
-value_of WrongCheck = None
-value_of BadState = None
-value_of NoCodeBlock = None
-value_of Unreadable = None
-value_of (WrongCodeBlock block) = Some block
-value_of BadReport = None
-value_of BadControl = None
-value_of Tied = None
-value_of BadPayload = None
-value_of BadReceiver = None
 
 -- the number given back with an answer: 0 where the call is accepted
 abbrev pub number_in : {A : Type 0} → Result A Refusal → ℕ

@@ -4,7 +4,7 @@
 ghost use Rattle.std.specs.Prelude.{◌≡◌, cond};
 ghost use Rattle.refusals.specs.Refusals.{or_else, number_of, number_in};
 
-// A refusal, in the order of the numbers from 1 on.
+// A refusal, in the order of the numbers. (11 and 16, which bring a number with them, are those of the slots.)
 #[derive(Clone, Copy)]
 pub enum Refusal {
     // the block's length A is out of range
@@ -22,16 +22,12 @@ pub enum Refusal {
     OtherTerminal,
     // A needs more code blocks than a slot has
     TooManyBlocks,
-    // so many data places lack a bit
-    Lacking(usize),
     // the transport check is wrong
     WrongCheck,
     BadState,
     NoCodeBlock,
     // a program's line can't be read
     Unreadable,
-    // the check of this code block is the first that is wrong
-    WrongCodeBlock(usize),
     BadReport,
     BadControl,
     // two or more reports are as near as each other
@@ -55,12 +51,10 @@ impl From<Refusal> for u8 {
             Refusal::Closed => 8,
             Refusal::OtherTerminal => 9,
             Refusal::TooManyBlocks => 10,
-            Refusal::Lacking(_) => 11,
             Refusal::WrongCheck => 12,
             Refusal::BadState => 13,
             Refusal::NoCodeBlock => 14,
             Refusal::Unreadable => 15,
-            Refusal::WrongCodeBlock(_) => 16,
             Refusal::BadReport => 17,
             Refusal::BadControl => 18,
             Refusal::Tied => 19,

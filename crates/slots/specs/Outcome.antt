@@ -5,10 +5,11 @@ use Rattle.std.specs.declared.option.Option.{Option}
 use Rattle.std.specs.declared.option.Option.TheVariants.{None, Some}
 use Rattle.std.specs.declared.result.Result.{Result}
 use Rattle.std.specs.declared.result.Result.TheVariants.{Ok, Err}
-use Rattle.refusals.specs.declared.Refusal.{Refusal}
-use Rattle.refusals.specs.Refusals.{number_of, value_of}
+use Rattle.refusals.specs.Refusals.{number_of}
 use Rattle.slots.specs.declared.State.{State}
 use Rattle.slots.specs.declared.Outcome as code
+use Rattle.slots.specs.declared.Reason.{Reason}
+use Rattle.slots.specs.declared.Reason.TheVariants.{Rule, Lacking, WrongCodeBlock}
 
 -- accepted with nothing to tell; an accepted reception, so many data places still lacking a bit; a refusal by its number; one that brings a number
 pub data Answer : Type 0 where
@@ -22,16 +23,13 @@ pub record Outcome : Type 0 where
   pub answer : Answer
   pub state : State
 
--- a refusal by its number, and with the number that it brings
-abbrev pub refused_with : ℕ → Option ℕ → Answer
-refused_with number None = Refused number
-refused_with number (Some value) = RefusedWith number value
-
 -- the answer that a result of the code tells
-abbrev pub answer_of : Result (Option ℕ) Refusal → Answer
+abbrev pub answer_of : Result (Option ℕ) Reason → Answer
 answer_of (Ok None) = Done
 answer_of (Ok (Some lacking)) = StillLacking lacking
-answer_of (Err refusal) = refused_with (number_of refusal) (value_of refusal)
+answer_of (Err (Rule refusal)) = Refused (number_of refusal)
+answer_of (Err (Lacking places)) = RefusedWith 11 places
+answer_of (Err (WrongCodeBlock block)) = RefusedWith 16 block
 
 -- the outcome that an outcome of the code tells
 abbrev pub told : code.Outcome → Outcome
