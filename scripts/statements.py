@@ -5,6 +5,7 @@ statements.py [--list] [--self-test]
 
 1. A contract of a function that is public out of its crate asks nothing of its caller, and is an equation for the answer and one for every slice that is lent to be
    written, each with a right side in which neither the answer nor anything at exit stands. Of such an equation no two outcomes are possible (`single`, crate statements).
+   For the answer it may be an equation for what tells it (TELLS below), of which a law says that no two answers are told alike.
 2. A public statement is such a contract or a theorem of a page (PAGES below). What it names, and what the definitions of those names name in turn, must be believed.
    A file of specs/ with such a name stands in specs/ itself, one with none in specs/inner/.
 3. Every must-fail edit is named in docs/STATEMENTS.md, beside what it speaks for.
@@ -24,7 +25,15 @@ WORD = re.compile(r"[^\s(){}\[\],;.→λ]+")
 IMPORT = re.compile(r"^(?:ghost )?use Rattle\.(\w+)\.specs\.([\w.]+?)(?:\.TheVariants)?\.\{([^}]*)\}", re.M)
 ALIAS = re.compile(r"^(?:ghost )?use Rattle\.(\w+)\.specs\.([\w.]+?)(?:\.TheVariants)? as (\S+?);?$", re.M)
 FUNCTION = re.compile(r"^pub (extern \"C\" )?fn (\w+)(.*?)^\{", re.M | re.S)
+# What tells an answer of a type, with the file and the name of the law that no two answers are told alike.
+TELLS = {
+    "number_in": ("Result<(), Refusal>", "refusals/proofs/Numbers.antt", "number_in_tells"),
+    "answer_of": ("Answer", "slots/proofs/Told.antt", "answer_tells"),
+    "told": ("Outcome", "slots/proofs/Told.antt", "told_tells"),
+}
 RIGHT = [
+    "(a: usize) -> Result<(), Refusal>\n    ensures { number_in result ≡ f a }\n",
+    "(a: usize) -> Outcome\n    ensures { told result ≡ f a }\n",
     "(a: usize) -> usize\n    ensures { result ≡ f a }\n",
     "(a: &[u8]) -> &[u8]\n    ensures { result.now ≡ f a.now }\n",
     "(a: &[u8], out: &mut [u8])\n    ensures { out.new ≡ f a.now\n        out.old }\n",
@@ -36,6 +45,8 @@ WRONG = [
     ("(a: usize) -> usize\n    requires few { a ≤ 5 }\n    requires more { 2 ≤ a }\n    ensures { result ≡ f a }\n", "it asks something of the caller"),
     ("(a: usize) -> usize\n    ensures { result ≤ f a }\n", "nothing is said of the answer"),
     ("(a: usize) -> usize\n    ensures { f result ≡ g a }\n", "nothing is said of the answer"),
+    ("(a: usize) -> Result<usize, Refusal>\n    ensures { number_in result ≡ f a }\n", "nothing is said of the answer"),
+    ("(a: usize) -> State\n    ensures { told result ≡ f a }\n", "nothing is said of the answer"),
     ("(a: usize) -> Pair\n    ensures { result.first ≡ f a }\n", "nothing is said of the answer"),
     ("(a: usize) -> Cell\n    ensures { result.now ≡ f a }\n", "nothing is said of the answer"),
     ("(a: usize) -> usize\n    ensures { result ≡ f result }\n", "an equation speaks of the outcome on its right"),
@@ -88,6 +99,14 @@ def clauses(head, kind):
         yield head[start.end():at - 1].strip()
 
 
+def told_by(left, signature):
+    """What an equation with this left side speaks of: the answer itself where it is one for what tells an answer of its type."""
+    tells, _, rest = left.partition(" ")
+    if rest == "result" and tells in TELLS and signature.rstrip().endswith(f"-> {TELLS[tells][0]}"):
+        return rest
+    return left
+
+
 def faults(head):
     """What is wrong with the contract of a function, from its arguments on."""
     signature = re.split(r"^\s*(?:requires|ensures)\b", head, flags=re.M)[0]
@@ -104,7 +123,7 @@ def faults(head):
         elif re.search(r"\.new\b", right) or whole or "result" in WORD.findall(right):
             found.append("an equation speaks of the outcome on its right")
         else:
-            told.add(left)
+            told.add(told_by(left, signature))
     answer = "result.now" if re.search(r"->\s*&(?!mut\b)", signature) else "result"
     if "->" in signature and answer not in told and not found:
         found.append("nothing is said of the answer")
@@ -116,6 +135,11 @@ def faults(head):
 
 def check_contracts():
     passed = failed = 0
+    for tells, (_, file, law) in TELLS.items():
+        stands = re.search(rf"^pub {law} : ", (CRATES / file).read_text(), re.M)
+        passed, failed = (passed + 1, failed) if stands else (passed, failed + 1)
+        if not stands:
+            print(f"{file}: {law}: no law says that {tells} tells answers apart")
     for crate in sorted(CRATES.iterdir()):
         for path, _, name, head in public_functions(crate):
             wrong = faults(head)

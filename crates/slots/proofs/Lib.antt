@@ -17,3 +17,4 @@ pub mod Checks
 pub mod Done
 pub mod Refused
 pub mod Admitted
+pub mod Told
