@@ -1,12 +1,12 @@
 -- Laws of the numbers given back: no refusal has the number 0, which is kept for an accepted call, and no two have the same.
 -- Assumes nothing.
-use Rattle.std.specs.Prelude.{◌≡◌, refl, Bool, true, false, cond, ℕ, eqb, ⊤}
+use Rattle.std.specs.Prelude.{◌≡◌, refl, Bool, false, cond, ℕ, eqb, ⊤}
 use mathlib.Core.Path.{sym, ◌∙◌, ap}
 use Rattle.std.specs.declared.result.Result.{Result}
 use Rattle.std.specs.declared.result.Result.TheVariants.{Ok, Err}
 use Rattle.refusals.specs.declared.Refusal.{Refusal}
 use Rattle.refusals.specs.declared.Refusal.TheVariants.{BadLength, BadBit, BadAllocation, BadVersion, TooShort, NoSlot, OpenAlready, Closed, OtherTerminal, TooManyBlocks, WrongCheck, BadState, NoCodeBlock, Unreadable, BadReport, BadControl, Tied, BadPayload, BadReceiver}
-use Rattle.refusals.specs.Refusals.{number_of, number_in}
+use Rattle.refusals.specs.Refusals.{number_of, number_in, refusal_of, given_by}
 
 -- no refusal has the number 0
 pub refusal_ne0 : (refusal : Refusal) → eqb (number_of refusal) 0 ≡ false
@@ -30,11 +30,7 @@ refusal_ne0 Tied = refl
 refusal_ne0 BadPayload = refl
 refusal_ne0 BadReceiver = refl
 
--- the refusal that has a number, and back
-abbrev pub refusal_of : ℕ → Refusal
-refusal_of n =
-    cond (eqb n 1) BadLength (cond (eqb n 2) BadBit (cond (eqb n 3) BadAllocation (cond (eqb n 4) BadVersion (cond (eqb n 5) TooShort (cond (eqb n 6) NoSlot (cond (eqb n 7) OpenAlready (cond (eqb n 8) Closed (cond (eqb n 9) OtherTerminal (cond (eqb n 10) TooManyBlocks (cond (eqb n 12) WrongCheck (cond (eqb n 13) BadState (cond (eqb n 14) NoCodeBlock (cond (eqb n 15) Unreadable (cond (eqb n 17) BadReport (cond (eqb n 18) BadControl (cond (eqb n 19) Tied (cond (eqb n 20) BadPayload (BadReceiver))))))))))))))))))
-
+-- the refusal that has a refusal's number is that refusal
 pub back : (refusal : Refusal) → refusal_of (number_of refusal) ≡ refusal
 back BadLength = refl
 back BadBit = refl
@@ -60,14 +56,18 @@ back BadReceiver = refl
 pub number_tells : (a b : Refusal) → number_of a ≡ number_of b → a ≡ b
 number_tells a b e = sym (back a) ∙ (ap refusal_of e ∙ back b)
 
--- the answer of a call that gives nothing, by its number
-abbrev answer_from : ℕ → Result ⊤ Refusal
-answer_from n = cond (eqb n 0) (Ok tt) (Err (refusal_of n))
+-- a call that refuses, and one that gives something, by the number
+pub given_err : {A : Type 0} (given : A) {refusal : Refusal} {n : ℕ} → number_of refusal ≡ n → Err refusal ≡ given_by n given
+given_err {A} given {refusal} {n} e =
+    sym (ap (λ (b : Bool). cond b (Ok given) (Err (refusal_of (number_of refusal)))) (refusal_ne0 refusal) ∙ ap Err (back refusal)) ∙ ap (λ m. given_by m given) e
 
-answered : (answer : Result ⊤ Refusal) → answer_from (number_in answer) ≡ answer
+pub given_ok : {A : Type 0} (given : A) {n : ℕ} → 0 ≡ n → Ok given ≡ given_by n given
+given_ok {A} given {n} e = ap (λ m. given_by m given) e
+
+answered : (answer : Result ⊤ Refusal) → given_by (number_in answer) tt ≡ answer
 answered (Ok tt) = refl
-answered (Err refusal) = ap (λ (b : Bool). cond b (Ok tt) (Err (refusal_of (number_of refusal)))) (refusal_ne0 refusal) ∙ ap Err (back refusal)
+answered (Err refusal) = sym (given_err tt refl)
 
 -- no two answers of a call that gives nothing have the same number: an equation for the number is one for the answer
 pub number_in_tells : (a b : Result ⊤ Refusal) → number_in a ≡ number_in b → a ≡ b
-number_in_tells a b e = sym (answered a) ∙ (ap answer_from e ∙ answered b)
+number_in_tells a b e = sym (answered a) ∙ (ap (λ n. given_by n tt) e ∙ answered b)

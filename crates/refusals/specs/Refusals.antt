@@ -33,6 +33,15 @@ abbrev pub number_in : {A : Type 0} → Result A Refusal → ℕ
 number_in (Ok given) = 0
 number_in (Err refusal) = number_of refusal
 
+-- the refusal that has a number
+abbrev pub refusal_of : ℕ → Refusal
+refusal_of n =
+    cond (eqb n 1) BadLength (cond (eqb n 2) BadBit (cond (eqb n 3) BadAllocation (cond (eqb n 4) BadVersion (cond (eqb n 5) TooShort (cond (eqb n 6) NoSlot (cond (eqb n 7) OpenAlready (cond (eqb n 8) Closed (cond (eqb n 9) OtherTerminal (cond (eqb n 10) TooManyBlocks (cond (eqb n 12) WrongCheck (cond (eqb n 13) BadState (cond (eqb n 14) NoCodeBlock (cond (eqb n 15) Unreadable (cond (eqb n 17) BadReport (cond (eqb n 18) BadControl (cond (eqb n 19) Tied (cond (eqb n 20) BadPayload (BadReceiver))))))))))))))))))
+
+-- the answer of a call by its number: what it gives where that is 0, else the refusal
+abbrev pub given_by : {A : Type 0} → ℕ → A → Result A Refusal
+given_by number given = cond (eqb number 0) (Ok given) (Err (refusal_of number))
+
 -- a refusal: when it applies, and the number given back then
 pub record Rule : Type 0 where
   pub bad : Bool

@@ -6,7 +6,8 @@ use Rattle.std.specs.declared.option.Option.{Option}
 use Rattle.std.specs.declared.option.Option.TheVariants.{None, Some}
 use Rattle.std.specs.declared.result.Result.{Result}
 use Rattle.std.specs.declared.result.Result.TheVariants.{Ok, Err}
-use Rattle.refusals.proofs.Numbers.{refusal_of, back}
+use Rattle.refusals.specs.Refusals.{refusal_of}
+use Rattle.refusals.proofs.Numbers.{back}
 use Rattle.slots.specs.declared.Outcome as code
 use Rattle.slots.specs.declared.Reason.{Reason}
 use Rattle.slots.specs.declared.Reason.TheVariants.{Rule, Lacking, WrongCodeBlock}
