@@ -1,7 +1,9 @@
 // The soft buffer of a downlink, clause 5.1.4.1.2: each code block's share of it.
-ghost use Rattle.std.specs.Prelude.{◌≡◌, min};
-ghost use Rattle.rate_matching.specs.SoftBuffer.{divisor_in, m_limit};
+ghost use Rattle.std.specs.Prelude.{◌≡◌};
+ghost use Rattle.rate_matching.specs.SoftBuffer.{divisor_in};
 ghost use Rattle.codeword.specs.Downlink.{bad_receiver, share_for};
+
+use crate::Receiver;
 
 // The most processes that share the buffer.
 const M_LIMIT: usize = 8;
@@ -29,34 +31,17 @@ fn divisor_in(release: usize, soft: usize, layers: usize) -> usize
     }
 }
 
-// min(M_DL_HARQ, M_limit).
-fn limited(processes: usize) -> usize
-    ensures { result ≡ min processes m_limit }
-{
-    if processes < M_LIMIT {
-        processes
-    } else {
-        M_LIMIT
-    }
-}
-
 // The share of each of C code blocks; 0 where there is none, or the receiver is refused.
-pub fn share_for(
-    blocks: usize,
-    release: usize,
-    mimo: usize,
-    processes: usize,
-    soft: usize,
-    layers: usize,
-) -> usize
-    ensures { result ≡ share_for blocks release mimo processes soft layers }
+pub fn share_for(blocks: usize, receiver: Receiver) -> usize
+    ensures { result ≡ share_for blocks receiver.release receiver.mimo receiver.processes receiver.soft receiver.layers }
 {
     if blocks == 0 {
         return 0;
     }
-    if bad_receiver(release, mimo, processes) {
+    if bad_receiver(receiver.release, receiver.mimo, receiver.processes) {
         return 0;
     }
-    let shared = divisor_in(release, soft, layers) * mimo * limited(processes);
-    soft / shared / blocks
+    let divisor = divisor_in(receiver.release, receiver.soft, receiver.layers);
+    let shared = divisor * receiver.mimo * receiver.processes.min(M_LIMIT);
+    receiver.soft / shared / blocks
 }

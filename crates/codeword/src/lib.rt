@@ -15,3 +15,14 @@ pub struct Grant {
     pub version: usize,
     pub bits: usize,
 }
+
+// What is known of the receiver of a downlink: its release, 8 or 11; K_MIMO; its processes; the bits of its soft buffer; and how many layers it
+// supports.
+#[derive(Clone, Copy)]
+pub struct Receiver {
+    pub release: usize,
+    pub mimo: usize,
+    pub processes: usize,
+    pub soft: usize,
+    pub layers: usize,
+}

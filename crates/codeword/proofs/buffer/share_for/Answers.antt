@@ -1,49 +1,40 @@
 -- `share_for` meets its contract: no code block and a refused receiver have no share, else N_IR is divided by C.
 -- Assumes nothing.
-use mathlib.Core.Path.{◌≡◌, sym, ◌∙◌, ap₂}
+use mathlib.Core.Path.{◌≡◌, refl, sym, ◌∙◌, ap₂}
 use mathlib.Core.Bool.{false}
-use Prim.Native.Nat.{ℕ, ◌*◌, ◌/◌, ◌≤◌}
+use Prim.Native.Nat.{ℕ, ◌*◌, ◌/◌, ◌≤◌, min}
 use native.Mathlib.Nat.{mul-le-mul}
 use native.Mathlib.Omega.{arith}
 use borrow.Author.Tests.{eq-eqb, ne_eqb}
 use Rattle.rate_matching.specs.SoftBuffer.{divisor_in, m_limit, n_ir, soft_share}
+use Rattle.codeword.specs.declared.Receiver.{Receiver}
 use Rattle.codeword.specs.Downlink.{bad_receiver, share_for}
 use Rattle.codeword.proofs.SoftShares.{receiver, divisor_few}
-use Rattle.codeword.proofs.buffer.share_for.Goals.{After-divisor_in, After-limited, Else-bad_receiver}
+use Rattle.codeword.proofs.buffer.share_for.Goals.{Else-bad_receiver}
 use Rattle.codeword.proofs.buffer.share_for.Goals as goal
 
-good : (c : Else-bad_receiver) → let e = c.args in bad_receiver e.release e.mimo e.processes ≡ false
-good c = sym c.bad_receiver.ensures ∙ c.if-bad_receiver.false
+-- what is shared, K_C · K_MIMO · min(M_DL_HARQ, M_limit), is a small number
+record Small (r : Receiver) (k m : ℕ) : Type 0 where
+  first : k * r.mimo ≤ 10
+  some : 1 ≤ k * r.mimo * m
+  all : k * r.mimo * m ≤ 80
 
--- K_C · K_MIMO
-product_few : (release k_mimo processes soft layers k : ℕ) → bad_receiver release k_mimo processes ≡ false → k ≡ divisor_in release soft layers
-    → (1 ≤ k * k_mimo) × (k * k_mimo ≤ 10)
-product_few release k_mimo processes soft layers k good e =
-    let few = divisor_few release soft layers in
-    let r = receiver _ _ _ good in
+small : (r : Receiver) (k m : ℕ) → bad_receiver r.release r.mimo r.processes ≡ false → k ≡ divisor_in r.release r.soft r.layers → m ≡ min r.processes 8 → Small r k m
+small r k m good e f =
+    let few = divisor_few r.release r.soft r.layers in
+    let taken = receiver _ _ _ good in
     let least : 1 ≤ k = rw e few.0 in
     let most : k ≤ 5 = rw e few.1 in
-    let low : 1 * 1 ≤ k * k_mimo = mul-le-mul least r.some in
-    let top : k * k_mimo ≤ 5 * 2 = mul-le-mul most r.few in
-    (omega arith, omega arith)
+    let low : 1 * 1 ≤ k * r.mimo = mul-le-mul least taken.some in
+    let top : k * r.mimo ≤ 5 * 2 = mul-le-mul most taken.few in
+    let running : 1 ≤ m = omega (arith, taken.running) in
+    let eight : m ≤ 8 = omega arith in
+    let some : 1 * 1 ≤ k * r.mimo * m = mul-le-mul low running in
+    let all : k * r.mimo * m ≤ 10 * 8 = mul-le-mul top eight in
+    record { first = omega arith; some = omega arith; all = omega arith }
 
-product : (c : After-divisor_in) → let m = c.args.mimo in (1 ≤ c.divisor_in.result * m) × (c.divisor_in.result * m ≤ 10)
-product c =
-    let e = c.args in
-    product_few e.release e.mimo e.processes e.soft e.layers c.divisor_in.result (sym c.bad_receiver.ensures ∙ c.if-bad_receiver.false) c.divisor_in.ensures
-
--- times min(M_DL_HARQ, M_limit)
-all : (c : After-limited) → let n = c.divisor_in.result * c.args.mimo * c.limited.result in (1 ≤ n) × (n ≤ 80)
-unfolding m_limit
-all c =
-    let e = c.args in
-    let p = product_few e.release e.mimo e.processes e.soft e.layers c.divisor_in.result (sym c.bad_receiver.ensures ∙ c.if-bad_receiver.false) c.divisor_in.ensures in
-    let r = receiver _ _ _ ((sym c.bad_receiver.ensures ∙ c.if-bad_receiver.false)) in
-    let some : 1 ≤ c.limited.result = omega (arith, c.limited.ensures, r.running) in
-    let few : c.limited.result ≤ 8 = omega (arith, c.limited.ensures) in
-    let low : 1 * 1 ≤ c.divisor_in.result * c.args.mimo * c.limited.result = mul-le-mul p.0 some in
-    let top : c.divisor_in.result * c.args.mimo * c.limited.result ≤ 10 * 8 = mul-le-mul p.1 few in
-    (omega arith, omega arith)
+good : (c : Else-bad_receiver) → let r = c.args.receiver in bad_receiver r.release r.mimo r.processes ≡ false
+good c = sym c.bad_receiver.ensures ∙ c.if-bad_receiver.false
 
 pub returns-then-blocks-eq0 : goal.returns-then-blocks-eq0
 unfolding share_for
@@ -54,17 +45,17 @@ unfolding share_for
 returns-then-bad_receiver c = simp (ne_eqb _ _ c.if-blocks-eq0.false, sym c.bad_receiver.ensures ∙ c.if-bad_receiver.true)
 
 pub overflow_mul-shared : goal.overflow_mul-shared
-overflow_mul-shared c = omega (arith, (product (goal.at.overflow_mul-shared c).After-divisor_in).1)
+overflow_mul-shared c = omega (arith, (small _ _ (min c.args.receiver.processes 8) (good (goal.at.overflow_mul-shared c).Else-bad_receiver) c.divisor_in-divisor.ensures refl).first)
 
 pub overflow_mul-shared-2 : goal.overflow_mul-shared-2
-overflow_mul-shared-2 c = omega (arith, (all (goal.at.overflow_mul-shared-2 c).After-limited).1)
+overflow_mul-shared-2 c = omega (arith, (small _ _ _ (good (goal.at.overflow_mul-shared-2 c).Else-bad_receiver) c.divisor_in-divisor.ensures c.min.ensures).all)
 
 pub nonzero_div-result : goal.nonzero_div-result
-nonzero_div-result c = (all (goal.at.nonzero_div-result c).After-limited).0
+nonzero_div-result c = (small _ _ _ (good (goal.at.nonzero_div-result c).Else-bad_receiver) c.divisor_in-divisor.ensures c.min.ensures).some
 
 pub returns : goal.returns
-unfolding share_for soft_share n_ir
+unfolding share_for soft_share n_ir m_limit
 returns c =
-    let e = c.args in
+    let r = c.args.receiver in
     simp (ne_eqb _ _ c.if-blocks-eq0.false, good (goal.at.returns c).Else-bad_receiver)
-    (ap₂ (λ (k n : ℕ). e.soft / (k * e.mimo * n) / e.blocks) c.divisor_in.ensures c.limited.ensures)
+    (ap₂ (λ (k m : ℕ). r.soft / (k * r.mimo * m) / c.args.blocks) c.divisor_in-divisor.ensures c.min.ensures)
