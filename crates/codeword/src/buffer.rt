@@ -8,13 +8,21 @@ use crate::Receiver;
 // The most processes that share the buffer.
 const M_LIMIT: usize = 8;
 
-fn bad_receiver(release: usize, mimo: usize, processes: usize) -> bool
-    ensures { result ≡ bad_receiver release mimo processes }
+#[tactic(auto, unfolding(crate::specs::Downlink::bad_receiver))]
+fn bad_receiver(receiver: Receiver) -> bool
+    ensures { result ≡ bad_receiver receiver.release receiver.mimo receiver.processes }
 {
-    !((release == 8) | (release == 11)) | (!((mimo == 1) | (mimo == 2)) | (processes == 0))
+    let Receiver {
+        release,
+        mimo,
+        processes,
+        ..
+    } = receiver;
+    !(release == 8 || release == 11) || !(mimo == 1 || mimo == 2) || processes == 0
 }
 
 // K_C where the release has it, else 1.
+#[tactic(auto, unfolding(rate_matching::specs::SoftBuffer::divisor_in, rate_matching::specs::SoftBuffer::k_c))]
 fn divisor_in(release: usize, soft: usize, layers: usize) -> usize
     ensures { result ≡ divisor_in release soft layers }
 {
@@ -24,21 +32,18 @@ fn divisor_in(release: usize, soft: usize, layers: usize) -> usize
     if soft == 35982720 {
         return 5;
     }
-    if (soft == 3654144) & (layers <= 2) {
-        2
-    } else {
-        1
-    }
+    if soft == 3654144 && layers <= 2 { 2 } else { 1 }
 }
 
 // The share of each of C code blocks; 0 where there is none, or the receiver is refused.
+#[tactic(auto, using(crate::proofs::SoftShares::receiver, crate::proofs::SoftShares::divisor_few), unfolding(crate::specs::Downlink::share_for, rate_matching::specs::SoftBuffer::soft_share, rate_matching::specs::SoftBuffer::n_ir, rate_matching::specs::SoftBuffer::m_limit))]
 pub fn share_for(blocks: usize, receiver: Receiver) -> usize
     ensures { result ≡ share_for blocks receiver.release receiver.mimo receiver.processes receiver.soft receiver.layers }
 {
     if blocks == 0 {
         return 0;
     }
-    if bad_receiver(receiver.release, receiver.mimo, receiver.processes) {
+    if bad_receiver(receiver) {
         return 0;
     }
     let divisor = divisor_in(receiver.release, receiver.soft, receiver.layers);
