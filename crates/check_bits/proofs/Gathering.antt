@@ -4,14 +4,15 @@ use mathlib.Core.Path.{◌≡◌, refl, sym, ◌∙◌, ap, ap₂}
 use mathlib.Core.Bool.{Bool}
 use mathlib.Core.List.{List, [], ◌∷◌, ◌++◌}
 use Prim.Native.Nat.{ℕ, suc, ◌+◌, ◌*◌, ◌/◌, ◌%◌, ◌^◌, ◌≤◌, ◌<◌}
-use native.Mathlib.Nat.{zero-add, pow-suc, mod-lt, mod-eq_of_lt}
+use native.Mathlib.Nat.{pow-suc, mod-lt, mod-eq_of_lt}
 use native.Mathlib.Omega.{arith}
 use lib.Arith.{digits_lt}
-use lib.Bits.{bit_and, bit_or, and_le_l, and_le_r, or_add_and, and_block, and_high, or_shifted, or_shifted_r}
+use lib.Bits.{bit_and, bit_or, and_le_l, and_le_r, or_add_and, and_block, and_high, or_shifted}
 use lib.Dec.{eqb, eqb→eq, lit<, lit≤}
-use lib.ListN.{length, get_or, take, drop, replicate, length-drop}
-use lib.Pow.{pow-add, shl_exact, high}
-use lib.Seq.{drop-cons, drop-drop, take-add, length-take-le}
+use lib.ListN.{length, take, drop, replicate, length-drop}
+use lib.Pow.{shl_exact, high}
+use lib.Seq.{drop-drop, take-add, length-take-le}
+use Rattle.std.specs.Int.{from_le_bytes, w64}
 use Rattle.laws.specs.Bits.{bits_of, EachBelow, AreBits}
 use Rattle.laws.specs.inner.Computed.{all_below}
 use Rattle.laws.proofs.AreBits.{no_bits, with_bit, take_below, drop_below}
@@ -29,43 +30,26 @@ AreBytes l = EachBelow (2 ^ 8) l
 
 -- ---- bytes as one number
 
-one_more : (n : ℕ) → 2 ^ (suc n * 8) ≡ 2 ^ (n * 8) * 2 ^ 8
-one_more n = let e : suc n * 8 ≡ n * 8 + 8 = omega arith in rw (e, pow-add)
-
-word_lt : (bs : List ℕ) → AreBytes bs → word_of bs < 2 ^ (length bs * 8)
-unfolding word_of
-word_lt [] h = lit< tt
-word_lt (b ∷ bs) h = rw (one_more (length bs)) (digits_lt (word_lt bs (λ i. h (suc i))) (h 0))
-
-word_append : (bs cs : List ℕ) → word_of (bs ++ cs) ≡ word_of cs * 2 ^ (length bs * 8) + word_of bs
-unfolding word_of
-word_append [] cs = omega arith
-word_append (b ∷ bs) cs = rw (word_append bs cs, one_more (length bs)) (omega arith)
-
-part_length : (bits : List ℕ) (n from : ℕ) → from + n ≤ length bits → length (take n (drop from bits)) ≡ n
+pub part_length : (bits : List ℕ) (n from : ℕ) → from + n ≤ length bits → length (take n (drop from bits)) ≡ n
 part_length bits n from f = length-take-le n (drop from bits) (simp length-drop (omega arith))
 
 module _ (bits : List ℕ) (h : AreBytes bits) where
   part_bytes : (n from : ℕ) → AreBytes (take n (drop from bits))
   part_bytes n from = take_below (2 ^ 8) (lit< tt) n (drop from bits) (drop_below (2 ^ 8) from bits h)
 
-  part_lt : (n from : ℕ) {x : ℕ} → from + n ≤ length bits → x ≡ word_of (take n (drop from bits)) → x < 2 ^ (n * 8)
-  part_lt n from f e = rw e (rw (part_length bits n from f) at (word_lt (take n (drop from bits)) (part_bytes n from)))
-
-  -- j bytes, and i above them
-  pub joined : (j i from : ℕ) {x y : ℕ} → i + j ≤ 8 → from + (i + j) ≤ length bits
-      → x ≡ word_of (take j (drop from bits)) → y ≡ word_of (take i (drop (from + j) bits))
-      → bit_or x (y * 2 ^ (j * 8) % 2 ^ 64) ≡ word_of (take (j + i) (drop from bits))
-  joined j i from {x} {y} l f ex ey =
-      rw (shl_exact (i * 8) (j * 8) 64 (part_lt i (from + j) (omega arith) ey) (omega arith))
-      (or_shifted_r y (j * 8) x (part_lt j from (omega arith) ex) ∙ sym whole)
-    where
-      whole : word_of (take (j + i) (drop from bits)) ≡ y * 2 ^ (j * 8) + x
-      whole = rw (take-add j i (drop from bits), drop-drop j from bits, word_append, part_length bits j from (omega arith), ← ex, ← ey)
-
-pub one_byte : (bits : List ℕ) (from : ℕ) → from < length bits → get_or bits from 0 ≡ word_of (take 1 (drop from bits))
+-- the library's number of eight bytes
+pub word_is : (bs : List ℕ) → length bs ≡ 8 → from_le_bytes w64 bs ≡ word_of bs
 unfolding word_of
-one_byte bits from h = rw (drop-cons bits from 0 h) (sym (zero-add (get_or bits from 0)))
+word_is (a ∷ b ∷ c ∷ d ∷ e ∷ f ∷ g ∷ h ∷ []) l = omega arith
+word_is [] l = cc
+word_is (a ∷ []) l = cc
+word_is (a ∷ b ∷ []) l = cc
+word_is (a ∷ b ∷ c ∷ []) l = cc
+word_is (a ∷ b ∷ c ∷ d ∷ []) l = cc
+word_is (a ∷ b ∷ c ∷ d ∷ e ∷ []) l = cc
+word_is (a ∷ b ∷ c ∷ d ∷ e ∷ f ∷ []) l = cc
+word_is (a ∷ b ∷ c ∷ d ∷ e ∷ f ∷ g ∷ []) l = cc
+word_is (a ∷ b ∷ c ∷ d ∷ e ∷ f ∷ g ∷ h ∷ _ ∷ _) l = omega arith
 
 -- ---- the test
 
@@ -140,10 +124,11 @@ module _ (bits : List ℕ) (h : AreBytes bits) where
   pub gathers : (from : ℕ) {a b c p q r : ℕ} → from + 24 ≤ length bits
       → a ≡ word_of (take 8 (drop from bits)) → b ≡ word_of (take 8 (drop (from + 8) bits)) → c ≡ word_of (take 8 (drop (from + 16) bits))
       → bit_or (bit_or (above_one a) (above_one b)) (above_one c) ≡ 0 → p ≡ lowest a → q ≡ lowest b → r ≡ lowest c
-      → take 24 (drop from bits) ≡ bits_of 24 (bit_or (bit_or (p * 2 ^ 8 % 2 ^ 32) q * 2 ^ 8 % 2 ^ 32) r)
+      → (bit_or (bit_or (p * 2 ^ 8 % 2 ^ 32) q * 2 ^ 8 % 2 ^ 32) r < 2 ^ 24)
+      × (take 24 (drop from bits) ≡ bits_of 24 (bit_or (bit_or (p * 2 ^ 8 % 2 ^ 32) q * 2 ^ 8 % 2 ^ 32) r))
   gathers from {a} {b} {c} {p} {q} {r} f ea eb ec z ep eq er =
       rw (below 8 32 hp (lit≤ tt) hq, below 16 32 hpq (lit≤ tt) hr)
-      (parts ∙ sym (bits_of_join 16 8 (p * 2 ^ 8 + q) r hr ∙ ap₂ ◌++◌ (bits_of_join 8 8 p q hq ∙ ap₂ ◌++◌ first second) third))
+      (omega arith, parts ∙ sym (bits_of_join 16 8 (p * 2 ^ 8 + q) r hr ∙ ap₂ ◌++◌ (bits_of_join 8 8 p q hq ∙ ap₂ ◌++◌ first second) third))
     where
       abc : (bit_or (above_one a) (above_one b) ≡ 0) × (above_one c ≡ 0)
       abc = none (bit_or (above_one a) (above_one b)) (above_one c) z

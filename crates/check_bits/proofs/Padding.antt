@@ -150,15 +150,15 @@ module _ (bits : List ℕ) (k : ℕ) {x : ℕ} (few : k < 24) (small : x < 2 ^ 2
   pub highest_lt : x / 2 ^ (24 - k) < 2 ^ k
   highest_lt = top_of 23 0 (24 - k) k refl sum small
 
-  pub highest : (x < 2 ^ 24 → take 24 (drop 0 bits) ≡ bits_of 24 x) → bits_of k (x / 2 ^ (24 - k)) ≡ take k bits
+  pub highest : take 24 (drop 0 bits) ≡ bits_of 24 x → bits_of k (x / 2 ^ (24 - k)) ≡ take k bits
   highest told = sym (
       sym (take-take k 24 bits (omega arith))
-      ∙ ap (take k) (told small ∙ ap (λ (n : ℕ). bits_of n x) (sym (turned 23 0 (24 - k) k refl sum)) ∙ bits_of_split k (24 - k) x)
+      ∙ ap (take k) (told ∙ ap (λ (n : ℕ). bits_of n x) (sym (turned 23 0 (24 - k) k refl sum)) ∙ bits_of_split k (24 - k) x)
       ∙ take_at (bits_of k (x / 2 ^ (24 - k))) (bits_of (24 - k) x) k (length_bits_of k (x / 2 ^ (24 - k)))
       )
 
 -- the bits after those by which the length is over a multiple of 24 go on from the register after these
-pub gone : {g r s : ℕ} (bits : List ℕ) → r < 2 ^ 24 → s ≡ crc_from 24 g r (take (length bits % 24) bits) → Running 24 24 g r bits s (length bits % 24)
+pub gone : {g r s : ℕ} (bits : List ℕ) → r < 2 ^ 24 → s ≡ crc_from 24 g r (take (length bits % 24) bits) → Running 24 24 g r bits s (drop (length bits % 24) bits)
 gone {g} {r} bits h e = rw e record {
   small = crc_from_lt 24 g r (take (length bits % 24) bits) h;
   told = sym (crc_from_append 24 g r (take (length bits % 24) bits) (drop (length bits % 24) bits)) ∙ ap (crc_from 24 g r) (take-append-drop (length bits % 24) bits);

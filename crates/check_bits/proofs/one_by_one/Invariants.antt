@@ -1,12 +1,7 @@
--- `check_bits::one_by_one` meets its contract. The loop's invariant: the register, gone on with the bits from `i` on, gives the remainder of all.
--- Assumes nothing.
-use Prim.Native.Nat.{◌≤◌, ◌-◌}
-use lib.ListN.{length}
+-- The register, gone on with the bits that are left, gives the remainder of all.
+use Rattle.std.proofs.Common.{drop}
 use Rattle.check_bits.proofs.Running.{Running}
 use Rattle.check_bits.proofs.one_by_one.Given as goal
 
-abbrev pub invariant-loop-i : goal.invariant-loop-i
-invariant-loop-i l = (l.i ≤ length l.bits) × Running 32 l.length l.g l.from l.bits l.s l.i
-
-abbrev pub decreases-loop-i : goal.decreases-loop-i
-decreases-loop-i l = length l.bits - l.i
+abbrev pub invariant-loop-bit : goal.invariant-loop-bit
+invariant-loop-bit l = Running 32 l.length l.g l.from l.bits l.s (drop l.bit-index l.bits)

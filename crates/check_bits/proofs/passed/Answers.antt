@@ -1,5 +1,4 @@
--- `passed` meets its contract: an entry of a row that is lent by itself is an entry of the table.
--- Assumes nothing.
+-- An entry of a row that is lent by itself is an entry of the table.
 use mathlib.Core.Path.{◌≡◌, ◌∙◌}
 use mathlib.Core.List.{List}
 use Prim.Native.Nat.{ℕ, ◌+◌, ◌-◌, ◌/◌, ◌%◌, ◌^◌, ◌≤◌}

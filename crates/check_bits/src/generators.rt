@@ -1,9 +1,20 @@
 // What becomes of a register of 24 bits while 24 or 48 zeros go in, for each generator of clause 5.1.1: six rows of 16 entries, one row for each
 // four bits of the register, the lowest first.
+ghost use Rattle.std.specs.Prelude.{◌≡◌};
 ghost use Rattle.check_bits.specs.CheckBits.{g_crc24a, g_crc24b};
 ghost use Rattle.check_bits.specs.inner.Stride.{IsTable};
 
-const TABLE_A: [u32; 96] = [
+// A generator of 24 check bits, its top term left off, with its tables for 24 and for 48 zeros.
+#[derive(Drop)]
+pub struct Generator {
+    pub polynomial: u32,
+    pub near: &'static [u32; 96],
+    pub far: &'static [u32; 96],
+    ghost near_is: { IsTable 24 polynomial near.now },
+    ghost far_is: { IsTable 48 polynomial far.now },
+}
+
+static TABLE_A: [u32; 96] = [
     0x000000, 0x864CFB, 0x8AD50D, 0x0C99F6, 0x93E6E1, 0x15AA1A, 0x1933EC, 0x9F7F17, 0xA18139,
     0x27CDC2, 0x2B5434, 0xAD18CF, 0x3267D8, 0xB42B23, 0xB8B2D5, 0x3EFE2E, 0x000000, 0xC54E89,
     0x0CD1E9, 0xC99F60, 0x19A3D2, 0xDCED5B, 0x15723B, 0xD03CB2, 0x3347A4, 0xF6092D, 0x3F964D,
@@ -17,7 +28,7 @@ const TABLE_A: [u32; 96] = [
     0xBF70C0, 0x2E6C89, 0xD5A080, 0x44BCC9, 0x71D4E9, 0xE0C8A0,
 ];
 
-const TABLE_B: [u32; 96] = [
+static TABLE_B: [u32; 96] = [
     0x000000, 0x800063, 0x8000A5, 0x0000C6, 0x800129, 0x00014A, 0x00018C, 0x8001EF, 0x800231,
     0x000252, 0x000294, 0x8002F7, 0x000318, 0x80037B, 0x8003BD, 0x0003DE, 0x000000, 0x800401,
     0x800861, 0x000C60, 0x8010A1, 0x0014A0, 0x0018C0, 0x801CC1, 0x802121, 0x002520, 0x002940,
@@ -31,7 +42,7 @@ const TABLE_B: [u32; 96] = [
     0xC00A33, 0xE00B3B, 0x000C03, 0x200D0B, 0x400E13, 0x600F1B,
 ];
 
-const TABLE_A_48: [u32; 96] = [
+static TABLE_A_48: [u32; 96] = [
     0x000000, 0x360952, 0x6C12A4, 0x5A1BF6, 0xD82548, 0xEE2C1A, 0xB437EC, 0x823EBE, 0x36066B,
     0x000F39, 0x5A14CF, 0x6C1D9D, 0xEE2323, 0xD82A71, 0x823187, 0xB438D5, 0x000000, 0x6C0CD6,
     0xD819AC, 0xB4157A, 0x367FA3, 0x5A7375, 0xEE660F, 0x826AD9, 0x6CFF46, 0x00F390, 0xB4E6EA,
@@ -45,7 +56,7 @@ const TABLE_A_48: [u32; 96] = [
     0xD99C8A, 0xBBB6AC, 0x132CA5, 0x710683, 0xD778E9, 0xB552CF,
 ];
 
-const TABLE_B_48: [u32; 96] = [
+static TABLE_B_48: [u32; 96] = [
     0x000000, 0x801025, 0x802029, 0x00300C, 0x804031, 0x005014, 0x006018, 0x80703D, 0x808001,
     0x009024, 0x00A028, 0x80B00D, 0x00C030, 0x80D015, 0x80E019, 0x00F03C, 0x000000, 0x810061,
     0x8200A1, 0x0300C0, 0x840121, 0x050140, 0x060180, 0x8701E1, 0x880221, 0x090240, 0x0A0280,
@@ -59,30 +70,24 @@ const TABLE_B_48: [u32; 96] = [
     0x0294A5, 0x42D6A5, 0x0318C6, 0x435AC6, 0x839CC6, 0xC3DEC6,
 ];
 
-// The table of g_crc24a for 24 zeros.
-pub fn table_a() -> [u32; 96]
-    ensures { IsTable 24 g_crc24a result }
+// g_crc24a.
+pub fn crc24a() -> Generator
+    ensures { result.polynomial ≡ g_crc24a }
 {
-    TABLE_A
+    Generator {
+        polynomial: 0x864CFB,
+        near: &TABLE_A,
+        far: &TABLE_A_48,
+    }
 }
 
-// The table of g_crc24b for 24 zeros.
-pub fn table_b() -> [u32; 96]
-    ensures { IsTable 24 g_crc24b result }
+// g_crc24b.
+pub fn crc24b() -> Generator
+    ensures { result.polynomial ≡ g_crc24b }
 {
-    TABLE_B
-}
-
-// The table of g_crc24a for 48 zeros.
-pub fn table_a_48() -> [u32; 96]
-    ensures { IsTable 48 g_crc24a result }
-{
-    TABLE_A_48
-}
-
-// The table of g_crc24b for 48 zeros.
-pub fn table_b_48() -> [u32; 96]
-    ensures { IsTable 48 g_crc24b result }
-{
-    TABLE_B_48
+    Generator {
+        polynomial: 0x800063,
+        near: &TABLE_B,
+        far: &TABLE_B_48,
+    }
 }
