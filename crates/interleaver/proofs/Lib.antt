@@ -2,6 +2,7 @@ pub mod Divides
 pub mod Pigeonhole
 pub mod Quadratic
 pub mod Rows
+pub mod Columns
 pub mod Search
 pub mod Counters
 pub mod Walk

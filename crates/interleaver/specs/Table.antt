@@ -1,6 +1,6 @@
 -- Table 5.1.3-3 of clause 5.1.3.2.3: the 188 block sizes K with the parameters f1 and f2 of the turbo code internal interleaver.
 -- Assumes nothing.
-use Rattle.std.specs.Prelude.{Bool, cond, ◌&&◌, List, [], ◌∷◌, ℕ, suc, eqb, leb, ltb, get_or}
+use Rattle.std.specs.Prelude.{Bool, cond, ◌&&◌, List, [], ◌∷◌, Option, Some, None, ℕ, suc, eqb, leb, ltb, get_or}
 use Rattle.interleaver.specs.declared.table.Found.{Found}
 
 -- the block sizes K, row by row
@@ -90,6 +90,6 @@ first_at_least least (k ∷ ks) = cond (leb least k) 0 (suc (first_at_least leas
 unfoldable pub row_for : ℕ → ℕ
 row_for least = first_at_least least size_table
 
--- the same with that K; 0 where there is none
-unfoldable pub found_for : ℕ → Found
-found_for least = record { row = row_for least; size = size_at (row_for least) }
+-- the same with that K, where the table has such a row
+unfoldable pub found_for : ℕ → Option Found
+found_for least = cond (ltb (row_for least) row_count) (Some (record { row = row_for least; size = size_at (row_for least) })) None

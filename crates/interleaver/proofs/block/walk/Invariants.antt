@@ -1,7 +1,6 @@
 -- `block::walk` meets its contract: the loop keeps `Walking`, and every bound follows from it and from `Walkable`.
 -- Assumes nothing.
 use Prim.Native.Nat.{◌-◌}
-use Rattle.interleaver.proofs.Walk as walk
 use Rattle.interleaver.proofs.Walk.{Walking}
 use Rattle.interleaver.proofs.block.walk.Given as goal
 

@@ -2,7 +2,6 @@
 -- Assumes nothing.
 use Prim.Native.Nat.{◌-◌}
 use lib.ListN.{length}
-use Rattle.interleaver.proofs.Finding as finding
 use Rattle.interleaver.proofs.Finding.{Finding}
 use Rattle.interleaver.proofs.fours.find.Given as goal
 

@@ -3,7 +3,6 @@
 use Prim.Native.Nat.{◌-◌}
 use lib.ListN.{length}
 use Rattle.interleaver.specs.inner.Quarters.{joined}
-use Rattle.interleaver.proofs.Filling as F
 use Rattle.interleaver.proofs.Filling.{Filling}
 use Rattle.interleaver.proofs.fours.join.Given as goal
 

@@ -3,7 +3,6 @@
 use mathlib.Core.Path.{◌≡◌}
 use Prim.Native.Nat.{◌-◌, ◌/◌}
 use lib.ListN.{length}
-use Rattle.interleaver.proofs.Joining as joining
 use Rattle.interleaver.proofs.Joining.{Joining}
 use Rattle.interleaver.proofs.fours.join_all.Given as goal
 

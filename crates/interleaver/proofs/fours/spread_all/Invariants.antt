@@ -2,7 +2,6 @@
 -- Assumes nothing.
 use Prim.Native.Nat.{◌-◌}
 use lib.ListN.{length}
-use Rattle.interleaver.proofs.Spreading as spreading
 use Rattle.interleaver.proofs.Spreading.{Spreading}
 use Rattle.interleaver.proofs.fours.spread_all.Given as goal
 

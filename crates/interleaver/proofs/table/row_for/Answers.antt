@@ -1,23 +1,22 @@
--- `table::row_for` meets its contract: the constants are the first 8 sizes of the definition's column, and those after them.
--- Assumes nothing.
-use mathlib.Core.Path.{◌∙◌}
-use native.Mathlib.Omega.{arith}
-use Rattle.interleaver.specs.Table.{size_table}
-use Rattle.interleaver.proofs.Search.{in_short, in_long, in_none, count_few}
+-- The sizes rise, so that the search by halves ends at the first that is enough.
+use Rattle.std.proofs.Common.{◌≡◌, rules, ltb}
+use Rattle.std.proofs.lemmas.List.Sorted.{IsPartitionPoint-from_clause, IsPartitionedBy-ltb}
+use Rattle.interleaver.specs.declared.table.Row.{Row}
+use Rattle.interleaver.specs.declared.table.TheConstants.{TABLE}
+use Rattle.interleaver.specs.Table.{row_for}
+use Rattle.interleaver.proofs.Columns.{size_of, rising_rows}
+use Rattle.interleaver.proofs.Search.{point_is, found_some, found_none}
+use Rattle.interleaver.proofs.table.row_for.Goals.{After-partition_point-row}
 use Rattle.interleaver.proofs.table.row_for.Goals as goal
 
-pub returns-then-least-le96 : goal.returns-then-least-le96
-unfolding size_table
-returns-then-least-le96 c = c.first_at_least.ensures ∙ in_short _ c.if-least-le96.true
+first : (c : After-partition_point-row) → c.partition_point-row.result ≡ row_for c.args.least
+first c =
+    let parted = IsPartitionedBy-ltb size_of TABLE c.args.least rising_rows in
+    point_is c.args.least c.partition_point-row.ensures.bound
+    (IsPartitionPoint-from_clause (λ (r : Row). ltb (size_of r) c.args.least) TABLE _ c.partition_point-row.ensures.partitioned parted (λ a r q k. search rules))
 
-pub returns-then-least-gt6144 : goal.returns-then-least-gt6144
-returns-then-least-gt6144 c = in_none _ c.if-least-gt6144.true
+pub returns-then-row-lt-ROWS : goal.returns-then-row-lt-ROWS
+returns-then-row-lt-ROWS c = found_some c.args.least (first (goal.at.returns-then-row-lt-ROWS c).After-partition_point-row) c.if-row-lt-ROWS.true
 
-pub overflow_add-result : goal.overflow_add-result
-unfolding size_table
-overflow_add-result c = omega (arith, c.count_below-row.ensures, count_few c.args.least)
-
-pub returns : goal.returns
-unfolding size_table
-returns c =
-    in_long c.if-least-le96.false c.count_below-row.ensures c.entry.ensures
+pub returns-else-row-lt-ROWS : goal.returns-else-row-lt-ROWS
+returns-else-row-lt-ROWS c = found_none c.args.least (first (goal.at.returns-else-row-lt-ROWS c).After-partition_point-row) c.if-row-lt-ROWS.false

@@ -1,21 +1,9 @@
--- `table::size_at` meets its contract: the constants are the first 8 entries of the definition's column, and those after them.
--- Assumes nothing.
-use mathlib.Core.Path.{◌≡◌, ◌∙◌, ap}
-use Prim.Native.Nat.{ℕ, ◌+◌, ◌-◌}
-use native.Mathlib.Omega.{arith}
-use lib.ListN.{get_or}
-use lib.Seq.{get_or-take, get_or-drop}
-use Rattle.interleaver.specs.Table.{size_table, size_at}
+-- The column's entry at the row, and 0 past the table.
+use Rattle.interleaver.proofs.Columns.{size_told, no_size}
 use Rattle.interleaver.proofs.table.size_at.Goals as goal
 
-pub returns-then-row-lt8 : goal.returns-then-row-lt8
-unfolding size_at size_table
-returns-then-row-lt8 c =
-    c.entry.ensures ∙ get_or-take 8 size_table c.args.row 0 c.if-row-lt8.true
+pub returns-then-row-lt-ROWS : goal.returns-then-row-lt-ROWS
+returns-then-row-lt-ROWS c = size_told c.args.row
 
-pub returns : goal.returns
-unfolding size_at size_table
-returns c =
-    let row = c.args.row in
-    let on : 8 + (row - 8) ≡ row = omega (arith, c.if-row-lt8.false) in
-    c.entry-2.ensures ∙ get_or-drop 8 size_table (row - 8) 0 ∙ ap (λ (i : ℕ). get_or size_table i 0) on
+pub returns-else-row-lt-ROWS : goal.returns-else-row-lt-ROWS
+returns-else-row-lt-ROWS c = no_size c.args.row c.if-row-lt-ROWS.false
