@@ -50,5 +50,9 @@ module _ {n : ℕ} {f : ℕ → ℕ} where
           ∙ ap (λ (j : ℕ). tab_from i (e - i) f ++ tab_from j (n - e) f) ends
           ∙ ap (λ (l : List ℕ). l ++ tab_from e (n - e) f) first
 
+  -- the place said in another way
+  pub moved : {out₀ out : List ℕ} {i j : ℕ} → i ≡ j → Filling n f out₀ out i → Filling n f out₀ out j
+  moved e w = rw e at w
+
   pub finish : {out₀ out : List ℕ} {i : ℕ} → n ≤ i → Filling n f out₀ out i → out ≡ tab n f
   finish {i = i} h w = W.finish_all (omega (arith, w.writing.long, w.room)) (rest_none i n f h) w.writing

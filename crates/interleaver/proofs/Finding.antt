@@ -2,12 +2,10 @@
 -- Assumes nothing.
 use mathlib.Core.Path.{◌≡◌, refl, sym, ◌∙◌, ap}
 use mathlib.Core.List.{List}
-use Prim.Native.Nat.{ℕ, ◌+◌, ◌*◌, ◌-◌, ◌%◌, ◌≤◌, ◌<◌}
+use Prim.Native.Nat.{ℕ, ◌+◌, ◌*◌, ◌%◌, ◌≤◌, ◌<◌}
 use native.Mathlib.Nat.{mod-lt, zero-mod}
 use native.Mathlib.Omega.{arith}
 use lib.ListN.{length, get_or, set}
-use mir.Syntax.{w64}
-use mir.Val.{Fits}
 use Rattle.laws.specs.Lists.{tab}
 use Rattle.interleaver.specs.declared.fours.Start.{Start}
 use Rattle.interleaver.specs.Place.{quadratic}
@@ -28,33 +26,8 @@ pub record Finding (K f1 f2 : ℕ) (w y₀ : List ℕ) (step : ℕ) (y : List �
   pub third : Stride K f1 f2 (i + 3) p3 g3
   pub steps : Alike K step (32 * f2)
   pub below : step < K
-  pub turn : i % 4 ≡ 0
-
--- the four places of a turn stand in y, their numbers fit, and less is left after it
-pub record Turn (y₀ y : List ℕ) (i : ℕ) : Type 0 where
-  pub one : (i + 1 < length y) × Fits w64 (i + 1)
-  pub two : (i + 2 < length y) × Fits w64 (i + 2)
-  pub three : (i + 3 < length y) × Fits w64 (i + 3)
-  pub four : (i + 4 ≤ length y₀) × Fits w64 (i + 4)
-  pub nearer : length y₀ - (i + 4) < length y₀ - i
 
 module _ {K f1 f2 : ℕ} {w y₀ : List ℕ} where
-  pub in_turn : {step : ℕ} {y : List ℕ} {g0 g1 g2 g3 p0 p1 p2 p3 i : ℕ} → length y₀ % 4 ≡ 0 → length y₀ ≤ 1536 → i < length y
-      → Finding K f1 f2 w y₀ step y g0 g1 g2 g3 p0 p1 p2 p3 i → Turn y₀ y i
-  in_turn {y = y} {i = i} whole few here f = record {
-    one = (omega arith, omega arith);
-    two = (omega arith, omega arith);
-    three = (omega arith, omega arith);
-    four = (last, omega arith);
-    nearer = omega arith;
-  }
-    where
-      long : length y ≡ length y₀
-      long = f.filling.writing.long
-
-      last : i + 4 ≤ length y₀
-      last = omega (arith, f.turn)
-
   pub start : {r : Start} → 0 < K → r ≡ first_four K f1 f2 → Finding K f1 f2 w y₀ r.step y₀ r.g0 r.g1 r.g2 r.g3 0 r.p1 r.p2 r.p3 0
   unfolding quadratic doubled first_four
   start some e = rw e record {
@@ -65,7 +38,6 @@ module _ {K f1 f2 : ℕ} {w y₀ : List ℕ} where
     third = S.start K f1 f2 some refl refl;
     steps = remainder refl;
     below = mod-lt (32 * f2) some;
-    turn = refl;
   }
     where
       nothing : f1 * 0 + f2 * (0 * 0) ≡ 0
@@ -74,7 +46,7 @@ module _ {K f1 f2 : ℕ} {w y₀ : List ℕ} where
       none : 0 ≡ quadratic K f1 f2 0
       none = sym (ap (λ (x : ℕ). x % K) nothing ∙ zero-mod K)
 
-  pub next : {step : ℕ} {y : List ℕ} {g0 g1 g2 g3 p0 p1 p2 p3 i g0' g1' g2' g3' p0' p1' p2' p3' : ℕ} → Turn y₀ y i
+  pub next : {step : ℕ} {y : List ℕ} {g0 g1 g2 g3 p0 p1 p2 p3 i g0' g1' g2' g3' p0' p1' p2' p3' : ℕ} → i + 4 ≤ length y₀
       → p0' ≡ less K p0 g0 → p1' ≡ less K p1 g1 → p2' ≡ less K p2 g2 → p3' ≡ less K p3 g3
       → g0' ≡ less K g0 step → g1' ≡ less K g1 step → g2' ≡ less K g2 step → g3' ≡ less K g3 step
       → Finding K f1 f2 w y₀ step y g0 g1 g2 g3 p0 p1 p2 p3 i
@@ -88,20 +60,19 @@ module _ {K f1 f2 : ℕ} {w y₀ : List ℕ} where
     third = rw (a3, b3) (rw on3 at (S.next K f1 f2 (omega arith) f.below f.steps f.third));
     steps = f.steps;
     below = f.below;
-    turn = omega (arith, f.turn);
   }
     where
       one_more : {j n p g : ℕ} {z : List ℕ} → (j + 1 ≡ n) × (j < length y₀) → Stride K f1 f2 j p g → Filling (length y₀) (bit_by K f1 f2 w) y₀ z j → Filling (length y₀) (bit_by K f1 f2 w) y₀ (set z j (get_or w p 0)) n
       one_more e s filled = rw e.0 at (F.next e.1 (ap (λ (x : ℕ). get_or w x 0) s.place) filled)
 
       one_two : (i + 1 + 1 ≡ i + 2) × (i + 1 < length y₀)
-      one_two = (omega arith, omega (arith, within.four))
+      one_two = (omega arith, omega arith)
 
       two_three : (i + 2 + 1 ≡ i + 3) × (i + 2 < length y₀)
-      two_three = (omega arith, omega (arith, within.four))
+      two_three = (omega arith, omega arith)
 
       three_four : (i + 3 + 1 ≡ i + 4) × (i + 3 < length y₀)
-      three_four = (omega arith, omega (arith, within.four))
+      three_four = (omega arith, omega arith)
 
       on1 : i + 1 + 4 ≡ i + 4 + 1
       on1 = omega arith

@@ -3,7 +3,7 @@
 use mathlib.Core.Path.{◌≡◌, sym, ◌∙◌, ap}
 use mathlib.Core.List.{List}
 use Prim.Native.Nat.{ℕ, ◌+◌, ◌*◌, ◌-◌, ◌/◌, ◌%◌, ◌≤◌, ◌<◌}
-use native.Mathlib.Nat.{add-mod_right, mod-add-mod, mod-eq_of_lt}
+use native.Mathlib.Nat.{mul-le-mul, add-mod_right, mod-add-mod, mod-eq_of_lt}
 use native.Mathlib.Omega.{arith}
 use lib.ListN.{length, get_or}
 use borrow.Rule.Slice.PartMut.{put_mid}
@@ -67,9 +67,13 @@ module _ (K : ℕ) (eights : K % 8 ≡ 0) (some : 0 < K) where
       zero = omega arith
 
 module _ {c out₀ : List ℕ} (r : Quartered c out₀) where
-  pub start : Joining c out₀ out₀ (length c / 4) (2 * (length c / 4)) (3 * (length c / 4)) 0
+  -- there is a quarter from the start of each of the four on
+  pub in_turn : (u : ℕ) → u < 4 → u * (length c / 4) < length c
+  in_turn u l = let most : u * (length c / 4) ≤ 3 * (length c / 4) = mul-le-mul (omega arith) (omega arith) in omega (arith, r.eights, r.some)
+
+  begin : Joining c out₀ out₀ (length c / 4) (2 * (length c / 4)) (3 * (length c / 4)) 0
   unfolding on_from
-  start = record {
+  begin = record {
     filling = F.start r.room;
     one = record { place = small (omega arith) ∙ ap (λ (n : ℕ). n % length c) first; whole = omega (arith, r.eights) };
     two = record { place = small (omega (arith, r.some)) ∙ ap (λ (n : ℕ). n % length c) second; whole = omega (arith, r.eights) };
@@ -88,6 +92,9 @@ module _ {c out₀ : List ℕ} (r : Quartered c out₀) where
 
       third : 3 * (length c / 4) ≡ 0 + 3 * (length c / 4)
       third = omega arith
+
+  pub start : Joining c out₀ out₀ (length c / 4) (2 * (length c / 4)) (3 * (length c / 4)) (0 * (length c / 4))
+  start = let none : 0 * (length c / 4) ≡ 0 = omega arith in rw none begin
 
   module _ {out : List ℕ} {b d e at : ℕ} (j : Joining c out₀ out b d e at) (h : at < length c) where
     pub joinable : {n : ℕ} → n ≡ at + length c / 4 - at → Joinable c at b d e n
@@ -126,6 +133,10 @@ module _ {c out₀ : List ℕ} (r : Quartered c out₀) where
           where
             once : at + length c / 4 ≡ at + 1 * (length c / 4)
             once = omega arith
+
+  -- the place said in another way
+  pub moved : {out : List ℕ} {b d e at at' : ℕ} → at ≡ at' → Joining c out₀ out b d e at → Joining c out₀ out b d e at'
+  moved s j = rw s at j
 
   pub finish : {out : List ℕ} {b d e at : ℕ} → length c ≤ at → Joining c out₀ out b d e at → out ≡ fours c
   unfolding fours

@@ -81,4 +81,3 @@ pub alike : (a b : Bool) → (a ≡ true → b ≡ true) → (b ≡ true → a �
 alike true b to from = sym (to refl)
 alike false true to from = from refl
 alike false false to from = refl
-

@@ -32,13 +32,11 @@ fn walk(k: usize, f1: usize, f2: usize, c: &[u8], out: &mut [u8])
 {
     let step = reduced(2 * f2, k);
     let mut g = reduced(f1 + f2, k);
-    let mut p: usize = 0;
-    let mut i: usize = 0;
-    while i < k {
-        out[i] = c[p];
+    let mut p = 0;
+    for bit in out.iter_mut() {
+        *bit = c[p];
         p = reduced(p + g, k);
         g = reduced(g + step, k);
-        i += 1;
     }
 }
 

@@ -14,10 +14,8 @@ pub(crate) fn all_bits(c: &[u8]) -> bool
 {
     // with no branch, so that the loop runs many bytes at a time
     let mut seen: u8 = 0;
-    let mut i = 0;
-    while i < c.len() {
-        seen = seen | c[i];
-        i += 1;
+    for bit in c {
+        seen |= *bit;
     }
     seen < 2
 }
@@ -57,14 +55,12 @@ fn join_all(c: &[u8], out: &mut [u8])
     let mut b = q;
     let mut d = 2 * q;
     let mut e = 3 * q;
-    let mut at = 0;
-    while at < out.len() {
-        let end = at + q;
-        join(c, at, b, d, e, &mut out[at..end]);
+    for quarter in 0..4 {
+        let at = quarter * q;
+        join(c, at, b, d, e, &mut out[at..at + q]);
         b = d;
         d = e;
         e = at;
-        at = end;
     }
 }
 
@@ -73,10 +69,8 @@ fn join(c: &[u8], a: usize, b: usize, d: usize, e: usize, part: &mut [u8])
     requires { Joinable c.now a b d e (length part.old) }
     ensures { part.new ≡ tab (length part.old) (joined c.now a b d e) }
 {
-    let mut i = 0;
-    while i < part.len() {
+    for i in 0..part.len() {
         part[i] = c[a + i] + 2 * c[b + i] + 4 * c[d + i] + 8 * c[e + i];
-        i += 1;
     }
 }
 
@@ -97,8 +91,8 @@ fn find(f1: usize, f2: usize, w: &[u8], y: &mut [u8])
     let mut p1 = start.p1;
     let mut p2 = start.p2;
     let mut p3 = start.p3;
-    let mut i = 0;
-    while i < y.len() {
+    for turn in 0..y.len() / 4 {
+        let i = 4 * turn;
         y[i] = w[p0];
         y[i + 1] = w[p1];
         y[i + 2] = w[p2];
@@ -111,7 +105,6 @@ fn find(f1: usize, f2: usize, w: &[u8], y: &mut [u8])
         g1 = back(g1, step, k);
         g2 = back(g2, step, k);
         g3 = back(g3, step, k);
-        i += 4;
     }
 }
 
@@ -208,12 +201,10 @@ fn spread_all(f1: usize, y: &[u8], out: &mut [u8])
     ensures { out.new ≡ tab (4 * length y.now) (spread_over f1 y.now) }
 {
     let mut shift = 0;
-    let mut at = 0;
-    while at < out.len() {
-        let end = at + y.len();
-        spread(y, shift, &mut out[at..end]);
+    for quarter in 0..4 {
+        let at = quarter * y.len();
+        spread(y, shift, &mut out[at..at + y.len()]);
         shift = (shift + f1) % 4;
-        at = end;
     }
 }
 
@@ -222,9 +213,7 @@ fn spread(y: &[u8], shift: usize, part: &mut [u8])
     requires { (shift < 4) × (length part.old ≡ length y.now) }
     ensures { part.new ≡ tab (length y.now) (digit y.now shift) }
 {
-    let mut i = 0;
-    while i < part.len() {
+    for i in 0..part.len() {
         part[i] = (y[i] >> shift) % 2;
-        i += 1;
     }
 }

@@ -1,6 +1,5 @@
 -- `fours::join` meets its contract: the loop fills its part by the rule `joined`, and four bits make a number below 16.
 -- Assumes nothing.
-use Prim.Native.Nat.{◌-◌}
 use lib.ListN.{length}
 use Rattle.interleaver.specs.inner.Quarters.{joined}
 use Rattle.interleaver.proofs.Filling.{Filling}
@@ -8,6 +7,3 @@ use Rattle.interleaver.proofs.fours.join.Given as goal
 
 abbrev pub invariant-loop-i : goal.invariant-loop-i
 invariant-loop-i l = Filling (length l.initial.part) (joined l.c l.a l.b l.d l.e) l.initial.part l.part l.i
-
-abbrev pub decreases-loop-i : goal.decreases-loop-i
-decreases-loop-i l = length l.initial.part - l.i

@@ -11,8 +11,5 @@ pub loop-i-preserved : goal.loop-i-preserved
 unfolding digit
 loop-i-preserved c = F.next (omega arith) refl c.loop-i.invariant
 
-pub shape_of-part : goal.shape_of-part
-shape_of-part c = c.loop-i.invariant.writing.long
-
 pub returns : goal.returns
 returns c = F.finish (omega arith) c.loop-i.invariant

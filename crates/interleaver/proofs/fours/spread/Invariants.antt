@@ -1,6 +1,5 @@
 -- `fours::spread` meets its contract: the loop fills its part by the rule `digit`.
 -- Assumes nothing.
-use Prim.Native.Nat.{◌-◌}
 use lib.ListN.{length}
 use Rattle.interleaver.specs.inner.Quarters.{digit}
 use Rattle.interleaver.proofs.Filling.{Filling}
@@ -8,6 +7,3 @@ use Rattle.interleaver.proofs.fours.spread.Given as goal
 
 abbrev pub invariant-loop-i : goal.invariant-loop-i
 invariant-loop-i l = Filling (length l.y) (digit l.y l.shift) l.initial.part l.part l.i
-
-abbrev pub decreases-loop-i : goal.decreases-loop-i
-decreases-loop-i l = length l.initial.part - l.i
