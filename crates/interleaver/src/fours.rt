@@ -188,6 +188,7 @@ fn plus(x: usize, y: usize, k: usize) -> usize
 }
 
 // x less y, modulo k.
+#[tactic(auto, unfolding(crate::specs::inner::Quarters::less))]
 fn back(x: usize, y: usize, k: usize) -> usize
     requires { (x ≤ k) × (y ≤ k) × (k ≤ 6144) }
     ensures { result ≡ less k x y }

@@ -1,20 +1,6 @@
--- `fours::first_four` meets its contract: the sums are what the definition says (`Starting`), and each is below K.
--- Assumes nothing.
-use native.Mathlib.Nat.{le_of_lt}
+-- The sums are what the definition says (`Starting`).
 use Rattle.interleaver.proofs.Starting.{first_by}
 use Rattle.interleaver.proofs.fours.first_four.Goals as goal
-
-pub overflow_sub-g0 : goal.overflow_sub-g0
-overflow_sub-g0 c = le_of_lt c.plus-way.ensures.1
-
-pub overflow_sub-g1 : goal.overflow_sub-g1
-overflow_sub-g1 c = le_of_lt c.plus-next.ensures.1
-
-pub overflow_sub-g2 : goal.overflow_sub-g2
-overflow_sub-g2 c = le_of_lt c.plus-3.ensures.1
-
-pub overflow_sub-g3 : goal.overflow_sub-g3
-overflow_sub-g3 c = le_of_lt c.plus-4.ensures.1
 
 pub returns : goal.returns
 returns c =
