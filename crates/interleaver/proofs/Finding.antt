@@ -1,63 +1,56 @@
 -- The loop that finds four places a turn: each of four pairs of counters goes from Π(i) to Π(i + 4).
 -- Assumes nothing.
-use mathlib.Core.Path.{◌≡◌, refl, sym, ◌∙◌, ap}
+use mathlib.Core.Path.{◌≡◌, refl, ap}
 use mathlib.Core.List.{List}
-use Prim.Native.Nat.{ℕ, ◌+◌, ◌*◌, ◌%◌, ◌≤◌, ◌<◌}
-use native.Mathlib.Nat.{mod-lt, zero-mod}
+use Prim.Native.Nat.{ℕ, ◌+◌, ◌*◌, ◌≤◌, ◌<◌}
+use native.Mathlib.Nat.{mod-lt}
 use native.Mathlib.Omega.{arith}
 use lib.ListN.{length, get_or, set}
 use Rattle.laws.specs.Lists.{tab}
+use Rattle.interleaver.specs.declared.fours.Counter.{Counter}
 use Rattle.interleaver.specs.declared.fours.Start.{Start}
-use Rattle.interleaver.specs.Place.{quadratic}
 use Rattle.interleaver.specs.Into.{bit_by}
-use Rattle.interleaver.specs.inner.Quarters.{less, doubled, first_four}
+use Rattle.interleaver.specs.inner.Quarters.{counter, counter_on, doubled, first_four}
 use Rattle.interleaver.proofs.Filling as F
 use Rattle.interleaver.proofs.Filling.{Filling}
 use Rattle.interleaver.proofs.Strides as S
 use Rattle.interleaver.proofs.Strides.{Stride}
 use Rattle.interleaver.proofs.Alike.{Alike, remainder}
 
--- y₀ has become y, and the counters are g0 to g3, p0 to p3 and i
-pub record Finding (K f1 f2 : ℕ) (w y₀ : List ℕ) (step : ℕ) (y : List ℕ) (g0 g1 g2 g3 p0 p1 p2 p3 i : ℕ) : Type 0 where
+-- y₀ has become y, and the counters are a, b, c and d
+pub record Finding (K f1 f2 : ℕ) (w y₀ : List ℕ) (step : ℕ) (y : List ℕ) (a b c d : Counter) (i : ℕ) : Type 0 where
   pub filling : Filling (length y₀) (bit_by K f1 f2 w) y₀ y i
-  pub zeroth : Stride K f1 f2 i p0 g0
-  pub first : Stride K f1 f2 (i + 1) p1 g1
-  pub second : Stride K f1 f2 (i + 2) p2 g2
-  pub third : Stride K f1 f2 (i + 3) p3 g3
+  pub zeroth : Stride K f1 f2 i a.place a.back
+  pub first : Stride K f1 f2 (i + 1) b.place b.back
+  pub second : Stride K f1 f2 (i + 2) c.place c.back
+  pub third : Stride K f1 f2 (i + 3) d.place d.back
   pub steps : Alike K step (32 * f2)
   pub below : step < K
 
 module _ {K f1 f2 : ℕ} {w y₀ : List ℕ} where
-  pub start : {r : Start} → 0 < K → r ≡ first_four K f1 f2 → Finding K f1 f2 w y₀ r.step y₀ r.g0 r.g1 r.g2 r.g3 0 r.p1 r.p2 r.p3 0
-  unfolding quadratic doubled first_four
+  pub start : {r : Start} → 0 < K → r ≡ first_four K f1 f2 → Finding K f1 f2 w y₀ r.step y₀ r.zeroth r.first r.second r.third 0
+  unfolding counter doubled first_four
   start some e = rw e record {
     filling = F.start refl;
-    zeroth = S.start K f1 f2 some none refl;
+    zeroth = S.start K f1 f2 some refl refl;
     first = S.start K f1 f2 some refl refl;
     second = S.start K f1 f2 some refl refl;
     third = S.start K f1 f2 some refl refl;
     steps = remainder refl;
     below = mod-lt (32 * f2) some;
   }
-    where
-      nothing : f1 * 0 + f2 * (0 * 0) ≡ 0
-      nothing = omega arith
 
-      none : 0 ≡ quadratic K f1 f2 0
-      none = sym (ap (λ (x : ℕ). x % K) nothing ∙ zero-mod K)
-
-  pub next : {step : ℕ} {y : List ℕ} {g0 g1 g2 g3 p0 p1 p2 p3 i g0' g1' g2' g3' p0' p1' p2' p3' : ℕ} → i + 4 ≤ length y₀
-      → p0' ≡ less K p0 g0 → p1' ≡ less K p1 g1 → p2' ≡ less K p2 g2 → p3' ≡ less K p3 g3
-      → g0' ≡ less K g0 step → g1' ≡ less K g1 step → g2' ≡ less K g2 step → g3' ≡ less K g3 step
-      → Finding K f1 f2 w y₀ step y g0 g1 g2 g3 p0 p1 p2 p3 i
-      → Finding K f1 f2 w y₀ step (set (set (set (set y i (get_or w p0 0)) (i + 1) (get_or w p1 0)) (i + 2) (get_or w p2 0)) (i + 3) (get_or w p3 0)) g0' g1' g2' g3' p0' p1' p2' p3' (i + 4)
-  unfolding bit_by
-  next {step} {y} {i = i} within a0 a1 a2 a3 b0 b1 b2 b3 f = record {
+  pub next : {step : ℕ} {y : List ℕ} {a b c d a' b' c' d' : Counter} {i : ℕ} → i + 4 ≤ length y₀
+      → a' ≡ counter_on K step a → b' ≡ counter_on K step b → c' ≡ counter_on K step c → d' ≡ counter_on K step d
+      → Finding K f1 f2 w y₀ step y a b c d i
+      → Finding K f1 f2 w y₀ step (set (set (set (set y i (get_or w a.place 0)) (i + 1) (get_or w b.place 0)) (i + 2) (get_or w c.place 0)) (i + 3) (get_or w d.place 0)) a' b' c' d' (i + 4)
+  unfolding bit_by counter_on
+  next {step} {y} {i = i} within ea eb ec ed f = rw (ea, eb, ec, ed) record {
     filling = one_more three_four f.third (one_more two_three f.second (one_more one_two f.first (F.next (omega arith) (ap (λ (x : ℕ). get_or w x 0) f.zeroth.place) f.filling)));
-    zeroth = rw (a0, b0) (S.next K f1 f2 (omega arith) f.below f.steps f.zeroth);
-    first = rw (a1, b1) (rw on1 at (S.next K f1 f2 (omega arith) f.below f.steps f.first));
-    second = rw (a2, b2) (rw on2 at (S.next K f1 f2 (omega arith) f.below f.steps f.second));
-    third = rw (a3, b3) (rw on3 at (S.next K f1 f2 (omega arith) f.below f.steps f.third));
+    zeroth = S.next K f1 f2 (omega arith) f.below f.steps f.zeroth;
+    first = rw on1 at (S.next K f1 f2 (omega arith) f.below f.steps f.first);
+    second = rw on2 at (S.next K f1 f2 (omega arith) f.below f.steps f.second);
+    third = rw on3 at (S.next K f1 f2 (omega arith) f.below f.steps f.third);
     steps = f.steps;
     below = f.below;
   }
@@ -83,5 +76,5 @@ module _ {K f1 f2 : ℕ} {w y₀ : List ℕ} where
       on3 : i + 3 + 4 ≡ i + 4 + 3
       on3 = omega arith
 
-  pub finish : {step : ℕ} {y : List ℕ} {g0 g1 g2 g3 p0 p1 p2 p3 i : ℕ} → length y₀ ≤ i → Finding K f1 f2 w y₀ step y g0 g1 g2 g3 p0 p1 p2 p3 i → y ≡ tab (length y₀) (bit_by K f1 f2 w)
+  pub finish : {step : ℕ} {y : List ℕ} {a b c d : Counter} {i : ℕ} → length y₀ ≤ i → Finding K f1 f2 w y₀ step y a b c d i → y ≡ tab (length y₀) (bit_by K f1 f2 w)
   finish h f = F.finish h f.filling

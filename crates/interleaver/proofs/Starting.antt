@@ -2,12 +2,12 @@
 -- Assumes nothing.
 use mathlib.Core.Path.{◌≡◌, sym, ◌∙◌, ap}
 use Prim.Native.Nat.{ℕ, ◌+◌, ◌*◌, ◌-◌, ◌%◌, ◌<◌}
-use native.Mathlib.Nat.{mod-eq_of_lt}
+use native.Mathlib.Nat.{mod-eq_of_lt, zero-mod}
 use native.Mathlib.Omega.{arith}
 use Rattle.interleaver.specs.declared.fours.Doubled.{Doubled}
 use Rattle.interleaver.specs.declared.fours.Start.{Start}
 use Rattle.interleaver.specs.Place.{quadratic}
-use Rattle.interleaver.specs.inner.Quarters.{doubled, ahead, back_from, first_four}
+use Rattle.interleaver.specs.inner.Quarters.{doubled, ahead, back_from, counter, first_four}
 use Rattle.interleaver.proofs.Alike.{sum, remainder}
 
 -- m is what n leaves modulo K
@@ -46,11 +46,20 @@ module _ (K f1 f2 : ℕ) where
   pub first_by : {by : Doubled} {twice p1 p2 q p3 both way next third last : ℕ} → f1 < K → f2 < K → by ≡ doubled K f2
       → twice ≡ (f1 + f1) % K → p1 ≡ (f1 + f2) % K → p2 ≡ (twice + by.four) % K → q ≡ (p1 + p2) % K → p3 ≡ (q + by.four) % K
       → both ≡ (twice + twice) % K → way ≡ (both + by.sixteen) % K → next ≡ (way + by.eight) % K → third ≡ (way + by.sixteen) % K → last ≡ (next + by.sixteen) % K
-      → ◌≡◌ {A = Start} (record { p1 = p1; p2 = p2; p3 = p3; g0 = K - way; g1 = K - next; g2 = K - third; g3 = K - last; step = by.step }) (first_four K f1 f2)
-  unfolding doubled quadratic ahead back_from first_four
+      → ◌≡◌ {A = Start} (record {
+        zeroth = record { place = 0; back = K - way };
+        first = record { place = p1; back = K - next };
+        second = record { place = p2; back = K - third };
+        third = record { place = p3; back = K - last };
+        step = by.step;
+      }) (first_four K f1 f2)
+  unfolding doubled quadratic ahead back_from counter first_four
   first_by {by} {twice} {p1} {p2} {q} {p3} {both} {way} {next} {third} {last} low1 low2 e et e1 e2 eq e3 eb ew en e-third e-last =
-      rw (p1s.is, p2s.is, p3s.is, ways.is, nexts.is, thirds.is, lasts.is, ap (λ (d : Doubled). d.step) e)
+      rw (p1s.is, p2s.is, p3s.is, ways.is, nexts.is, thirds.is, lasts.is, ap (λ (d : Doubled). d.step) e, ← none)
     where
+      none : 0 ≡ (f1 * 0 + f2 * (0 * 0)) % K
+      none = sym (ap (λ (x : ℕ). x % K) (omega arith) ∙ zero-mod K)
+
       fours : Rest K by.four (4 * f2)
       fours = record { is = ap (λ (d : Doubled). d.four) e }
 

@@ -4,7 +4,7 @@ ghost use Rattle.std.specs.Prelude.{true, ◌≡◌, ◌+◌, ◌*◌, ◌%◌, 
 ghost use Rattle.laws.specs.Bits.{AreBits};
 ghost use Rattle.laws.specs.Lists.{tab};
 ghost use Rattle.interleaver.specs.Into.{bit_by, bits_by};
-ghost use Rattle.interleaver.specs.inner.Quarters.{joined, Joinable, fours, Quartered, Countable, less, doubled, first_four, digit, spread_over};
+ghost use Rattle.interleaver.specs.inner.Quarters.{joined, Joinable, fours, Quartered, Countable, less, counter_on, doubled, first_four, digit, spread_over};
 
 use crate::block::reduced;
 
@@ -74,8 +74,28 @@ fn join(c: &[u8], a: usize, b: usize, d: usize, e: usize, part: &mut [u8])
     }
 }
 
-// The entries of `w` at Π(0), Π(1), .., four a turn, so that none waits for another: p0 to p3 are Π(i) to Π(i + 3), and g0 to g3 are what takes
-// them back, modulo K, to Π(i + 4) to Π(i + 7). Each shrinks by 32·f2.
+// A place Π(i), and what takes it back, modulo K, to Π(i + 4).
+#[derive(Clone, Copy)]
+struct Counter {
+    place: usize,
+    back: usize,
+}
+
+impl Counter {
+    // The counter four places on. What takes it back shrinks by 32·f2, the step.
+    #[tactic(auto, unfolding(crate::specs::inner::Quarters::counter_on))]
+    fn on(self, step: usize, k: usize) -> Counter
+        requires { (self.place ≤ k) × (self.back ≤ k) × (step ≤ k) × (k ≤ 6144) }
+        ensures { result ≡ counter_on k step self }
+    {
+        Counter {
+            place: back(self.place, self.back, k),
+            back: back(self.back, step, k),
+        }
+    }
+}
+
+// The entries of `w` at Π(0), Π(1), .., four a turn by a counter each, so that none waits for another.
 fn find(f1: usize, f2: usize, w: &[u8], y: &mut [u8])
     requires { Countable (length w.now) f1 f2 × (length y.old % 4 ≡ 0) × (length y.old ≤ 1536) }
     ensures { y.new ≡ tab (length y.old) (bit_by (length w.now) f1 f2 w.now) }
@@ -83,41 +103,30 @@ fn find(f1: usize, f2: usize, w: &[u8], y: &mut [u8])
     let k = w.len();
     let start = first_four(f1, f2, k);
     let step = start.step;
-    let mut g0 = start.g0;
-    let mut g1 = start.g1;
-    let mut g2 = start.g2;
-    let mut g3 = start.g3;
-    let mut p0 = 0;
-    let mut p1 = start.p1;
-    let mut p2 = start.p2;
-    let mut p3 = start.p3;
+    let mut zeroth = start.zeroth;
+    let mut first = start.first;
+    let mut second = start.second;
+    let mut third = start.third;
     for turn in 0..y.len() / 4 {
         let i = 4 * turn;
-        y[i] = w[p0];
-        y[i + 1] = w[p1];
-        y[i + 2] = w[p2];
-        y[i + 3] = w[p3];
-        p0 = back(p0, g0, k);
-        p1 = back(p1, g1, k);
-        p2 = back(p2, g2, k);
-        p3 = back(p3, g3, k);
-        g0 = back(g0, step, k);
-        g1 = back(g1, step, k);
-        g2 = back(g2, step, k);
-        g3 = back(g3, step, k);
+        y[i] = w[zeroth.place];
+        y[i + 1] = w[first.place];
+        y[i + 2] = w[second.place];
+        y[i + 3] = w[third.place];
+        zeroth = zeroth.on(step, k);
+        first = first.on(step, k);
+        second = second.on(step, k);
+        third = third.on(step, k);
     }
 }
 
-// Where `find` begins: the first four places, but for Π(0), which is 0, what takes each of the four back, and by how much that shrinks a turn.
+// Where `find` begins: the counters of the first four places, and the step.
 #[derive(Drop)]
 struct Start {
-    p1: usize,
-    p2: usize,
-    p3: usize,
-    g0: usize,
-    g1: usize,
-    g2: usize,
-    g3: usize,
+    zeroth: Counter,
+    first: Counter,
+    second: Counter,
+    third: Counter,
     step: usize,
 }
 
@@ -131,23 +140,28 @@ fn first_four(f1: usize, f2: usize, k: usize) -> Start
     let eight = by.eight;
     let sixteen = by.sixteen;
     let twice = plus(f1, f1, k);
-    let p1 = plus(f1, f2, k);
-    let p2 = plus(twice, four, k);
-    let p3 = plus(plus(p1, p2, k), four, k);
+    let one = plus(f1, f2, k);
+    let two = plus(twice, four, k);
+    let three = plus(plus(one, two, k), four, k);
     let way = plus(plus(twice, twice, k), sixteen, k);
     let next = plus(way, eight, k);
-    let g0 = k - way;
-    let g1 = k - next;
-    let g2 = k - plus(way, sixteen, k);
-    let g3 = k - plus(next, sixteen, k);
     Start {
-        p1,
-        p2,
-        p3,
-        g0,
-        g1,
-        g2,
-        g3,
+        zeroth: Counter {
+            place: 0,
+            back: k - way,
+        },
+        first: Counter {
+            place: one,
+            back: k - next,
+        },
+        second: Counter {
+            place: two,
+            back: k - plus(way, sixteen, k),
+        },
+        third: Counter {
+            place: three,
+            back: k - plus(next, sixteen, k),
+        },
         step: by.step,
     }
 }

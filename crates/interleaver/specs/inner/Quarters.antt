@@ -3,6 +3,7 @@
 use Rattle.std.specs.Prelude.{cond, List, ◌≡◌, ℕ, ◌+◌, ◌-◌, ◌*◌, ◌/◌, ◌%◌, ◌^◌, ◌≤◌, ◌<◌, ltb, length, get_or}
 use Rattle.laws.specs.Bits.{AreBits}
 use Rattle.laws.specs.Lists.{tab}
+use Rattle.interleaver.specs.declared.fours.Counter.{Counter}
 use Rattle.interleaver.specs.declared.fours.Doubled.{Doubled}
 use Rattle.interleaver.specs.declared.fours.Start.{Start}
 use Rattle.interleaver.specs.Place.{quadratic}
@@ -46,16 +47,20 @@ ahead f1 f2 i = 4 * f1 + f2 * (8 * i + 16)
 unfoldable pub back_from : ℕ → ℕ → ℕ → ℕ → ℕ
 back_from K f1 f2 i = K - ahead f1 f2 i % K
 
--- the first four places, but for Π(0), what takes each of the four back, and by how much that shrinks a turn
+-- the counter at Π(i), and a counter four places on, where the step is 32·f2 modulo K
+unfoldable pub counter : ℕ → ℕ → ℕ → ℕ → Counter
+counter K f1 f2 i = record { place = quadratic K f1 f2 i; back = back_from K f1 f2 i }
+
+unfoldable pub counter_on : ℕ → ℕ → Counter → Counter
+counter_on K step c = record { place = less K c.place c.back; back = less K c.back step }
+
+-- the counters of the first four places, and by how much what takes them back shrinks a turn
 unfoldable pub first_four : ℕ → ℕ → ℕ → Start
 first_four K f1 f2 = record {
-  p1 = quadratic K f1 f2 1;
-  p2 = quadratic K f1 f2 2;
-  p3 = quadratic K f1 f2 3;
-  g0 = back_from K f1 f2 0;
-  g1 = back_from K f1 f2 1;
-  g2 = back_from K f1 f2 2;
-  g3 = back_from K f1 f2 3;
+  zeroth = counter K f1 f2 0;
+  first = counter K f1 f2 1;
+  second = counter K f1 f2 2;
+  third = counter K f1 f2 3;
   step = (doubled K f2).step;
 }
 

@@ -12,7 +12,7 @@ loop-turn-preserved c =
     let on : 4 * c.loop-turn.turn + 4 ≡ 4 * (c.loop-turn.turn + 1) = omega arith in
     rw on at (
     finding.next (omega arith)
-    c.back-p0.ensures c.back-p1.ensures c.back-p2.ensures c.back-p3.ensures c.back-g0.ensures c.back-g1.ensures c.back-g2.ensures c.back-g3.ensures
+    c.on-zeroth.ensures c.on-first.ensures c.on-second.ensures c.on-third.ensures
     c.loop-turn.invariant)
 
 pub returns : goal.returns

@@ -15,7 +15,7 @@ loop-quarter-preserved c =
     let u = c.loop-quarter.quarter in
     let turn = joining.in_turn c.requires u c.loop-quarter-test.true in
     let left : u * q + q ≤ length c.loop-quarter.out = omega (arith, c.loop-quarter.invariant.here turn, c.requires.room) in
-    let count = length_mid _ _ _ left in
+    let count = length_mid (u * q) (u * q + q) c.loop-quarter.out left in
     let on : u * q + q ≡ (u + 1) * q = omega arith in
     joining.moved c.requires on (joining.next c.requires c.loop-quarter.invariant turn count (c.join.auto.part ∙ count) c.join.ensures)
 
