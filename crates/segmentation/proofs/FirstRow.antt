@@ -3,13 +3,16 @@
 use mathlib.Core.Path.{◌≡◌, refl, sym, ◌∙◌, ap, ap₂}
 use mathlib.Core.Bool.{Bool, true, false, cond}
 use mathlib.Core.List.{List, [], ◌∷◌}
-use Prim.Native.Nat.{ℕ, zero, suc, ◌+◌, ◌-◌, ◌*◌, ◌/◌, ◌≤◌, ◌<◌}
-use native.Mathlib.Nat.{zero-add, add-zero, div-lt_iff_lt-mul}
+use Prim.Native.Nat.{ℕ, zero, suc, ◌+◌, ◌*◌, ◌≤◌, ◌<◌}
+use native.Mathlib.Nat.{zero-add, add-zero, mul-le-mul}
 use native.Mathlib.Decide.{ℕ_discrete, dec_le, dec_lt}
 use native.Mathlib.Omega.{arith}
 use lib.Dec.{leb}
 use lib.ListN.{length, get_or}
-use borrow.Author.Tests.{le-leb, lt-leb, leb-true, leb-false}
+use borrow.Author.Tests.{le-leb, lt-leb, leb-true, leb-false, lt-ltb}
+use Rattle.std.specs.Prelude.{Option, Some, IsSome}
+use Rattle.std.specs.Int.{div_ceil}
+use Rattle.std.proofs.lemmas.Grind.{div_ceil_times}
 use Rattle.interleaver.specs.declared.table.Found.{Found}
 use Rattle.interleaver.specs.Table.{size_table, size_at, row_count, first_at_least, row_for, found_for}
 use Rattle.segmentation.specs.Segmentation.{first_row}
@@ -50,22 +53,28 @@ first_serves C need i (suc n) j h l e = go (leb need (C * size_at i)) refl (λ m
 -- ---- one code block in the place of several
 
 -- blocks·K ≥ need says the same as K ≥ the ceiling of need / blocks
-enough_alike : (C need x : ℕ) → 0 < C → leb need (C * x) ≡ leb ((need + (C - 1)) / C) (1 * x)
+enough_alike : (C need x : ℕ) → 0 < C → leb need (C * x) ≡ leb (div_ceil need C) (1 * x)
 enough_alike C need x some = elim (dec_le need (C * x)) [
-  | yes h ↦ le-leb need (C * x) h ∙ sym (le-leb ((need + (C - 1)) / C) (1 * x) (omega (arith, within h)))
-  | no h ↦ lt-leb need (C * x) (omega arith) ∙ sym (lt-leb ((need + (C - 1)) / C) (1 * x) (omega (arith, above (omega arith))))
+  | yes h ↦ le-leb need (C * x) h ∙ sym (le-leb (div_ceil need C) (1 * x) (omega (arith, within h)))
+  | no h ↦ lt-leb need (C * x) (omega arith) ∙ sym (lt-leb (div_ceil need C) (1 * x) (omega (arith, above (omega arith))))
 ]
   where
-    within : need ≤ C * x → (need + (C - 1)) / C < x + 1
-    within h = (div-lt_iff_lt-mul some).1 (omega arith)
+    ceil : (need ≤ div_ceil need C * C) × (div_ceil need C * C < need + C)
+    ceil = div_ceil_times need C some
 
-    above : C * x < need → x < (need + (C - 1)) / C
-    above h = elim (dec_lt x ((need + (C - 1)) / C)) [
+    within : need ≤ C * x → div_ceil need C < x + 1
+    within h = elim (dec_lt (div_ceil need C) (x + 1)) [
       | yes l ↦ l
-      | no l ↦ let low : need + (C - 1) < (x + 1) * C = (div-lt_iff_lt-mul some).0 (omega arith) in omega arith
+      | no l ↦ let more : (x + 1) * C ≤ div_ceil need C * C = mul-le-mul (omega arith) (omega arith) in omega (arith, more, ceil.1)
     ]
 
-first_row_alike : (C need i n : ℕ) → 0 < C → first_row C need i n ≡ first_row 1 ((need + (C - 1)) / C) i n
+    above : C * x < need → x < div_ceil need C
+    above h = elim (dec_lt x (div_ceil need C)) [
+      | yes l ↦ l
+      | no l ↦ let less : div_ceil need C * C ≤ x * C = mul-le-mul (omega arith) (omega arith) in omega (arith, less, ceil.0)
+    ]
+
+first_row_alike : (C need i n : ℕ) → 0 < C → first_row C need i n ≡ first_row 1 (div_ceil need C) i n
 unfolding first_row
 first_row_alike C need i zero some = refl
 first_row_alike C need i (suc n) some =
@@ -94,22 +103,45 @@ unfolding size_table
 all_rows = refl
 
 -- the row found for one code block is that for C
-found_for_lem : (C need row : ℕ) → 0 < C → row ≡ row_for ((need + (C - 1)) / C) → row ≡ first_row C need 0 row_count
+found_for_lem : (C need row : ℕ) → 0 < C → row ≡ row_for (div_ceil need C) → row ≡ first_row C need 0 row_count
 unfolding row_for size_at
 found_for_lem C need row some e =
     e
-    ∙ sym (zero-add (first_at_least ((need + (C - 1)) / C) size_table))
-    ∙ sym (search_table ((need + (C - 1)) / C) size_table 0 (λ j l. ap size_at (zero-add j)))
-    ∙ ap (first_row 1 ((need + (C - 1)) / C) 0) all_rows
+    ∙ sym (zero-add (first_at_least (div_ceil need C) size_table))
+    ∙ sym (search_table (div_ceil need C) size_table 0 (λ j l. ap size_at (zero-add j)))
+    ∙ ap (first_row 1 (div_ceil need C) 0) all_rows
     ∙ sym (first_row_alike C need 0 row_count some)
 
--- the same with its K
-pub found_told : (C need : ℕ) {r : Found} → 0 < C → r ≡ found_for ((need + (C - 1)) / C) → (r.row ≡ first_row C need 0 row_count) × (r.size ≡ size_at r.row)
-unfolding found_for
-found_told C need some e = (found_for_lem C need _ some (ap (λ (r : Found). r.row) e), ap (λ (r : Found). r.size) e ∙ ap size_at (sym (ap (λ (r : Found). r.row) e)))
+alone : (need : ℕ) → div_ceil need 1 ≡ need
+alone need = omega arith
 
-pub found_one : (need : ℕ) {r : Found} → r ≡ found_for need → (r.row ≡ first_row 1 need 0 row_count) × (r.size ≡ size_at r.row)
-found_one need e = found_told 1 need (omega arith) (e ∙ ap found_for (sym alone))
+-- where the last row serves, a row is found
+last : size_at 187 ≡ 6144
+unfolding size_at size_table
+last = refl
+
+row_within : (C need : ℕ) → 0 < C → need ≤ C * 6144 → row_for (div_ceil need C) < row_count
+row_within C need some h =
+    let first = found_for_lem C need _ some refl in
+    let serves = first_serves C need 0 row_count 187 (omega arith) (omega arith) (rw last h) in
+    omega (arith, first, serves.0)
+
+-- the row that is found, with its K
+pub found_told : (C need : ℕ) {r : Found} → 0 < C → need ≤ C * 6144 → found_for (div_ceil need C) ≡ Some r → (r.row ≡ first_row C need 0 row_count) × (r.size ≡ size_at r.row)
+unfolding found_for
+found_told C need {r} some h e = go _ (found_for_lem C need _ some refl) (rw (lt-ltb _ _ (row_within C need some h)) at e)
   where
-    alone : (need + (1 - 1)) / 1 ≡ need
-    alone = omega arith
+    go : (row : ℕ) → row ≡ first_row C need 0 row_count → ◌≡◌ {A = Option Found} (Some (record { row = row; size = size_at row })) (Some r)
+        → (r.row ≡ first_row C need 0 row_count) × (r.size ≡ size_at r.row)
+    go row told e = let same : ◌≡◌ {A = Found} (record { row = row; size = size_at row }) r = cc in rw (← same) (told, refl)
+
+pub found_some : (C need : ℕ) → 0 < C → need ≤ C * 6144 → IsSome (found_for (div_ceil need C))
+unfolding found_for
+found_some C need some h = rw (lt-ltb _ _ (row_within C need some h)) refl
+
+-- the same for one code block
+pub found_one : (need : ℕ) {r : Found} → need ≤ 6144 → found_for need ≡ Some r → (r.row ≡ first_row 1 need 0 row_count) × (r.size ≡ size_at r.row)
+found_one need h e = found_told 1 need (omega arith) (omega arith) (ap found_for (alone need) ∙ e)
+
+pub one_some : (need : ℕ) → need ≤ 6144 → IsSome (found_for need)
+one_some need h = rw (alone need) at (found_some 1 need (omega arith) (omega arith))

@@ -5,6 +5,7 @@ use Prim.Native.Nat.{ℕ, ◌+◌, ◌-◌, ◌*◌, ◌/◌, ◌^◌, ◌≤◌
 use native.Mathlib.Nat.{mul-le-mul}
 use native.Mathlib.Omega.{arith}
 use Rattle.interleaver.specs.Table.{size_at, row_count}
+use Rattle.std.specs.Int.{div_ceil}
 use Rattle.segmentation.specs.Segmentation.{blocks, with_checks, first_row, long_row, long, short, shorts, longs, filler}
 use Rattle.segmentation.specs.Sizes.{segments_of}
 use Rattle.segmentation.proofs.Segmentation.{single, need_single, no_shorts, several, some_shorts, blocks_most, long_is, long_most, short_row, short_is, shorts_fewer, total_enough}
@@ -50,22 +51,19 @@ kept {C} {need} {K} {k} {s} few most below enough fewer total =
     short_part : s * k ≤ 5 * 6144
     short_part = mul-le-mul one other
 
--- C and B' of more than one code block, and C− from K+ and K−
-abbrev pub blocks_by : ℕ → ℕ
-blocks_by B = (B + 6119) / 6120
+-- B' of more than one code block, and C− from K+ and K−
+abbrev pub need_by : ℕ → ℕ → ℕ
+need_by B C = B + C * 24
 
-abbrev pub need_by : ℕ → ℕ
-need_by B = B + blocks_by B * 24
+abbrev pub shorts_by : ℕ → ℕ → ℕ → ℕ → ℕ
+shorts_by B C K k = (C * K - need_by B C) / (K - k)
 
-abbrev pub shorts_by : ℕ → ℕ → ℕ → ℕ
-shorts_by B K k = (blocks_by B * K - need_by B) / (K - k)
+-- several code blocks: C, the row of K+, K+, and then K−
+module _ {B C row K : ℕ} (large : 6144 < B) (high : B ≤ 30600) (count : C ≡ div_ceil B 6120) (row_is : row ≡ first_row C (need_by B C) 0 row_count) (K-is : K ≡ size_at row) where
+  blocks_told : C ≡ blocks B
+  blocks_told = let same : div_ceil B 6120 ≡ (B + 6119) / 6120 = omega arith in count ∙ same ∙ sym (several B large).0
 
--- several code blocks: the row of K+, K+, and then K−
-module _ {B row K : ℕ} (large : 6144 < B) (high : B ≤ 30600) (row_is : row ≡ first_row (blocks_by B) (need_by B) 0 row_count) (K-is : K ≡ size_at row) where
-  blocks_told : blocks_by B ≡ blocks B
-  blocks_told = sym (several B large).0
-
-  need_told : need_by B ≡ with_checks B
+  need_told : need_by B C ≡ with_checks B
   unfolding with_checks
   need_told = rw ((several B large).1, blocks_told)
 
@@ -84,20 +82,20 @@ module _ {B row K : ℕ} (large : 6144 < B) (high : B ≤ 30600) (row_is : row �
     short_told : k ≡ short B
     short_told = k_is ∙ ap (λ (n : ℕ). size_at (n - 1)) row_told ∙ sym (some_shorts B large).0
 
-    shorts_told : shorts_by B K k ≡ shorts B
+    shorts_told : shorts_by B C K k ≡ shorts B
     shorts_told = rw (need_told, blocks_told, long_told, short_told) (sym (some_shorts B large).1)
 
-    pub sums : Sums (blocks_by B) (need_by B) K k (shorts_by B K k)
+    pub sums : Sums C (need_by B C) K k (shorts_by B C K k)
     sums = rw (shorts_told, need_told, blocks_told, long_told, short_told)
         (kept (blocks_most B high) (long_most B high) (short_is B high large).below (long_is B high).enough (shorts_fewer B high) (total_enough B high))
 
     pub worked : record {
-      blocks = blocks_by B;
-      longs = blocks_by B - shorts_by B K k;
+      blocks = C;
+      longs = C - shorts_by B C K k;
       long = K;
-      shorts = shorts_by B K k;
+      shorts = shorts_by B C K k;
       short = k;
-      filler = (blocks_by B - shorts_by B K k) * K + shorts_by B K k * k - need_by B;
+      filler = (C - shorts_by B C K k) * K + shorts_by B C K k * k - need_by B C;
       row = row;
     } ≡ segments_of B
     unfolding segments_of longs filler

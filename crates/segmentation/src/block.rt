@@ -1,5 +1,5 @@
 // The bits of a code block, taken straight from the transport block, which lies in two slices.
-ghost use Rattle.std.specs.Prelude.{cond, ◌++◌, ◌≡◌, ℕ, min, ◌+◌, ◌-◌, ◌≤◌, eqb, ltb, length, take, drop, replicate};
+ghost use Rattle.std.specs.Prelude.{cond, ◌++◌, ◌≡◌, ◌+◌, ◌-◌, ◌≤◌, eqb, ltb, length, take, drop};
 ghost use Rattle.laws.specs.Bits.{bits_of};
 ghost use Rattle.segmentation.specs.CodeBlocks.{payload};
 ghost use Rattle.segmentation.specs.Into.{code_block_into, filled_with, start_of, Segmented, Room};
@@ -53,8 +53,8 @@ fn fill_both(zeros: usize, first: &[u8], second: &[u8], from: usize, to: usize, 
     ensures { c.new ≡ filled_with zeros (take (to - from) (drop from (first.now ++ second.now))) c.old }
 {
     let cut = first.len();
-    let a = least(from, cut);
-    let b = least(to, cut);
+    let a = from.min(cut);
+    let b = to.min(cut);
     fill(zeros, &first[a..b], c);
     let at = zeros + (b - a);
     let start = from - a;
@@ -62,30 +62,13 @@ fn fill_both(zeros: usize, first: &[u8], second: &[u8], from: usize, to: usize, 
     octets::copy(&second[start..end], &mut c[at..]);
 }
 
-fn least(x: usize, y: usize) -> usize
-    ensures { result ≡ min x y }
-{
-    if x < y { x } else { y }
-}
-
 // Writes zeros, and `part` after them, over the front of `c`.
 fn fill(zeros: usize, part: &[u8], c: &mut [u8])
     requires { zeros + length part.now ≤ length c.old }
     ensures { c.new ≡ filled_with zeros part.now c.old }
 {
-    clear(&mut c[..zeros]);
+    c[..zeros].fill(0);
     octets::copy(part, &mut c[zeros..]);
-}
-
-// Writes 0 over all of `c`.
-fn clear(c: &mut [u8])
-    ensures { c.new ≡ replicate {A = ℕ} (length c.old) 0 }
-{
-    let mut i = 0;
-    while i < c.len() {
-        c[i] = 0;
-        i += 1;
-    }
 }
 
 // Where code block `r` begins to take of the `len` bits of the block. Long code blocks come last and are counted back from the end.

@@ -64,18 +64,11 @@ pub fn segments_for(a: usize) -> Segments
     if b <= 6144 { single(b) } else { several(b) }
 }
 
-// The segmentation of a block that lies in two slices, of `first` and `second` bits. Where one alone is too long no sum is taken: a wrong
-// length that C hands over is then refused and does not wrap.
+// The segmentation of a block that lies in two slices, of `first` and `second` bits. The sum does not wrap: a wrong length that C hands over is refused.
 pub fn segments_for_both(first: usize, second: usize) -> Segments
     ensures { result ≡ segments_for (first + second) }
 {
-    if first > 30576 {
-        return segments_for(first);
-    }
-    if second > 30576 {
-        return segments_for(second);
-    }
-    segments_for(first + second)
+    segments_for(first.saturating_add(second))
 }
 
 // The call Sizes of 01: the numbers of a block of `a` bits, or refusal 1.
@@ -97,6 +90,7 @@ pub fn sizes_for(a: usize) -> SizesAnswer
 }
 
 // A block of `a` bits is out of range.
+#[tactic(auto, unfolding(crate::specs::Sizes::bad_size))]
 fn bad_size(a: usize) -> bool
     ensures { result ≡ bad_size a }
 {
@@ -108,7 +102,8 @@ fn single(b: usize) -> Segments
     requires { b ≤ 6144 }
     ensures { result ≡ segments_of b }
 {
-    let found = row_for(b);
+    // 6144 is the last K of the table, so there is such a row
+    let found = row_for(b).unwrap();
     let long = found.size;
     Segments {
         blocks: 1,
@@ -126,8 +121,8 @@ fn several(b: usize) -> Segments
     requires { (6144 < b) × (b ≤ 30600) }
     ensures { result ≡ segments_of b }
 {
-    // the ceiling of b / (Z - L)
-    let blocks = (b + 6119) / 6120;
+    // b / (Z - L)
+    let blocks = b.div_ceil(6120);
     let need = b + blocks * 24;
     let found = first_row(blocks, need);
     let row = found.row;
@@ -153,5 +148,5 @@ fn first_row(blocks: usize, need: usize) -> Found
     ensures { (result.row ≡ first_row blocks need 0 row_count) × (result.size ≡ size_at result.row) }
 {
     // blocks·K ≥ need says the same as K ≥ the ceiling of need / blocks
-    row_for((need + (blocks - 1)) / blocks)
+    row_for(need.div_ceil(blocks)).unwrap()
 }

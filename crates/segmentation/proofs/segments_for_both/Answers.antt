@@ -1,12 +1,14 @@
--- `segments_for_both` meets its contract: a slice that is too long makes the block too long.
--- Assumes nothing.
-use mathlib.Core.Path.{◌∙◌}
-use native.Mathlib.Omega.{arith}
+-- A sum that saturates is out of range, as the sum itself is.
+use Rattle.std.proofs.Common.{◌∙◌, ◌+◌, ap, arith}
+use native.Mathlib.Decide.{dec_lt}
+use Rattle.segmentation.specs.Sizes.{segments_for}
 use Rattle.segmentation.proofs.Both.{too_long}
 use Rattle.segmentation.proofs.segments_for_both.Goals as goal
 
-pub returns-then-first-gt30576 : goal.returns-then-first-gt30576
-returns-then-first-gt30576 c = c.segments_for.ensures ∙ too_long (omega arith) (omega arith)
-
-pub returns-then-second-gt30576 : goal.returns-then-second-gt30576
-returns-then-second-gt30576 c = c.segments_for-then-second-gt30576.ensures ∙ too_long (omega arith) (omega arith)
+pub returns : goal.returns
+returns c =
+    c.segments_for.ensures
+    ∙ elim (dec_lt (c.args.first + c.args.second) 30577) [
+      | yes l ↦ ap segments_for (omega (arith, c.saturating_add.ensures))
+      | no g ↦ too_long (omega (arith, c.saturating_add.ensures)) (omega arith)
+    ]

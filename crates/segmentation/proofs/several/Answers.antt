@@ -1,18 +1,18 @@
--- `several` meets its contract: the numbers are those of the segmentation, and no sum wraps (`Worked`).
--- Assumes nothing.
+-- The numbers are those of the segmentation, and no sum wraps (`Worked`).
 use native.Mathlib.Nat.{mul-le-mul}
 use native.Mathlib.Omega.{arith}
-use Rattle.segmentation.proofs.Worked.{Sums, blocks_by, need_by, shorts_by, row_positive, sums, worked}
+use Rattle.segmentation.proofs.Worked.{Sums, need_by, shorts_by, row_positive, sums, worked}
 use Rattle.segmentation.proofs.several.Goals.{After-size_at-short}
 use Rattle.segmentation.proofs.several.Goals as goal
 
 -- at the sums
-here : (c : After-size_at-short) → Sums (blocks_by c.args.b) (need_by c.args.b)
-    c.first_row-found.result.size c.size_at-short.result (shorts_by c.args.b c.first_row-found.result.size c.size_at-short.result)
-here c = sums c.requires.0 c.requires.1 c.first_row-found.ensures.0 c.first_row-found.ensures.1 c.size_at-short.ensures
+here : (c : After-size_at-short) → let C = c.div_ceil-blocks.result in
+    let long = c.first_row-found.result.size in
+    Sums C (need_by c.args.b C) long c.size_at-short.result (shorts_by c.args.b C long c.size_at-short.result)
+here c = sums c.requires.0 c.requires.1 c.div_ceil-blocks.ensures c.first_row-found.ensures.0 c.first_row-found.ensures.1 c.size_at-short.ensures
 
 pub overflow_sub-row : goal.overflow_sub-row
-overflow_sub-row c = row_positive c.requires.0 c.requires.1 c.first_row-found.ensures.0 c.first_row-found.ensures.1
+overflow_sub-row c = row_positive c.requires.0 c.requires.1 c.div_ceil-blocks.ensures c.first_row-found.ensures.0 c.first_row-found.ensures.1
 
 pub overflow_mul-shorts : goal.overflow_mul-shorts
 overflow_mul-shorts c = omega (arith, mul-le-mul (here (goal.at.overflow_mul-shorts c).After-size_at-short).few (here (goal.at.overflow_mul-shorts c).After-size_at-short).most)
@@ -43,4 +43,4 @@ overflow_sub-result c = (here (goal.at.overflow_sub-result c).After-size_at-shor
 
 pub returns : goal.returns
 returns c =
-    worked c.requires.0 c.requires.1 c.first_row-found.ensures.0 c.first_row-found.ensures.1 c.size_at-short.ensures
+    worked c.requires.0 c.requires.1 c.div_ceil-blocks.ensures c.first_row-found.ensures.0 c.first_row-found.ensures.1 c.size_at-short.ensures
