@@ -2,11 +2,7 @@
 -- Assumes nothing.
 use mathlib.Core.Path.{◌≡◌, ◌∙◌}
 use mathlib.Core.List.{◌++◌}
-use Prim.Native.Nat.{◌-◌}
-use native.Mathlib.Omega.{arith}
-use lib.ListN.{length, drop}
-use lib.Seq.{length_front}
-use Rattle.laws.proofs.Parts.{front_count}
+use lib.ListN.{length}
 use Rattle.segmentation.specs.Sizes.{segments_for}
 use Rattle.segmentation.proofs.Both.{of_joined}
 use Rattle.segmentation.proofs.Into.{Found, Sized, none_such, other_size, single_room, single_put, several_size, several_room, several_put}
@@ -43,19 +39,8 @@ returns-then-s-eq1 c =
 pub overflow_sub-end : goal.overflow_sub-end
 overflow_sub-end c = several_size (sized (goal.at.overflow_sub-end c).Else-c-size_of) c.if-s-eq1.false
 
-pub slice_bounds-put_payload-end-2 : goal.slice_bounds-put_payload-end-2
-slice_bounds-put_payload-end-2 c = front_count _ _ (omega arith)
-
 pub put_payload-requires-2 : goal.put_payload-requires-2
 put_payload-requires-2 c = several_room (sized (goal.at.put_payload-requires-2 c).Else-c-size_of) c.if-s-eq1.false
-
-pub slice_bounds-crc24b-end-2 : goal.slice_bounds-crc24b-end-2
-slice_bounds-crc24b-end-2 c =
-    let whole = c.args.c.now in
-    let kept : length (c.put_payload-2.new.c ++ drop (length whole - 24) whole) ≡ length whole =
-    length_front whole c.put_payload-2.new.c (length whole - 24) c.put_payload-2.auto.c
-    in
-    front_count _ _ (omega arith)
 
 pub returns : goal.returns
 returns c =

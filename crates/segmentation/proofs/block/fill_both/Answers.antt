@@ -24,12 +24,6 @@ room : (c : After-fill) → let a = c.args in
     a.zeros + (c.min-b.result - c.min-a.result) + (a.to - c.min-b.result - (a.from - c.min-a.result)) ≤ length c.fill.new.c
 room c = omega (arith, c.fill.auto.c, ((shared c.args.first.now c.args.second.now c.min-a.ensures c.min-b.ensures c.requires.0 c.requires.1)).count)
 
-pub slice_bounds-copy-count-2 : goal.slice_bounds-copy-count-2
-slice_bounds-copy-count-2 c = omega (arith, room (goal.at.slice_bounds-copy-count-2 c).After-fill)
-
-pub slice_bounds-copy-start-2 : goal.slice_bounds-copy-start-2
-slice_bounds-copy-start-2 c = omega (arith, room (goal.at.slice_bounds-copy-start-2 c).After-fill)
-
 pub returns : goal.returns
 returns c =
     let a = c.args in

@@ -23,9 +23,6 @@ long : (c : After-start_of-from) → let a = c.args in
     length (a.first.now ++ a.second.now) ≡ length a.first.now + length a.second.now
 long c = let a = c.args in length-append a.first.now a.second.now
 
-pub start_of-from-requires : goal.start_of-from-requires
-start_of-from-requires c = rw (length-append c.args.first.now c.args.second.now) at c.requires.segmented
-
 pub overflow_add-r : goal.overflow_add-r
 overflow_add-r c = omega (arith, (here (goal.at.overflow_add-r c).After-start_of-from).few)
 
