@@ -6,8 +6,10 @@ use mathlib.Core.List.{List, ◌++◌}
 use Prim.Native.Nat.{ℕ, ◌+◌, ◌*◌}
 use lib.Dec.{ltb}
 use lib.ListN.{length, drop}
-use borrow.Author.Tests.{ne_eqb, eq-eqb}
-use Rattle.refusals.specs.Refusals.{first_of}
+use borrow.Author.Tests.{eq-eqb}
+use Rattle.refusals.specs.declared.Refusal.{Refusal}
+use Rattle.refusals.specs.Refusals.{first_of, number_of}
+use Rattle.refusals.proofs.Numbers.{refusal_ne0}
 use Rattle.segmentation.specs.Segmentation.{blocks, long}
 use Rattle.segmentation.specs.declared.Segments.{Segments}
 use Rattle.segmentation.specs.Sizes.{bad_size, segments_for}
@@ -17,8 +19,11 @@ use Rattle.codeword.specs.Codeword.{codeword_in}
 use Rattle.codeword.specs.Build.{build_rules, build_number}
 use Rattle.codeword.specs.Downlink.{share_for, build_down_rules, build_down_number, build_down_output}
 use Rattle.build_calls.specs.inner.Sending.{number_with}
-use Rattle.codeword.proofs.Segmented.{sized_in}
-use Rattle.codeword.proofs.SoftShares.{buffer_told, accepted_down, share_told}
+use Rattle.codeword.proofs.Segmented.{sized, unsized, sized_in, long_told}
+use Rattle.codeword.proofs.SoftShares.{rows_told, buffer_told, accepted_down, share_told}
+
+-- what the tests on the way to the number tell
+pub ruleset accepting_down = (sized, unsized, long_told, rows_told)
 
 module _ (a : List ℕ) (release k_mimo processes Nsoft layers : ℕ) (g : Grant) where
   abbrev B : ℕ
@@ -56,9 +61,10 @@ module _ (a : List ℕ) (release k_mimo processes Nsoft layers : ℕ) (g : Grant
     pub share_accepted : (room : ℕ) → build_down_number a release k_mimo processes Nsoft layers g room ≡ 0 → soft ≡ given
     share_accepted room h = share_found (accepted_down a release k_mimo processes Nsoft layers g room h).0.size
 
-  pub refused_down : (out : List ℕ) → (build_down_number a release k_mimo processes Nsoft layers g (length out) ≡ 0 → ⊥) → out ≡ build_down_output a release k_mimo processes Nsoft layers g out
+  pub refused_down : (out : List ℕ) (refusal : Refusal) → number_of refusal ≡ build_down_number a release k_mimo processes Nsoft layers g (length out)
+      → out ≡ build_down_output a release k_mimo processes Nsoft layers g out
   unfolding build_down_output
-  refused_down out h = simp (ne_eqb _ _ h)
+  refused_down out refusal e = rw (← e, refusal_ne0 refusal)
 
   pub built_down : (out : List ℕ) {front : List ℕ} → build_down_number a release k_mimo processes Nsoft layers g (length out) ≡ 0
       → front ≡ codeword_in given a g → front ++ drop g.bits out ≡ build_down_output a release k_mimo processes Nsoft layers g out

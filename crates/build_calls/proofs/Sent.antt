@@ -3,7 +3,7 @@
 use mathlib.Core.Path.{◌≡◌, refl, sym, ◌∙◌, ap}
 use mathlib.Core.Bool.{true, cond}
 use mathlib.Core.List.{List, ◌++◌}
-use Prim.Native.Nat.{ℕ, ◌+◌, ◌-◌, ◌≤◌}
+use Prim.Native.Nat.{ℕ, ◌+◌, ◌-◌, ◌≤◌, ◌<◌}
 use native.Mathlib.Omega.{arith}
 use lib.Dec.{eqb, ltb}
 use lib.ListN.{length, take, drop, length-append, length-drop}
@@ -31,11 +31,18 @@ use Rattle.rate_matching.proofs.Units.{rows_some}
 use Rattle.rate_matching.proofs.MatchableBlocks.{Matchable}
 use Rattle.bit_selection.specs.Matcher.{matched_into}
 use Rattle.bit_selection.proofs.Block.{matched_selected}
+use Rattle.codeword.specs.declared.Grant.{Grant}
+use Rattle.codeword.specs.inner.Accepted.{Accepted}
 use Rattle.codeword.specs.Codeword.{block_circle, block_rows, block_cut, sent_bits}
 use Rattle.build_calls.specs.inner.Sending.{Sending}
 use Rattle.codeword.proofs.Accepted.{given_bits}
 use Rattle.codeword.proofs.SoftShares.{size_under, cut_told}
 use Rattle.codeword.proofs.Data.{block_filled}
+
+-- what a code block of an accepted Build has
+pub sending : {soft : ℕ} {a : List ℕ} {s : Segments} {r : ℕ} {g : Grant} → Accepted soft a g → s ≡ segments_of (length a + 24) → r < blocks (length a + 24)
+    → Sending soft a s r g.version
+sending ok told below = record { size = ok.size; buffer = ok.buffer _ below; segments = told; below = below; version = ok.version; bits = ok.bits }
 
 module _ {soft : ℕ} {a : List ℕ} {s : Segments} {r v : ℕ} (h : Sending soft a s r v) where
   high : length a + 24 ≤ 30600

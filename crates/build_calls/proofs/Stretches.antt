@@ -21,7 +21,9 @@ use Rattle.codeword.specs.declared.Grant.{Grant}
 use Rattle.codeword.specs.Shares.{share, shares_before, granted, granted_before}
 use Rattle.codeword.specs.Codeword.{sent_bits, block_bits, bits_from, codeword_in}
 use Rattle.codeword.specs.Build.{share_of}
-use Rattle.build_calls.specs.inner.Sending.{Writable, Sending}
+use Rattle.codeword.specs.inner.Accepted.{Accepted}
+use Rattle.build_calls.specs.inner.Sending.{Sending}
+use Rattle.build_calls.proofs.Sent.{sending}
 use Rattle.codeword.proofs.Accepted.{Allocated, allocated, share_told}
 use Rattle.codeword.proofs.Shares.{shares_all, stretch_within}
 use Rattle.codeword.proofs.Taken.{length_with_check}
@@ -49,7 +51,8 @@ from_next soft b g r C h =
     ap (bits_from soft b g r) more ∙ ap (λ (k : ℕ). block_bits soft b g r ++ bits_from soft b g k (C - (r + 1))) (sym (add-one r))
 
 pub record Stretching (soft : ℕ) (a : List ℕ) (g : Grant) (out₀ : List ℕ) (s : Segments) (C remainder : ℕ) (out : List ℕ) (at r : ℕ) : Type 0 where
-  pub writable : Writable soft a g (length out₀)
+  pub accepted : Accepted soft a g
+  pub whole : length out₀ ≡ g.bits
   pub segments : s ≡ segments_of (length a + 24)
   pub count : C ≡ blocks (length a + 24)
   pub check : remainder ≡ crc 24 g_crc24a a
@@ -57,12 +60,13 @@ pub record Stretching (soft : ℕ) (a : List ℕ) (g : Grant) (out₀ : List ℕ
   pub starts : at ≡ granted_before C g r
   pub written : Writing out₀ out at (bits_from soft (with_check a) g r (C - r)) (codeword_in soft a g)
 
-pub start : {soft : ℕ} {a : List ℕ} {g : Grant} {out : List ℕ} {s : Segments} {C remainder : ℕ} → Writable soft a g (length out)
+pub start : {soft : ℕ} {a : List ℕ} {g : Grant} {out : List ℕ} {s : Segments} {C remainder : ℕ} → Accepted soft a g → length out ≡ g.bits
     → s ≡ segments_of (length a + 24) → C ≡ blocks (length a + 24) → remainder ≡ crc 24 g_crc24a a
     → Stretching soft a g out s C remainder out 0 0
 unfolding shares_before codeword_in
-start {soft} {a} {g} {out} {C = C} ok told count check = record {
-  writable = ok;
+start {soft} {a} {g} {out} {C = C} ok whole told count check = record {
+  accepted = ok;
+  whole = whole;
   segments = told;
   count = count;
   check = check;
@@ -74,41 +78,35 @@ start {soft} {a} {g} {out} {C = C} ok told count check = record {
 module _ {soft : ℕ} {a : List ℕ} {g : Grant} {out₀ : List ℕ} {s : Segments} {C remainder : ℕ} {out : List ℕ} {at r : ℕ}
     (h : Stretching soft a g out₀ s C remainder out at r) where
   high : length a + 24 ≤ 30600
-  high = omega (arith, (in_range (length a) h.writable.accepted.size).1)
+  high = omega (arith, (in_range (length a) h.accepted.size).1)
 
   pub few : C ≤ 5
   few = omega (arith, h.count, blocks_most (length a + 24) high)
 
   ok : Allocated C g.modulation g.layers g.bits
-  ok = allocated C g.modulation g.layers g.bits (rw h.count h.writable.accepted.allocation)
+  ok = allocated C g.modulation g.layers g.bits (rw h.count h.accepted.allocation)
 
   all : granted_before C g C ≡ g.bits
   all = shares_all C g.modulation g.layers g.bits (omega (arith, h.count, blocks_least (length a + 24) high)) ok.multiple
 
   module _ (more : r < C) where
     own : {e : ℕ} → e ≡ share_of C g.modulation g.layers g.bits r → e ≡ granted C g r
-    own e-is = e-is ∙ share_told C g.modulation g.layers g.bits r more (rw h.count h.writable.accepted.allocation)
+    own e-is = e-is ∙ share_told C g.modulation g.layers g.bits r more (rw h.count h.accepted.allocation)
 
-    pub sending : Sending soft a s r g.version
-    sending = record {
-      size = h.writable.accepted.size;
-      buffer = h.writable.accepted.buffer r (omega (arith, h.count));
-      segments = h.segments;
-      below = omega (arith, h.count);
-      version = h.writable.accepted.version;
-      bits = h.writable.accepted.bits;
-    }
+    pub sends : Sending soft a s r g.version
+    sends = sending h.accepted h.segments (omega (arith, h.count))
 
     -- the stretch of code block r lies within the output
     pub within : {e : ℕ} → e ≡ share_of C g.modulation g.layers g.bits r → at + e ≤ length out
-    within e-is = omega (arith, h.starts, own e-is, stretch_within C g.modulation g.layers g.bits r more ok.multiple, h.writable.whole, h.written.long)
+    within e-is = omega (arith, h.starts, own e-is, stretch_within C g.modulation g.layers g.bits r more ok.multiple, h.whole, h.written.long)
 
     pub next : {e : ℕ} {part : List ℕ} → e ≡ share_of C g.modulation g.layers g.bits r
         → part ≡ sent_bits soft (a ++ bits_of 24 remainder) g.version r (length (mid_of at (at + e - at) out))
         → length part ≡ at + e - at
         → Stretching soft a g out₀ s C remainder (put_mid at (at + e - at) out part) (at + e) (r + 1)
     next {e} {part} e-is part_is long = record {
-      writable = h.writable;
+      accepted = h.accepted;
+      whole = h.whole;
       segments = h.segments;
       count = h.count;
       check = h.check;
@@ -139,4 +137,4 @@ finish {soft} {a} {g} {out₀} {C = C} {out = out} {at = at} {r = r} h end =
     let last : r ≡ C = omega (arith, h.below) in
     let whole : at ≡ g.bits = h.starts ∙ ap (granted_before C g) last ∙ all h in
     let none : C - r ≡ 0 = omega arith in
-    writing.finish_all (omega (arith, h.writable.whole, h.written.long)) (ap (bits_from soft (with_check a) g r) none) h.written
+    writing.finish_all (omega (arith, h.whole, h.written.long)) (ap (bits_from soft (with_check a) g r) none) h.written

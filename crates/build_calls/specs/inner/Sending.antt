@@ -1,4 +1,4 @@
--- What the parts of Build may take for granted: an accepted call, a code block that is sent.
+-- What the parts of Build may take for granted: a code block that is sent.
 -- Assumes nothing.
 use Rattle.std.specs.Prelude.{◌≡◌, false, cond, List, ℕ, ◌+◌, ◌*◌, ◌≤◌, ◌<◌, ltb, length}
 use Rattle.segmentation.specs.declared.Segments.{Segments}
@@ -8,12 +8,6 @@ use Rattle.rate_matching.specs.SubBlocks.{rows}
 use Rattle.codeword.specs.declared.Grant.{Grant}
 use Rattle.codeword.specs.Codeword.{block_rows}
 use Rattle.codeword.specs.Build.{bad_bits, build_number}
-use Rattle.codeword.specs.inner.Accepted.{Accepted}
-
--- an accepted Build with an output of G bytes
-pub record Writable (soft : ℕ) (a : List ℕ) (g : Grant) (size : ℕ) : Type 0 where
-  pub accepted : Accepted soft a g
-  pub whole : size ≡ g.bits
 
 -- code block r of a block a, whose segmentation is s, in redundancy version v
 pub record Sending (soft : ℕ) (a : List ℕ) (s : Segments) (r v : ℕ) : Type 0 where
@@ -23,12 +17,6 @@ pub record Sending (soft : ℕ) (a : List ℕ) (s : Segments) (r v : ℕ) : Type
   pub below : r < blocks (length a + 24)
   pub version : v ≤ 3
   pub bits : bad_bits a ≡ false
-
--- rooms of at least the length that each stream of a code block of K bits needs
-pub record Spacious (K d0 d1 d2 : ℕ) : Type 0 where
-  pub first : K + 4 ≤ d0
-  pub second : K + 4 ≤ d1
-  pub third : K + 4 ≤ d2
 
 -- rooms for the three streams of a code block of K bits
 pub record Roomy (K d0 d1 d2 : ℕ) : Type 0 where
