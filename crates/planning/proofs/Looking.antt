@@ -1,11 +1,13 @@
 -- The loop over the code blocks that looks for the least G': what it has found so far is the largest of what the code blocks passed ask for.
 -- Assumes nothing.
-use mathlib.Core.Path.{◌≡◌, refl, ◌∙◌, ap}
+use mathlib.Core.Path.{◌≡◌, refl, sym, ◌∙◌, ap}
 use mathlib.Core.Bool.{Bool, true, false, cond}
-use Prim.Native.Nat.{ℕ, ◌+◌, ◌-◌, ◌*◌, ◌/◌, ◌≤◌, ◌<◌, max}
-use native.Mathlib.Nat.{mul-le-mul, mul-le-mul_left}
+use Prim.Native.Nat.{ℕ, ◌+◌, ◌-◌, ◌*◌, ◌/◌, ◌%◌, ◌≤◌, ◌<◌, min, max}
+use native.Mathlib.Nat.{div-add-mod', mod-lt, mul-le-mul, mul-le-mul_left}
+use native.Mathlib.Decide.{dec_lt}
 use native.Mathlib.Numerals.{add-one}
 use native.Mathlib.Omega.{arith}
+use lib.Arith.{digits_div}
 use lib.Dec.{ltb, eqb}
 use Rattle.segmentation.specs.declared.Segments.{Segments}
 use Rattle.segmentation.specs.Segmentation.{blocks, size_of, filler_of}
@@ -20,6 +22,21 @@ need_is : (alone : Bool) (A r : ℕ) → need_by alone (size_of (A + 24) r) (fil
 unfolding need_by need_in need_of_three need_of_one
 need_is true A r = refl
 need_is false A r = refl
+
+-- a quotient rounded up, as it is worked out
+rounded_is : (step need : ℕ) → 0 < step → need / step + min 1 (need % step) ≡ rounded_up step need
+unfolding rounded_up
+rounded_is step need some =
+    let parts : need / step * step + need % step ≡ need = div-add-mod' need step in
+    let low : need % step < step = mod-lt need some in
+    elim (dec_lt 0 (need % step)) [
+      | yes l ↦
+          let sum : need + (step - 1) ≡ (need / step + 1) * step + (need % step - 1) = omega arith in
+          omega arith ∙ sym (ap (λ (x : ℕ). x / step) sum ∙ digits_div (need / step + 1) (omega arith))
+      | no l ↦
+          let sum : need + (step - 1) ≡ need / step * step + (step - 1) = omega arith in
+          omega arith ∙ sym (ap (λ (x : ℕ). x / step) sum ∙ digits_div (need / step) (omega arith))
+    ]
 
 pub record Looking (A step : ℕ) (alone : Bool) (s : Segments) (least r : ℕ) : Type 0 where
   pub planned : Planned A step
@@ -54,15 +71,11 @@ module _ {A step : ℕ} {alone : Bool} {s : Segments} {least r : ℕ} (w : Looki
       needed : need ≡ need_in alone A r
       needed = need_told ∙ ap (λ (k : ℕ). need_by alone k filler) (size_is size_told) ∙ ap (need_by alone (size_of (A + 24) r)) (filler_is filler_told) ∙ need_is alone A r
 
-      pub need_fits : need ≤ 18444
-      need_fits = omega (arith, needed, need_modest A w.planned.size alone r)
-
       abbrev units : ℕ
-      units = (need + (step - 1)) / step
+      units = need / step + min 1 (need % step)
 
       units_is : units ≡ rounded_up step (need_in alone A r)
-      unfolding rounded_up
-      units_is = ap (λ (n : ℕ). (n + (step - 1)) / step) needed
+      units_is = rounded_is step need w.planned.some ∙ ap (rounded_up step) needed
 
       some_units : (1 ≤ units) × (units ≤ 18467)
       some_units =
@@ -72,18 +85,18 @@ module _ {A step : ℕ} {alone : Bool} {s : Segments} {least r : ℕ} (w : Looki
           )
 
       -- what the code block asks for is a number, and a small one
-      pub product_fits : (r ≤ s.blocks * units) × (s.blocks * units ≤ 92335)
-      product_fits =
+      pub product_fits : {n : ℕ} → n ≡ units → (r ≤ s.blocks * n) × (s.blocks * n ≤ 92335)
+      product_fits {n} e =
           let few : s.blocks ≤ 5 = omega (arith, w.sized.count, few_blocks A w.planned.size) in
-          (omega (arith, mul-le-mul_left s.blocks some_units.0), omega (arith, mul-le-mul few some_units.1))
+          (omega (arith, ap (λ (m : ℕ). s.blocks * m) e, mul-le-mul_left s.blocks some_units.0), omega (arith, ap (λ (m : ℕ). s.blocks * m) e, mul-le-mul few some_units.1))
 
-      pub next : {found : ℕ} → found ≡ max least (s.blocks * units - r) → Looking A step alone s found (r + 1)
+      pub next : {n found : ℕ} → n ≡ units → found ≡ max least (s.blocks * n - r) → Looking A step alone s found (r + 1)
       unfolding largest symbols_for
-      next {found} e = record {
+      next {n} {found} e f = record {
         planned = w.planned;
         sized = w.sized;
         within = omega (arith, below);
-        told = rw (add-one r) (e ∙ ap (λ (n : ℕ). max n (s.blocks * units - r)) w.told ∙ ap (max (largest (symbols_for (need_in alone A) (blocks (A + 24)) step) r)) asked);
+        told = rw (add-one r) (f ∙ ap (λ (m : ℕ). max least (s.blocks * m - r)) e ∙ ap (λ (m : ℕ). max m (s.blocks * units - r)) w.told ∙ ap (max (largest (symbols_for (need_in alone A) (blocks (A + 24)) step) r)) asked);
       }
         where
           asked : s.blocks * units - r ≡ blocks (A + 24) * rounded_up step (need_in alone A r) - r

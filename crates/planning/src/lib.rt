@@ -1,10 +1,13 @@
 // How many repeats at worst: the least G of three transmissions, versions 0, 1 and 3, and of one alone, that surely bring a block.
 #![tactic(auto)]
 
-ghost use Rattle.std.specs.Prelude.{◌≡◌, ◌+◌, ◌≤◌, max};
+ghost use Rattle.std.specs.Prelude.{◌≡◌, ◌+◌, ◌≤◌};
+ghost use Rattle.refusals.specs.Refusals.{number_in};
 ghost use Rattle.segmentation.specs.Segmentation.{blocks};
 ghost use Rattle.planning.specs.Least.{least_symbols};
 ghost use Rattle.planning.specs.Worst.{worst_number, worst_answer, need_by, need_in, Planned};
+
+use refusals::Refusal;
 
 // The least G of each of three transmissions, and of one alone.
 #[derive(Clone, Copy)]
@@ -13,38 +16,30 @@ pub struct Worst {
     pub one: usize,
 }
 
-#[derive(Clone, Copy)]
-pub enum WorstAnswer {
-    Given(Worst),
-    Refused(u8),
-}
-
-// The two for a block of `a` bits, `q` bits a symbol and `n` layers, or refusal 1 or 3. Both are always within what Build takes.
-pub fn worst_for(a: usize, q: usize, n: usize) -> WorstAnswer
+// The two for a block of `a` bits, `q` bits a symbol and `n` layers. Both are always within what Build takes.
+pub fn worst_for(a: usize, q: usize, n: usize) -> Result<Worst, Refusal>
     ensures { result ≡ worst_answer a q n }
 {
-    let number = worst_number(a, q, n);
-    if number != 0 {
-        return WorstAnswer::Refused(number);
-    }
+    accept(a, q, n)?;
     let step = n * q;
     let three = step * least_symbols(a, step, false);
     let one = step * least_symbols(a, step, true);
-    WorstAnswer::Given(Worst { three, one })
+    Ok(Worst { three, one })
 }
 
 // The refusals in 01's order.
-fn worst_number(a: usize, q: usize, n: usize) -> u8
-    ensures { result ≡ worst_number a q n }
+#[tactic(auto, using(crate::proofs::Numbers::accepting), unfolding(crate::specs::Worst::worst_number, crate::specs::Worst::worst_rules, refusals::specs::Refusals::first_of))]
+fn accept(a: usize, q: usize, n: usize) -> Result<(), Refusal>
+    ensures { number_in result ≡ worst_number a q n }
 {
     let s = segmentation::segments_for(a);
     if s.blocks == 0 {
-        return 1;
+        return Err(Refusal::BadLength);
     }
     if codeword::bad_symbol(q, n) {
-        return 3;
+        return Err(Refusal::BadAllocation);
     }
-    0
+    Ok(())
 }
 
 // The least G' that gives every code block of a block of `a` bits what it needs, in units of `step` bits.
@@ -53,19 +48,18 @@ fn least_symbols(a: usize, step: usize, alone: bool) -> usize
     ensures { result ≡ least_symbols (need_in alone a) (blocks (a + 24)) step }
 {
     let s = segmentation::segments_for(a);
-    let mut least = 0;
-    let mut r = 0;
-    while r < s.blocks {
+    let mut least: usize = 0;
+    for r in 0..s.blocks {
         let size = segmentation::block::size_of(s, r);
         let filler = segmentation::block::filler_of(s, r);
-        let units = (need_of(size, filler, alone) + (step - 1)) / step;
-        least = larger(least, s.blocks * units - r);
-        r += 1;
+        let units = need_of(size, filler, alone).div_ceil(step);
+        least = least.max(s.blocks * units - r);
     }
     least
 }
 
 // What a code block of `k` bits with `f` filler bits needs.
+#[tactic(auto, unfolding(crate::specs::Worst::need_by, crate::specs::Needs::whole, crate::specs::Needs::quarter, rate_matching::specs::SubBlocks::rows))]
 fn need_of(k: usize, f: usize, alone: bool) -> usize
     requires { (k ≤ 6144) × (f ≤ k) }
     ensures { result ≡ need_by alone k f }
@@ -75,10 +69,4 @@ fn need_of(k: usize, f: usize, alone: bool) -> usize
     } else {
         24 * ((k + 35) / 32)
     }
-}
-
-fn larger(a: usize, b: usize) -> usize
-    ensures { result ≡ max a b }
-{
-    if a < b { b } else { a }
 }
