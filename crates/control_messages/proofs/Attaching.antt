@@ -6,7 +6,7 @@ use Prim.Native.Nat.{ℕ, ◌+◌, ◌-◌, ◌≤◌}
 use native.Mathlib.Omega.{arith}
 use lib.ListN.{length, take, drop, length-append, length-drop, drop_of_length-le}
 use lib.Seq.{take_at, take_all}
-use borrow.Rule.Slice.PartMut.{mid_of, put_mid}
+use borrow.Rule.Slice.PartMut.{mid_of, put_mid, post_of}
 use Rattle.laws.specs.Bits.{◌⊕◌, bits_of}
 use Rattle.laws.proofs.Parts.{rest_lent, rest_back}
 use Rattle.check_bits.specs.CheckBits.{g_crc16, crc}
@@ -44,12 +44,13 @@ attached_put a bits {first} {second} t {check} e size ec put =
     few = omega (arith, sixteen)
 
 -- the last six bits came back in front, and all of them behind
-pub led_put : (c rest more : List ℕ) {first second : List ℕ} → 6 ≤ length c → first ≡ drop (length c - 6) c → second ≡ c ++ more
-    → take (length c + 6) (put_mid 6 (length (first ++ rest) - 6) (first ++ rest) second) ≡ with_lead c
+pub led_put : (c rest : List ℕ) (k : ℕ) {first second : List ℕ} → 6 ≤ length c → first ≡ drop (length c - 6) c → second ≡ c
+    → take (length c + 6) (put_mid 6 k (first ++ rest) second) ≡ with_lead c
 unfolding with_lead
-led_put c rest more {first} {second} h e f =
-    ap (take (length c + 6)) (rest_back first rest 6 six second ∙ ap₂ ◌++◌ e f ∙ sym (append_assoc (drop (length c - 6) c) c more))
-    ∙ take_at (drop (length c - 6) c ++ c) more (length c + 6) all
+led_put c rest k {first} {second} h e f =
+    let post = post_of 6 k (first ++ rest) in
+    ap (take (length c + 6)) (ap₂ ◌++◌ (take_at first rest 6 six ∙ e) (ap (λ (l : List ℕ). l ++ post) f) ∙ sym (append_assoc (drop (length c - 6) c) c post))
+    ∙ take_at (drop (length c - 6) c ++ c) post (length c + 6) all
   where
     last : length (drop (length c - 6) c) ≡ 6
     last = let left : length c - (length c - 6) ≡ 6 = omega arith in length-drop (length c - 6) c ∙ left

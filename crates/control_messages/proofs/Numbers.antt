@@ -1,49 +1,27 @@
--- The numbers of the two calls one by one: which tests give which number, and what number 0 tells.
+-- What number 0 of the two calls tells, and what the output holds then.
 -- Assumes nothing.
-use mathlib.Core.Path.{◌≡◌, refl, sym, ap}
-use mathlib.Core.Bool.{Bool, true, false, cond, ◌||◌}
+use mathlib.Core.Path.{◌≡◌, refl, sym, ◌∙◌, ap}
+use mathlib.Core.Bool.{Bool, true, false, ◌||◌}
 use mathlib.Core.List.{List, ◌++◌}
 use Prim.Native.Nat.{ℕ, ◌+◌, ◌≤◌, ◌<◌}
 use native.Mathlib.Omega.{arith}
 use lib.Dec.{eqb, ltb}
 use lib.ListN.{length, drop}
-use borrow.Author.Tests.{lt-ltb, le-ltb, ltb-false, eqb-true, eqb-false, eq-eqb, ne_eqb}
-use Rattle.refusals.specs.Refusals.{first_of}
+use borrow.Author.Tests.{ltb-false, eqb-false, eq-eqb}
+use Rattle.std.specs.declared.result.Result.TheVariants.{Ok}
+use Rattle.refusals.specs.declared.Refusal.{Refusal}
+use Rattle.refusals.specs.Refusals.{first_of, number_of, number_in}
+use Rattle.refusals.proofs.Numbers.{refusal_ne0, given_ok}
 use Rattle.refusals.proofs.Refusals.{passed, listed}
 use Rattle.laws.specs.Bits.{AreBits}
 use Rattle.codeword.specs.Build.{bad_bits, output_rule, bits_rule}
 use Rattle.codeword.proofs.Accepted.{given_bits}
-use Rattle.control_messages.specs.declared.Owner.TheVariants.{Terminal, Refused}
 use Rattle.control_messages.specs.Message.{message}
 use Rattle.control_messages.specs.Ownership.{owner_of}
-use Rattle.control_messages.specs.Calls.{bad_payload, bad_run, bad_length, payload_rule, run_rule, control_rules, control_number, control_output, whose_rules, whose_number, whose_answer, number_of}
+use Rattle.control_messages.specs.Calls.{bad_payload, bad_run, payload_rule, run_rule, control_rules, control_number, control_output, whose_rules, whose_number, whose_answer}
 use Rattle.control_messages.specs.Working.{Sized}
 
 -- ---- building
-
-module _ (a : List ℕ) (E lent : ℕ) where
-  pub bad_payload_is : bad_payload (length a) ≡ true → 20 ≡ control_number a E lent
-  unfolding control_number control_rules first_of
-  bad_payload_is e = simp e
-
-  module _ (size : bad_payload (length a) ≡ false) where
-    pub bad_length_is : bad_length E ≡ true → 3 ≡ control_number a E lent
-    unfolding control_number control_rules first_of
-    bad_length_is e = simp (size, e)
-
-    module _ (some : bad_length E ≡ false) where
-      pub short_output_is : lent < E → 5 ≡ control_number a E lent
-      unfolding control_number control_rules first_of
-      short_output_is e = simp (size, some, lt-ltb lent E e)
-
-      module _ (enough : E ≤ lent) where
-        pub bad_bits_is : bad_bits a ≡ true → 2 ≡ control_number a E lent
-        unfolding control_number control_rules first_of
-        bad_bits_is e = simp (size, some, le-ltb lent E enough, e)
-
-        pub accepted_is : bad_bits a ≡ false → 0 ≡ control_number a E lent
-        unfolding control_number control_rules first_of
-        accepted_is e = simp (size, some, le-ltb lent E enough, e)
 
 no_truth : true ≡ false → ⊥
 no_truth q = let z : ◌≡◌ {A = ℕ} 0 1 = cc in omega arith
@@ -73,9 +51,9 @@ accepted a E lent h =
 
 -- the output after a refusal, and after the message came back in its first E bytes
 module _ (a : List ℕ) (t E : ℕ) (out : List ℕ) where
-  pub refused_output : (control_number a E (length out) ≡ 0 → ⊥) → out ≡ control_output a t E out
+  pub refused_output : (refusal : Refusal) → number_of refusal ≡ control_number a E (length out) → out ≡ control_output a t E out
   unfolding control_output
-  refused_output h = simp (ne_eqb _ _ h)
+  refused_output refusal e = rw (← e, refusal_ne0 refusal)
 
   pub built_output : {front : List ℕ} → control_number a E (length out) ≡ 0 → front ≡ message a t E → front ++ drop E out ≡ control_output a t E out
   unfolding control_output
@@ -84,14 +62,6 @@ module _ (a : List ℕ) (t E : ℕ) (out : List ℕ) where
 -- ---- the way back
 
 module _ (run : List ℕ) where
-  pub bad_run_is : bad_run (length run) ≡ true → 20 ≡ whose_number run
-  unfolding whose_number whose_rules first_of
-  bad_run_is e = simp e
-
-  pub bad_run_bits_is : bad_run (length run) ≡ false → bad_bits run ≡ true → 2 ≡ whose_number run
-  unfolding whose_number whose_rules first_of
-  bad_run_bits_is size e = simp (size, e)
-
   pub whose_is : bad_run (length run) ≡ false → bad_bits run ≡ false → 0 ≡ whose_number run
   unfolding whose_number whose_rules first_of
   whose_is size e = simp (size, e)
@@ -108,19 +78,16 @@ module _ (run : List ℕ) where
   unfolding whose_number whose_rules
   whose_bits h = given_bits run (passed (whose_rules run) refl h tt (bits_rule run) (search listed))
 
-  pub refused_answer : (whose_number run ≡ 0 → ⊥) → Refused (whose_number run) ≡ whose_answer run
+  pub named_answer : {t : ℕ} → whose_number run ≡ 0 → t ≡ owner_of run → Ok t ≡ whose_answer run
   unfolding whose_answer
-  refused_answer h = simp (ne_eqb _ _ h)
-
-  pub named_answer : {t : ℕ} → whose_number run ≡ 0 → t ≡ owner_of run → Terminal t ≡ whose_answer run
-  unfolding whose_answer
-  named_answer h e = simp (eq-eqb _ _ h) (ap Terminal e)
+  named_answer h e = ap Ok e ∙ given_ok _ (sym h)
 
   -- the number of the answer is that of the first refusal that applies
-  pub answer_number : number_of (whose_answer run) ≡ whose_number run
-  unfolding whose_answer number_of
-  answer_number = go (eqb (whose_number run) 0) refl
+  pub answer_number : number_in (whose_answer run) ≡ whose_number run
+  unfolding whose_answer whose_number whose_rules first_of
+  answer_number = go (bad_run (length run)) (bad_bits run) refl refl
     where
-      go : (b : Bool) → eqb (whose_number run) 0 ≡ b → number_of (cond b (Terminal (owner_of run)) (Refused (whose_number run))) ≡ whose_number run
-      go true t = sym (eqb-true (whose_number run) 0 t)
-      go false t = refl
+      go : (s t : Bool) → bad_run (length run) ≡ s → bad_bits run ≡ t → number_in (whose_answer run) ≡ whose_number run
+      go true t e f = simp e
+      go false true e f = simp (e, f)
+      go false false e f = simp (e, f)

@@ -6,12 +6,12 @@ use Prim.Native.Nat.{ℕ, ◌+◌, ◌*◌, ◌≤◌, ◌<◌}
 use native.Mathlib.Omega.{arith}
 use lib.ListN.{length, get_or}
 use borrow.Author.Tests.{le-ltb, lt-ltb}
+use Rattle.std.specs.declared.result.Result.TheVariants.{Ok}
 use Rattle.laws.specs.Bits.{AreBits}
 use Rattle.codeword.proofs.Accepted.{bits_good}
 use Rattle.rate_matching.specs.Places.{stream_of}
 use Rattle.rate_matching.specs.Walk.{loop, on_circle, sent_places, is_bit, holds_bit, Among}
 use Rattle.rate_matching.proofs.Walk.{loop_is_selected}
-use Rattle.control_messages.specs.declared.Owner.TheVariants.{Terminal}
 use Rattle.control_messages.specs.Attachment.{attached}
 use Rattle.control_messages.specs.TailBiting.{generator0, generator1, generator2, parity_stream}
 use Rattle.control_messages.specs.RateMatching.{control_column, control_circle, matched, lies_at}
@@ -42,7 +42,7 @@ module _ (run : List ℕ) (z : Sized (length run)) (h : AreBits run) where
   accepted = sym (whose_is run (rw (le-ltb (length run) 17 z.least, le-ltb 80 (length run) z.most)) (bits_good run h))
 
   -- exactly one terminal number fits any such word, and it is the one answered
-  pub one_terminal_fits : (t : ℕ) × Fits run t × ((u : ℕ) → Fits run u → u ≡ t) × (whose_answer run ≡ Terminal t)
+  pub one_terminal_fits : (t : ℕ) × Fits run t × ((u : ℕ) → Fits run u → u ≡ t) × (whose_answer run ≡ Ok t)
   one_terminal_fits = (
     owner_of run,
     fits_owner run (omega (arith, z.least)) h,
@@ -63,7 +63,7 @@ module _ (a : List ℕ) (t : ℕ) (some : 0 < length a) (few : length a ≤ 64) 
   sized = record { least = omega (arith, long); most = omega (arith, long) }
 
   -- the payload and check of its message come back as its own
-  pub comes_back : (whose_answer c ≡ Terminal t) × (payload_of c ≡ a)
+  pub comes_back : (whose_answer c ≡ Ok t) × (payload_of c ≡ a)
   comes_back = (
     sym (named_answer c (accepted c sized (attached_bits a t bits)) (sym (owner_attached a t small))),
     payload_attached a t small,

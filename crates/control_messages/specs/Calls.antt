@@ -1,10 +1,11 @@
 -- The two calls of 02, E5: their numbers, in the order 20, 3, 5, 2, and what they leave, on refusal as on success.
 -- Assumes nothing.
 use Rattle.std.specs.Prelude.{Bool, cond, ◌||◌, List, [], ◌∷◌, ◌++◌, ℕ, eqb, ltb, length, drop}
-use Rattle.refusals.specs.Refusals.{Rule, rule, first_of}
+use Rattle.std.specs.declared.result.Result.{Result}
+use Rattle.std.specs.declared.result.Result.TheVariants.{Ok, Err}
+use Rattle.refusals.specs.declared.Refusal.{Refusal}
+use Rattle.refusals.specs.Refusals.{Rule, rule, first_of, given_by}
 use Rattle.codeword.specs.Build.{output_rule, bits_rule}
-use Rattle.control_messages.specs.declared.Owner.{Owner}
-use Rattle.control_messages.specs.declared.Owner.TheVariants.{Terminal, Refused}
 use Rattle.control_messages.specs.Message.{message}
 use Rattle.control_messages.specs.Ownership.{owner_of}
 
@@ -47,16 +48,11 @@ whose_rules run = run_rule (length run) ∷ bits_rule run ∷ []
 unfoldable pub whose_number : List ℕ → ℕ
 whose_number run = first_of (whose_rules run)
 
--- whose the run is
-unfoldable pub whose_answer : List ℕ → Owner
-whose_answer run = cond (eqb (whose_number run) 0) (Terminal (owner_of run)) (Refused (whose_number run))
-
--- the number of an answer, 0 where a terminal is named
-unfoldable pub number_of : Owner → ℕ
-number_of (Terminal t) = 0
-number_of (Refused n) = n
+-- whose the run is, or the refusal
+unfoldable pub whose_answer : List ℕ → Result ℕ Refusal
+whose_answer run = given_by (whose_number run) (owner_of run)
 
 -- the terminal number that an answer names; where it names none, what was there before
-unfoldable pub terminal_of : Owner → ℕ → ℕ
-terminal_of (Terminal t) before = t
-terminal_of (Refused n) before = before
+unfoldable pub terminal_of : Result ℕ Refusal → ℕ → ℕ
+terminal_of (Ok t) before = t
+terminal_of (Err refusal) before = before

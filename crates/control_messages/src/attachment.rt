@@ -11,8 +11,8 @@ pub(crate) fn crc_attachment(payload: &[u8], terminal: u16, bits: &mut [u8])
     ensures { bits.new ≡ attached payload.now terminal }
 {
     let end = payload.len();
-    octets::copy(payload, &mut bits[..end]);
-    let check = check_bits::crc16(0, payload) ^ (terminal as u32);
+    bits[..end].copy_from_slice(payload);
+    let check = check_bits::crc16(0, payload) ^ u32::from(terminal);
     check_bits::put_check_bits_16(check, &mut bits[end..]);
 }
 
@@ -22,8 +22,9 @@ pub(crate) fn with_lead(bits: &[u8], led: &mut [u8])
     ensures { take (length bits.now + 6) led.new ≡ with_lead bits.now }
 {
     let from = bits.len() - 6;
-    octets::copy(&bits[from..], &mut led[..6]);
-    octets::copy(bits, &mut led[6..]);
+    led[..6].copy_from_slice(&bits[from..]);
+    let end = 6 + bits.len();
+    led[6..end].copy_from_slice(bits);
 }
 
 // The bits as a number, the first highest.
@@ -32,10 +33,8 @@ pub(crate) fn number_of(bits: &[u8]) -> u32
     ensures { result ≡ number_of bits.now }
 {
     let mut n: u32 = 0;
-    let mut i = 0;
-    while i < bits.len() {
-        n = n * 2 + (bits[i] as u32);
-        i += 1;
+    for bit in bits {
+        n = n * 2 + u32::from(*bit);
     }
     n
 }

@@ -1,47 +1,45 @@
 // The two calls: a control message, and the way back.
 ghost use Rattle.std.specs.Prelude.{◌≡◌, ◌+◌, ◌≤◌, length, take};
+ghost use Rattle.refusals.specs.Refusals.{number_in};
 ghost use Rattle.laws.specs.Bits.{AreBits};
 ghost use Rattle.control_messages.specs.Attachment.{attached};
 ghost use Rattle.control_messages.specs.Message.{message};
 ghost use Rattle.control_messages.specs.Calls.{control_number, control_output, whose_number, whose_answer};
 ghost use Rattle.control_messages.specs.Working.{Sized, with_lead};
 
-use crate::Owner;
 use crate::attachment::{crc_attachment, number_of, with_lead};
 use crate::coding::channel_coding;
 use crate::matching::rate_matching;
+use refusals::Refusal;
 
-// Writes the control message of `payload` for `terminal` over the first `e` bytes of `out`. Answers 0, or the number of the refusal, which writes
-// nothing.
-pub fn build(payload: &[u8], terminal: u16, e: usize, out: &mut [u8]) -> u8
-    ensures number { result ≡ control_number payload.now e (length out.old) }
+// Writes the control message of `payload` for `terminal` over the first `e` bytes of `out`. A refusal writes nothing.
+pub fn build(payload: &[u8], terminal: u16, e: usize, out: &mut [u8]) -> Result<(), Refusal>
+    ensures number { number_in result ≡ control_number payload.now e (length out.old) }
     ensures output { out.new ≡ control_output payload.now terminal e out.old }
 {
-    let number = build_number(payload, e, out.len());
-    if number != 0 {
-        return number;
-    }
+    accept_payload(payload, e, out.len())?;
     write_message(payload, terminal, &mut out[..e]);
-    0
+    Ok(())
 }
 
 // The refusals of building in their order.
-fn build_number(payload: &[u8], e: usize, lent: usize) -> u8
-    ensures { result ≡ control_number payload.now e lent }
+#[tactic(auto, unfolding(crate::specs::Calls::control_number, crate::specs::Calls::control_rules, crate::specs::Calls::bad_payload, crate::specs::Calls::bad_length, refusals::specs::Refusals::first_of))]
+fn accept_payload(payload: &[u8], e: usize, lent: usize) -> Result<(), Refusal>
+    ensures { number_in result ≡ control_number payload.now e lent }
 {
-    if (payload.len() == 0) | (64 < payload.len()) {
-        return 20;
+    if payload.is_empty() || 64 < payload.len() {
+        return Err(Refusal::BadPayload);
     }
-    if (e == 0) | (4096 < e) {
-        return 3;
+    if e == 0 || 4096 < e {
+        return Err(Refusal::BadAllocation);
     }
     if lent < e {
-        return 5;
+        return Err(Refusal::TooShort);
     }
     if codeword::bad_bits(payload) {
-        return 2;
+        return Err(Refusal::BadBit);
     }
-    0
+    Ok(())
 }
 
 // The message over the whole of `out`.
@@ -68,29 +66,27 @@ fn led_bits(payload: &[u8], terminal: u16, bits: &mut [u8], led: &mut [u8])
     with_lead(bits, led);
 }
 
-// Whose the run of payload and check bits is, or the number of the refusal.
-pub fn whose(run: &[u8]) -> Owner
+// Whose the run of payload and check bits is.
+pub fn whose(run: &[u8]) -> Result<u16, Refusal>
     ensures { result ≡ whose_answer run.now }
 {
-    let number = whose_number(run);
-    if number != 0 {
-        return Owner::Refused(number);
-    }
+    accept_run(run)?;
     let end = run.len() - 16;
     let own = check_bits::crc16(0, &run[..end]);
     let carried = number_of(&run[end..]);
-    Owner::Terminal((own ^ carried) as u16)
+    Ok((own ^ carried) as u16)
 }
 
 // The refusals of the way back in their order.
-fn whose_number(run: &[u8]) -> u8
-    ensures { result ≡ whose_number run.now }
+#[tactic(auto, unfolding(crate::specs::Calls::whose_number, crate::specs::Calls::whose_rules, crate::specs::Calls::bad_run, refusals::specs::Refusals::first_of))]
+fn accept_run(run: &[u8]) -> Result<(), Refusal>
+    ensures { number_in result ≡ whose_number run.now }
 {
-    if (run.len() < 17) | (80 < run.len()) {
-        return 20;
+    if run.len() < 17 || 80 < run.len() {
+        return Err(Refusal::BadPayload);
     }
     if codeword::bad_bits(run) {
-        return 2;
+        return Err(Refusal::BadBit);
     }
-    0
+    Ok(())
 }

@@ -9,14 +9,13 @@ pub(crate) fn channel_coding(bits: &[u8; 86], coded: &mut [u8])
     requires { length coded.old ≡ 80 }
     ensures { coded.new ≡ tab 80 (three bits.now) }
 {
-    let mut k = 0;
-    while k < 80 {
+    for k in 0..80 {
         coded[k] = three(bits, k);
-        k += 1;
     }
 }
 
 // The three coded bits of the bit at place k + 6: generators 133, 171 and 165 (octal).
+#[tactic(auto, unfolding(crate::specs::Working::three))]
 fn three(bits: &[u8; 86], k: usize) -> u8
     requires { k < 80 }
     ensures { result ≡ three bits.now k }

@@ -7,10 +7,3 @@ mod coding;
 mod matching;
 
 pub use calls::{build, whose};
-
-// Whose a run of payload and check bits is, or the number of the refusal.
-#[derive(Clone, Copy)]
-pub enum Owner {
-    Terminal(u16),
-    Refused(u8),
-}

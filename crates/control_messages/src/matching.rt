@@ -61,9 +61,7 @@ fn put_stream(taken: &[u8; 80], s: u32, part: &mut [u8])
     requires { (s < 3) × (length part.old ≡ 80) }
     ensures { part.new ≡ tab 80 (bit_at taken.now s) }
 {
-    let mut i = 0;
-    while i < part.len() {
+    for i in 0..80 {
         part[i] = (taken[i] >> s) & 1;
-        i += 1;
     }
 }

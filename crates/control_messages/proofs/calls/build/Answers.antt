@@ -1,44 +1,35 @@
 -- `calls::build` meets its contract: a refusal leaves the output as it was, else its first E bytes are lent to be the message.
 -- Assumes nothing.
-use mathlib.Core.Path.{◌≡◌, sym, ◌∙◌, ap}
+use mathlib.Core.Path.{sym, ◌∙◌, ap}
 use lib.ListN.{length}
 use lib.Seq.{length-take-le}
 use Rattle.laws.proofs.Parts.{front_count}
 use Rattle.control_messages.specs.Message.{message}
-use Rattle.control_messages.specs.Calls.{control_number}
 use Rattle.control_messages.proofs.Numbers.{Accepted, accepted, refused_output, built_output}
-use Rattle.control_messages.proofs.calls.build.Goals.{Else-number-ne0}
+use Rattle.control_messages.proofs.calls.build.Goals.{In_ok-accept_payload}
 use Rattle.control_messages.proofs.calls.build.Goals as goal
 
--- past the test the number is 0
-none : (c : Else-number-ne0)
-    → control_number c.args.payload.now c.args.e
-    (length c.args.out.now)
-    ≡ 0
-none c = sym c.build_number-number.ensures ∙ c.if-number-ne0.false
+-- past the `?` the number is 0
+told : (c : In_ok-accept_payload) → Accepted c.args.payload.now c.args.e (length c.args.out.now)
+told c = accepted _ _ _ (sym c.in_ok-accept_payload.ensures)
 
-told : (c : Else-number-ne0)
-    → Accepted c.args.payload.now c.args.e
-    (length c.args.out.now)
-told c = accepted _ _ _ (none c)
-
-pub returns-then-number-ne0 : goal.returns-then-number-ne0
-returns-then-number-ne0 c = record { number = c.build_number-number.ensures; output = refused_output _ _ _ _ (λ e. c.if-number-ne0.true (c.build_number-number.ensures ∙ e)) }
+pub returns-in_err-accept_payload-clause-output : goal.returns-in_err-accept_payload-clause-output
+returns-in_err-accept_payload-clause-output c = refused_output _ _ _ _ _ c.in_err-accept_payload.ensures
 
 pub slice_bounds-write_message-end : goal.slice_bounds-write_message-end
-slice_bounds-write_message-end c = (told (goal.at.slice_bounds-write_message-end c).Else-number-ne0).fits
+slice_bounds-write_message-end c = (told (goal.at.slice_bounds-write_message-end c).In_ok-accept_payload).fits
 
 pub slice_bounds-write_message-end-2 : goal.slice_bounds-write_message-end-2
-slice_bounds-write_message-end-2 c = front_count _ _ (told (goal.at.slice_bounds-write_message-end-2 c).Else-number-ne0).fits
+slice_bounds-write_message-end-2 c = front_count _ _ (told (goal.at.slice_bounds-write_message-end-2 c).In_ok-accept_payload).fits
 
-pub write_message-requires : goal.write_message-requires
-write_message-requires c = record { sized = (told (goal.at.write_message-requires c).Else-number-ne0).size; are_bits = (told (goal.at.write_message-requires c).Else-number-ne0).bits }
+pub write_message-requires-clause-sized : goal.write_message-requires-clause-sized
+write_message-requires-clause-sized c = (told (goal.at.write_message-requires-clause-sized c).In_ok-accept_payload).size
 
-pub returns : goal.returns
-returns c =
-    record {
-      number = sym (none (goal.at.returns c).Else-number-ne0);
-      output = built_output _ _ _ _ (none (goal.at.returns c).Else-number-ne0)
-          (c.write_message.ensures
-          ∙ ap (message c.args.payload.now c.args.terminal) (length-take-le _ _ (told (goal.at.returns c).Else-number-ne0).fits));
-    }
+pub write_message-requires-clause-are_bits : goal.write_message-requires-clause-are_bits
+write_message-requires-clause-are_bits c = (told (goal.at.write_message-requires-clause-are_bits c).In_ok-accept_payload).bits
+
+pub returns-clause-output : goal.returns-clause-output
+returns-clause-output c =
+    built_output _ _ _ _ (sym c.in_ok-accept_payload.ensures)
+    (c.write_message.ensures
+    ∙ ap (message c.args.payload.now c.args.terminal) (length-take-le _ _ (told (goal.at.returns-clause-output c).In_ok-accept_payload).fits))

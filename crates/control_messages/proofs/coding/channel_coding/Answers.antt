@@ -1,5 +1,4 @@
 use native.Mathlib.Omega.{arith}
-use Rattle.control_messages.specs.Working.{three}
 use Rattle.control_messages.proofs.Tabbing.{start, next, finish}
 use Rattle.control_messages.proofs.coding.channel_coding.Goals as goal
 

@@ -1,12 +1,8 @@
 -- `coding::channel_coding` meets its contract: the three coded bits of one bit a turn.
 -- Assumes nothing.
-use Prim.Native.Nat.{◌-◌}
 use Rattle.control_messages.specs.Working.{three}
 use Rattle.control_messages.proofs.Tabbing.{Tabbing}
 use Rattle.control_messages.proofs.coding.channel_coding.Given as goal
 
 abbrev pub invariant-loop-k : goal.invariant-loop-k
 invariant-loop-k l = Tabbing (three l.bits) 80 l.initial.coded l.coded l.k
-
-abbrev pub decreases-loop-k : goal.decreases-loop-k
-decreases-loop-k l = 80 - l.k

@@ -3,7 +3,6 @@
 use mathlib.Core.Path.{◌≡◌}
 use Prim.Native.Nat.{◌+◌, ◌-◌, ◌*◌, ◌≤◌, ◌<◌}
 use Rattle.rate_matching.specs.Columns.{column_table}
-use Rattle.rate_matching.specs.SubBlocks.{rows}
 use Rattle.control_messages.proofs.Interleaving.{Taking}
 use Rattle.control_messages.proofs.matching.interleave.Given as goal
 
