@@ -1,1 +1,1 @@
-pub mod OwnerParts
+pub mod Rules

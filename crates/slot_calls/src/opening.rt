@@ -1,15 +1,17 @@
 // The calls New, Open, Open for a downlink, and Close.
-ghost use Rattle.std.specs.Prelude.{◌≡◌, true, cond, [], ◌∷◌, ◌++◌, ℕ, ◌+◌, ◌≤◌, ◌<◌, length, replicate};
+ghost use Rattle.std.specs.Prelude.{◌≡◌, true, cond, [], ◌∷◌, ◌++◌, ◌+◌, ◌≤◌, ◌<◌, length};
 ghost use Rattle.codeword.specs.Downlink.{too_short};
-ghost use Rattle.refusals.specs.Refusals.{rule, first_of};
+ghost use Rattle.refusals.specs.Refusals.{number_of, number_in, rule, first_of};
 ghost use Rattle.segmentation.specs.Segmentation.{blocks};
 ghost use Rattle.slots.specs.State.{room_length, room_start, new_state};
 ghost use Rattle.slots.specs.Room.{cleared};
-ghost use Rattle.slots.specs.Answers.{is_done, unless_refused};
+ghost use Rattle.slots.specs.Outcome.{Refused, answer_of, told};
+ghost use Rattle.slots.specs.Answers.{is_done};
 ghost use Rattle.slots.specs.Calls.{new_outcome, opened_for, open_rules, open_number, open_outcome, open_store, open_down_outcome, open_down_store, close_number, close_outcome};
 
 use crate::states;
-use refusals::or_else;
+use codeword::Receiver;
+use refusals::{Refusal, applied};
 use slots::{Answer, Head, Outcome, State};
 
 // The share of the soft buffer that an uplink's code block has: the places of the largest circle.
@@ -17,16 +19,16 @@ const WHOLE_SHARE: usize = 18528;
 
 // A state of S slots for M code blocks each, all closed. Touches no room.
 pub fn new(slots: usize, blocks: usize) -> Outcome
-    ensures { result ≡ new_outcome slots blocks }
+    ensures { told result ≡ new_outcome slots blocks }
 {
     if states::bad_shape(slots, blocks) {
         return Outcome {
-            answer: Answer::Refused(13),
+            answer: Err(Refusal::BadState.into()),
             state: all_closed(0, 0),
         };
     }
     Outcome {
-        answer: Answer::Done,
+        answer: Ok(None),
         state: all_closed(slots, blocks),
     }
 }
@@ -45,7 +47,7 @@ fn all_closed(slots: usize, blocks: usize) -> State
 
 // Opens a slot for a terminal with a block of `size` bits: 2 over the whole room, then the head.
 pub fn open(state: State, slot: usize, terminal: u16, size: usize, store: &mut [u8]) -> Outcome
-    ensures value { result ≡ open_outcome state (length store.old) slot terminal size }
+    ensures value { told result ≡ open_outcome state (length store.old) slot terminal size }
     ensures store_after { store.new ≡ open_store state slot size store.old }
 {
     let after = open_outcome(state, store.len(), slot, terminal, size);
@@ -56,41 +58,27 @@ pub fn open(state: State, slot: usize, terminal: u16, size: usize, store: &mut [
 
 // Its answer and the state, for a store that keeps `lent` places: a store in another form is cleared by another call.
 pub fn open_outcome(state: State, lent: usize, slot: usize, terminal: u16, size: usize) -> Outcome
-    ensures { result ≡ open_outcome state lent slot terminal size }
+    ensures { told result ≡ open_outcome state lent slot terminal size }
 {
-    let number = open_number(state, lent, slot, size);
-    opened(number, state, slot, terminal, size, WHOLE_SHARE)
+    match open_admitted(state, lent, slot, size) {
+        Ok(()) => opened(state, slot, terminal, size, WHOLE_SHARE),
+        Err(refusal) => refused(refusal, state),
+    }
 }
 
-// Opens a slot for a downlink: the same, and each code block has its share of the soft buffer. `release` is 8 or 11, `mimo` is K_MIMO, `soft`
-// the receiver's soft bits for `processes` processes, `layers` how many it supports.
+// Opens a slot for a downlink: the same, and each code block has its share of the receiver's soft buffer.
 pub fn open_down(
     state: State,
     slot: usize,
     terminal: u16,
     size: usize,
-    release: usize,
-    mimo: usize,
-    processes: usize,
-    soft: usize,
-    layers: usize,
+    receiver: Receiver,
     store: &mut [u8],
 ) -> Outcome
-    ensures value { result ≡ open_down_outcome state (length store.old) slot terminal size release mimo processes soft layers }
-    ensures store_after { store.new ≡ open_down_store state slot size release mimo processes soft layers store.old }
+    ensures value { told result ≡ open_down_outcome state (length store.old) slot terminal size receiver.release receiver.mimo receiver.processes receiver.soft receiver.layers }
+    ensures store_after { store.new ≡ open_down_store state slot size receiver.release receiver.mimo receiver.processes receiver.soft receiver.layers store.old }
 {
-    let after = open_down_outcome(
-        state,
-        store.len(),
-        slot,
-        terminal,
-        size,
-        release,
-        mimo,
-        processes,
-        soft,
-        layers,
-    );
+    let after = open_down_outcome(state, store.len(), slot, terminal, size, receiver);
     let answer = after.answer;
     clear_room(answer, state.blocks, slot, store);
     after
@@ -103,38 +91,33 @@ pub fn open_down_outcome(
     slot: usize,
     terminal: u16,
     size: usize,
-    release: usize,
-    mimo: usize,
-    processes: usize,
-    soft: usize,
-    layers: usize,
+    receiver: Receiver,
 ) -> Outcome
-    ensures { result ≡ open_down_outcome state lent slot terminal size release mimo processes soft layers }
+    ensures { told result ≡ open_down_outcome state lent slot terminal size receiver.release receiver.mimo receiver.processes receiver.soft receiver.layers }
 {
     let count = states::block_count(size);
-    let share = codeword::share_for(count, release, mimo, processes, soft, layers);
-    let number = down_number(state, lent, slot, size, share);
-    opened(number, state, slot, terminal, size, share)
+    let share = codeword::share_for(count, receiver);
+    match down_admitted(state, lent, slot, size, share) {
+        Ok(()) => opened(state, slot, terminal, size, share),
+        Err(refusal) => refused(refusal, state),
+    }
 }
 
-// A refusal by its number, or the slot opened: its head holds the terminal, A and the share.
-fn opened(
-    number: u8,
-    state: State,
-    slot: usize,
-    terminal: u16,
-    size: usize,
-    share: usize,
-) -> Outcome
-    requires { number ≡ 0 → slot < 8 }
-    ensures { result ≡ unless_refused number state (opened_for state slot terminal size share) }
+// A refusal, with the state as it came.
+fn refused(refusal: Refusal, state: State) -> Outcome
+    ensures { told result ≡ record { answer = Refused (number_of refusal); state = state } }
 {
-    if number != 0 {
-        return Outcome {
-            answer: Answer::Refused(number),
-            state,
-        };
+    Outcome {
+        answer: Err(refusal.into()),
+        state,
     }
+}
+
+// The slot opened: its head holds the terminal, A and the share.
+fn opened(state: State, slot: usize, terminal: u16, size: usize, share: usize) -> Outcome
+    requires { slot < 8 }
+    ensures { told result ≡ opened_for state slot terminal size share }
+{
     let head = Head {
         opened: true,
         terminal,
@@ -142,98 +125,77 @@ fn opened(
         share,
     };
     Outcome {
-        answer: Answer::Done,
+        answer: Ok(None),
         state: states::with_head(state, slot, head),
     }
 }
 
 // Accepted, with nothing to tell.
 pub fn is_done(answer: Answer) -> bool
-    ensures { result ≡ is_done answer }
+    ensures { result ≡ is_done (answer_of answer) }
 {
     match answer {
-        Answer::Done => true,
-        Answer::StillLacking(_) => false,
-        Answer::Refused(_) => false,
-        Answer::RefusedWith(_, _) => false,
+        Ok(lacking) => lacking.is_none(),
+        Err(_) => false,
     }
 }
 
-// Its refusals for a share of the soft buffer, 0 where the receiver is refused: Open's, then 21.
-fn down_number(state: State, lent: usize, slot: usize, size: usize, share: usize) -> u8
-    ensures { result ≡ first_of (open_rules state lent slot size ++ (rule (too_short share (size + 24) (blocks (size + 24))) 21 ∷ [])) }
+// Open's refusals for a downlink, for a share of the soft buffer, 0 where the receiver is refused: Open's, then 21.
+fn down_admitted(
+    state: State,
+    lent: usize,
+    slot: usize,
+    size: usize,
+    share: usize,
+) -> Result<(), Refusal>
+    ensures { number_in result ≡ first_of (open_rules state lent slot size ++ (rule (too_short share (size + 24) (blocks (size + 24))) 21 ∷ [])) }
 {
-    let number = open_number(state, lent, slot, size);
-    if number != 0 {
-        return number;
-    }
-    if states::too_short(share, size) {
-        21
-    } else {
-        0
-    }
+    open_admitted(state, lent, slot, size)?;
+    applied(states::too_short(share, size), Refusal::BadReceiver)
+}
+
+// Open's refusals, for a store of `lent` bytes.
+fn open_admitted(state: State, lent: usize, slot: usize, size: usize) -> Result<(), Refusal>
+    ensures { number_in result ≡ open_number state lent slot size }
+{
+    let head = states::stored_head(state, lent, slot)?;
+    applied(head.opened, Refusal::OpenAlready)?;
+    applied(states::bad_size(size), Refusal::BadLength)?;
+    applied(states::too_many(state.blocks, size), Refusal::TooManyBlocks)
 }
 
 // Unheard over a slot's whole room, where its opening is done.
 fn clear_room(answer: Answer, m: usize, slot: usize, store: &mut [u8])
-    requires { is_done answer ≡ true → (m ≤ 5) × (slot ≤ 8) × (room_start m slot + room_length m ≤ length store.old) }
-    ensures { store.new ≡ cond (is_done answer) (cleared m slot store.old) store.old }
+    requires { is_done (answer_of answer) ≡ true → (m ≤ 5) × (slot ≤ 8) × (room_start m slot + room_length m ≤ length store.old) }
+    ensures { store.new ≡ cond (is_done (answer_of answer)) (cleared m slot store.old) store.old }
 {
     if !is_done(answer) {
         return;
     }
     let from = states::room_start(m, slot);
     let to = from + states::room_length(m);
-    fill(&mut store[from..to], 2);
-}
-
-// Open's refusals, for a store of `lent` bytes.
-fn open_number(state: State, lent: usize, slot: usize, size: usize) -> u8
-    ensures { result ≡ open_number state lent slot size }
-{
-    let looked = states::look(state, slot);
-    let head = looked.head;
-    let store = states::store_number(looked.bad, state, lent, slot);
-    let opened = or_else(store, head.opened, 7);
-    let sized = or_else(opened, states::bad_size(size), 1);
-    or_else(sized, states::too_many(state.blocks, size), 10)
-}
-
-// Writes one byte over a whole room: unheard, as a store's form has it.
-pub fn fill(room: &mut [u8], byte: u8)
-    ensures { room.new ≡ replicate {A = ℕ} (length room.old) byte }
-{
-    let mut i: usize = 0;
-    while i < room.len() {
-        room[i] = byte;
-        i += 1;
-    }
+    store[from..to].fill(2);
 }
 
 // The head becomes closed; the room is not written.
 pub fn close(state: State, slot: usize, terminal: u16) -> Outcome
-    ensures { result ≡ close_outcome state slot terminal }
+    ensures { told result ≡ close_outcome state slot terminal }
 {
-    let number = close_number(state, slot, terminal);
-    if number != 0 {
-        return Outcome {
-            answer: Answer::Refused(number),
-            state,
-        };
-    }
-    Outcome {
-        answer: Answer::Done,
-        state: states::with_head(state, slot, states::closed_head()),
+    match close_admitted(state, slot, terminal) {
+        Ok(()) => Outcome {
+            answer: Ok(None),
+            state: states::with_head(state, slot, states::closed_head()),
+        },
+        Err(refusal) => refused(refusal, state),
     }
 }
 
 // Close's refusals.
-fn close_number(state: State, slot: usize, terminal: u16) -> u8
-    ensures { result ≡ close_number state slot terminal }
+fn close_admitted(state: State, slot: usize, terminal: u16) -> Result<(), Refusal>
+    ensures { number_in result ≡ close_number state slot terminal }
 {
-    let looked = states::look(state, slot);
-    let bad = or_else(0, looked.bad, 13);
+    let head = states::look(state, slot)?;
     let present = slot < state.slots;
-    let absent = or_else(bad, !present, 6);
-    states::owner_after(absent, looked.head, terminal)
+    applied(!present, Refusal::NoSlot)?;
+    states::owned(head, terminal)
 }

@@ -1,6 +1,6 @@
 // What every call asks of a state and a store before anything else.
-ghost use Rattle.std.specs.Prelude.{◌≡◌, false, cond, not, ◌||◌, [], ◌∷◌, ◌+◌, ◌≤◌, ◌<◌, eqb, ltb};
-ghost use Rattle.refusals.specs.Refusals.{rule, first_of};
+ghost use Rattle.std.specs.Prelude.{◌≡◌, false, cond, not, ◌||◌, [], ◌∷◌, ◌+◌, ◌≤◌, ◌<◌, eqb, ltb, IfOk};
+ghost use Rattle.refusals.specs.Refusals.{number_in, rule, first_of};
 ghost use Rattle.segmentation.specs.Segmentation.{blocks};
 ghost use Rattle.segmentation.specs.Sizes.{bad_size};
 ghost use Rattle.codeword.specs.Downlink.{too_short};
@@ -8,8 +8,7 @@ ghost use Rattle.slots.specs.State.{room_length, room_start, closed_head, head_a
 ghost use Rattle.slots.specs.Calls.{store_rules, with_head};
 ghost use Rattle.slot_calls.specs.Owner.{owner_of};
 
-use crate::Owner;
-use refusals::or_else;
+use refusals::{Refusal, applied};
 use slots::{Head, State};
 
 // The bytes that a room has for one code block, the largest circle.
@@ -128,65 +127,51 @@ fn bad_head(m: usize, head: Head) -> bool
         && (bad_size(head.size) || (too_many(m, head.size) || too_short(head.share, head.size)))
 }
 
-// What a state says before a call on one of its slots: whether it is broken, number 13, and the slot's head, a closed one where there is no such slot.
-#[derive(Drop)]
-pub(crate) struct Looked {
-    pub bad: bool,
-    pub head: Head,
-}
-
-// Looks at the state once, for all that is asked of it. The shape comes first, so that there are heads to look at.
-pub(crate) fn look(state: State, slot: usize) -> Looked
-    ensures bad_value { result.bad ≡ bad_state state }
-    ensures head_value { result.head ≡ head_at state slot }
+// The head of a slot, a closed one where there is no such slot; 13 where the state is broken. The shape comes first, so that there are heads to look at.
+pub(crate) fn look(state: State, slot: usize) -> Result<Head, Refusal>
+    ensures number { number_in result ≡ cond (bad_state state) 13 0 }
+    ensures head { IfOk result (λ head. head ≡ head_at state slot) }
 {
     let s = state.slots;
     let m = state.blocks;
-    let head = head_at(state, slot);
     if bad_shape(s, m) {
-        return Looked { bad: true, head };
+        return Err(Refusal::BadState);
     }
-    let mut i: usize = 0;
-    while i < s {
+    for i in 0..s {
         let next = state.heads[i];
         if bad_head(m, next) {
-            return Looked { bad: true, head };
+            return Err(Refusal::BadState);
         }
-        i += 1;
     }
-    Looked { bad: false, head }
+    Ok(head_at(state, slot))
 }
 
-// 13, 5 (store), 6, for a store of `lent` bytes and a state that is broken or not. The store's length is computed for a good shape alone, so that it does
-// not wrap.
-pub(crate) fn store_number(bad: bool, state: State, lent: usize, slot: usize) -> u8
-    requires { bad ≡ bad_state state }
-    ensures { result ≡ first_of (store_rules state lent slot) }
+// 13, 5 (store), 6, for a store of `lent` bytes, and the slot's head. The store's length is computed for a good state alone, so that it does not wrap.
+pub(crate) fn stored_head(state: State, lent: usize, slot: usize) -> Result<Head, Refusal>
+    ensures number { number_in result ≡ first_of (store_rules state lent slot) }
+    ensures head { IfOk result (λ head. head ≡ head_at state slot) }
 {
-    if bad {
-        return 13;
-    }
+    let head = look(state, slot)?;
     let s = state.slots;
-    let short = or_else(0, lent < room_start(state.blocks, s), 5);
+    applied(lent < room_start(state.blocks, s), Refusal::TooShort)?;
     let present = slot < s;
-    or_else(short, !present, 6)
+    applied(!present, Refusal::NoSlot)?;
+    Ok(head)
 }
 
-// 8, 9, where no rule applied before, for a slot that has this head.
-pub(crate) fn owner_after(found: u8, head: Head, terminal: u16) -> u8
-    ensures { result ≡ cond (eqb found 0) (first_of (rule (not head.opened) 8 ∷ rule (not (eqb head.terminal terminal)) 9 ∷ [])) found }
+// 8, 9, for a slot that has this head.
+pub(crate) fn owned(head: Head, terminal: u16) -> Result<(), Refusal>
+    ensures { number_in result ≡ first_of (rule (not head.opened) 8 ∷ rule (not (eqb head.terminal terminal)) 9 ∷ []) }
 {
-    let after = or_else(found, !head.opened, 8);
-    or_else(after, head.terminal != terminal, 9)
+    applied(!head.opened, Refusal::Closed)?;
+    applied(head.terminal != terminal, Refusal::OtherTerminal)
 }
 
-// What Receive, Read and Streams ask first.
-pub fn owner(state: State, lent: usize, slot: usize, terminal: u16) -> Owner
+// What Receive, Read and Streams ask first: 13, 5 (store), 6, 8 and 9, then the slot's head.
+pub fn owner(state: State, lent: usize, slot: usize, terminal: u16) -> Result<Head, Refusal>
     ensures { result ≡ owner_of state lent slot terminal }
 {
-    let looked = look(state, slot);
-    let head = looked.head;
-    let stored = store_number(looked.bad, state, lent, slot);
-    let number = owner_after(stored, head, terminal);
-    Owner { number, head }
+    let head = stored_head(state, lent, slot)?;
+    owned(head, terminal)?;
+    Ok(head)
 }

@@ -5,13 +5,14 @@ use mathlib.Core.Bool.{true}
 use Prim.Native.Nat.{◌+◌, ◌≤◌}
 use native.Mathlib.Omega.{arith}
 use lib.ListN.{length}
+use Rattle.slots.specs.Outcome.{answer_of}
 use Rattle.slots.specs.Answers.{is_done}
 use Rattle.slots.proofs.Cleared.{room_cleared}
 use Rattle.slot_calls.proofs.opening.clear_room.Goals.{After-room_length, Else-not-is_done}
 use Rattle.slot_calls.proofs.opening.clear_room.Goals as goal
 
 -- past the test the answer is done
-done : (c : Else-not-is_done) → is_done c.args.answer ≡ true
+done : (c : Else-not-is_done) → is_done (answer_of c.args.answer) ≡ true
 done c = sym c.is_done.ensures ∙ c.if-not-is_done.false
 
 -- the room lies within the store
@@ -37,4 +38,4 @@ pub returns : goal.returns
 returns c =
     let entry = c.args in
     rw (done (goal.at.returns c).Else-not-is_done)
-    (room_cleared entry.m entry.slot entry.store.now c.fill.new.room c.room_start-from.ensures c.room_length.ensures (ends (goal.at.returns c).After-room_length) c.fill.ensures)
+    (room_cleared entry.m entry.slot entry.store.now c.fill.new.self c.room_start-from.ensures c.room_length.ensures (ends (goal.at.returns c).After-room_length) (c.fill.ensures.after (λ y h. h)))

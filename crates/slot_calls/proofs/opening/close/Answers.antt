@@ -1,22 +1,23 @@
--- `opening::close` meets its contract: the number decides, and number 0 says that the slot is there.
+-- `opening::close` meets its contract: an accepted call closes a slot that is there.
 -- Assumes nothing.
+use mathlib.Core.Path.{refl}
 use native.Mathlib.Omega.{arith}
-use borrow.Author.Tests.{ne_eqb}
+use Rattle.refusals.proofs.Numbers.{refusal_ne0}
 use Rattle.slots.specs.Answers.{unless_refused}
 use Rattle.slots.specs.Calls.{close_outcome}
 use Rattle.slots.proofs.Accepted.{closing}
 use Rattle.slot_calls.proofs.opening.close.Goals as goal
 
-pub returns-then-number-ne0 : goal.returns-then-number-ne0
-unfolding close_outcome unless_refused
-returns-then-number-ne0 c = rw (← c.close_number-number.ensures, ne_eqb _ 0 c.if-number-ne0.true)
-
 pub with_head-requires : goal.with_head-requires
 with_head-requires c =
-    let entry = c.args in
-    let mine = closing entry.state entry.slot entry.terminal c.close_number-number.ensures c.if-number-ne0.false in
+    let e = c.args in
+    let mine = closing e.state e.slot e.terminal c.in-Ok.ensures refl in
     omega (arith, mine.present, mine.state_good.shape.slots_most)
 
-pub returns : goal.returns
+pub returns-in-Ok : goal.returns-in-Ok
 unfolding close_outcome unless_refused
-returns c = rw (c.with_head.ensures, c.closed_head.ensures, ← c.close_number-number.ensures, c.if-number-ne0.false)
+returns-in-Ok c = rw (c.with_head.ensures, c.closed_head.ensures, ← c.in-Ok.ensures)
+
+pub returns-in-Err : goal.returns-in-Err
+unfolding close_outcome unless_refused
+returns-in-Err c = rw (← c.in-Err.ensures, refusal_ne0 c.in-Err.refusal) c.refused.ensures

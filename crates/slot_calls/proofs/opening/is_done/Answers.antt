@@ -1,25 +1,33 @@
--- `opening::is_done` meets its contract: each answer by itself.
+-- `opening::is_done` meets its contract: of the answers that are told, one is done.
 -- Assumes nothing.
+use mathlib.Core.Path.{◌≡◌, refl}
+use mathlib.Core.Bool.{Bool, true, false, not}
+use Prim.Native.Nat.{ℕ}
+use Rattle.std.specs.Option.{is_some}
+use Rattle.std.specs.declared.option.Option.{Option}
+use Rattle.std.specs.declared.option.Option.TheVariants.{None, Some}
+use Rattle.std.specs.declared.result.Result.TheVariants.{Ok, Err}
+use Rattle.slots.specs.declared.Reason.{Reason}
+use Rattle.slots.specs.declared.Reason.TheVariants.{Rule, Lacking, WrongCodeBlock}
+use Rattle.slots.specs.Outcome.{answer_of}
 use Rattle.slots.specs.Answers.{is_done}
-use borrow.Author.Rules.{rules}
 use Rattle.slot_calls.proofs.opening.is_done.Goals as goal
 
--- src/opening.rt:168:1
-pub returns-in-Done : goal.returns-in-Done
+accepted : (lacking : Option ℕ) (none : Bool) → is_some lacking ≡ not none → none ≡ is_done (answer_of (Ok lacking))
 unfolding is_done
-returns-in-Done c = search rules
+accepted None true e = refl
+accepted None false e = absurd (cc)
+accepted (Some places) true e = absurd (cc)
+accepted (Some places) false e = refl
 
--- src/opening.rt:168:1
-pub returns-in-StillLacking : goal.returns-in-StillLacking
+refused : (reason : Reason) → false ≡ is_done (answer_of (Err reason))
 unfolding is_done
-returns-in-StillLacking c = search rules
+refused (Rule refusal) = refl
+refused (Lacking places) = refl
+refused (WrongCodeBlock block) = refl
 
--- src/opening.rt:168:1
-pub returns-in-Refused : goal.returns-in-Refused
-unfolding is_done
-returns-in-Refused c = search rules
+pub returns-in-Ok : goal.returns-in-Ok
+returns-in-Ok c = rw c.in-Ok.is (accepted c.in-Ok.lacking c.is_none.result c.is_none.ensures)
 
--- src/opening.rt:168:1
-pub returns-in-RefusedWith : goal.returns-in-RefusedWith
-unfolding is_done
-returns-in-RefusedWith c = search rules
+pub returns-in-Err : goal.returns-in-Err
+returns-in-Err c = rw c.in-Err.is (refused c.in-Err.field-0)

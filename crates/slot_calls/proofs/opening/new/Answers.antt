@@ -7,7 +7,7 @@ use Rattle.slot_calls.proofs.opening.new.Goals as goal
 
 pub returns-then-bad_shape : goal.returns-then-bad_shape
 unfolding new_outcome unless_refused first_of
-returns-then-bad_shape c = rw (c.all_closed.ensures, ← c.bad_shape.ensures, c.if-bad_shape.true)
+returns-then-bad_shape c = rw (c.all_closed.ensures, ← c.bad_shape.ensures, c.if-bad_shape.true, c.into.ensures)
 
 pub returns : goal.returns
 unfolding new_outcome unless_refused first_of

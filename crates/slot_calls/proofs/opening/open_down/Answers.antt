@@ -4,7 +4,7 @@ use mathlib.Core.Path.{◌≡◌, sym, ◌∙◌, ap}
 use borrow.Author.Tests.{eqb-true}
 use lib.Dec.{eqb}
 use lib.ListN.{length}
-use Rattle.slots.specs.Outcome.{Outcome}
+use Rattle.slots.specs.Outcome.{Outcome, answer_of}
 use Rattle.slots.specs.Answers.{is_done}
 use Rattle.slots.specs.Calls.{open_down_number, open_down_store}
 use Rattle.slots.proofs.Done.{down_told, down_stored, room_there}
@@ -13,7 +13,7 @@ use Rattle.slot_calls.proofs.opening.open_down.Goals as goal
 
 -- the answer is done where the number is 0
 told : (c : After-open_down_outcome-after) → let entry = c.args in
-    is_done c.open_down_outcome-after.result.answer ≡ eqb (open_down_number entry.state (length entry.store.now) entry.slot entry.size entry.release entry.mimo entry.processes entry.soft entry.layers) 0
+    is_done (answer_of c.open_down_outcome-after.result.answer) ≡ eqb (open_down_number entry.state (length entry.store.now) entry.slot entry.size entry.receiver.release entry.receiver.mimo entry.receiver.processes entry.receiver.soft entry.receiver.layers) 0
 told c = ap (λ (o : Outcome). is_done o.answer) c.open_down_outcome-after.ensures ∙ down_told _ _ _ _ _ _ _ _ _ _
 
 pub clear_room-requires : goal.clear_room-requires
