@@ -1,1 +1,2 @@
+pub mod OwnerParts
 pub mod Rules
