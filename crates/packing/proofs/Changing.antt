@@ -14,27 +14,25 @@ use Rattle.packing.proofs.Places.{place_at}
 
 -- ---- places into bytes
 
--- i of n bytes are written, from the first j places
-pub record Packing (from to₀ : List ℕ) (n : ℕ) (to : List ℕ) (j i : ℕ) : Type 0 where
+-- i of n bytes are written
+pub record Packing (from to₀ : List ℕ) (n : ℕ) (to : List ℕ) (i : ℕ) : Type 0 where
   pub passed : i ≤ n
-  pub place : j ≡ 4 * i
   pub enough : 4 * n ≤ length from
   pub room : n ≤ length to₀
   pub wrote : Writing to₀ to i (tab_from i (n - i) (packed_at from)) (tab n (packed_at from))
 
-pub packing_start : (from to : List ℕ) (n : ℕ) → 4 * n ≤ length from → n ≤ length to → Packing from to n to 0 0
-packing_start from to n h g = record { passed = omega arith; place = omega arith; enough = h; room = g; wrote = same (sym (tab_rest n (packed_at from))) start }
+pub packing_start : (from to : List ℕ) (n : ℕ) → 4 * n ≤ length from → n ≤ length to → Packing from to n to 0
+packing_start from to n h g = record { passed = omega arith; enough = h; room = g; wrote = same (sym (tab_rest n (packed_at from))) start }
 
-module _ {from to₀ : List ℕ} {n : ℕ} {to : List ℕ} {j i : ℕ} (w : Packing from to₀ n to j i) where
-  pub packing_next : {x : ℕ} → i < n → x ≡ four_in (get_or from j 0) (get_or from (j + 1) 0) (get_or from (j + 2) 0) (get_or from (j + 3) 0)
-      → Packing from to₀ n (set to i x) (j + 4) (i + 1)
+module _ {from to₀ : List ℕ} {n : ℕ} {to : List ℕ} {i : ℕ} (w : Packing from to₀ n to i) where
+  pub packing_next : {x : ℕ} → i < n → x ≡ four_in (get_or from (4 * i) 0) (get_or from (4 * i + 1) 0) (get_or from (4 * i + 2) 0) (get_or from (4 * i + 3) 0)
+      → Packing from to₀ n (set to i x) (i + 1)
   unfolding packed_at
   packing_next {x} h e = record {
     passed = omega arith;
-    place = omega (arith, w.place);
     enough = w.enough;
     room = w.room;
-    wrote = push (omega (arith, w.wrote.long, w.room)) (same (rest_more i n (packed_at from) h ∙ rw (e, w.place)) w.wrote);
+    wrote = push (omega (arith, w.wrote.long, w.room)) (same (rest_more i n (packed_at from) h ∙ rw e) w.wrote);
   }
 
   pub packing_finish : n ≤ i → to ≡ packed_over n from to₀
@@ -47,15 +45,14 @@ module _ {from to₀ : List ℕ} {n : ℕ} {to : List ℕ} {j i : ℕ} (w : Pack
 -- ---- bytes into places
 
 -- the places of i of n bytes are written
-pub record Unpacking (from to₀ : List ℕ) (n : ℕ) (to : List ℕ) (j i : ℕ) : Type 0 where
+pub record Unpacking (from to₀ : List ℕ) (n : ℕ) (to : List ℕ) (i : ℕ) : Type 0 where
   pub passed : i ≤ n
-  pub place : j ≡ 4 * i
   pub enough : n ≤ length from
   pub room : 4 * n ≤ length to₀
-  pub wrote : Writing to₀ to j (tab_from j (4 * n - j) (place_in from)) (tab (4 * n) (place_in from))
+  pub wrote : Writing to₀ to (4 * i) (tab_from (4 * i) (4 * n - 4 * i) (place_in from)) (tab (4 * n) (place_in from))
 
-pub unpacking_start : (from to : List ℕ) (n : ℕ) → n ≤ length from → 4 * n ≤ length to → Unpacking from to n to 0 0
-unpacking_start from to n h g = record { passed = omega arith; place = omega arith; enough = h; room = g; wrote = same (sym (tab_rest (4 * n) (place_in from))) start }
+pub unpacking_start : (from to : List ℕ) (n : ℕ) → n ≤ length from → 4 * n ≤ length to → Unpacking from to n to 0
+unpacking_start from to n h g = record { passed = omega arith; enough = h; room = g; wrote = same (sym (tab_rest (4 * n) (place_in from))) start }
 
 -- `out[i] = x`, and the next place by another name
 push_to : {out₀ out : List ℕ} {i x : ℕ} {future total : List ℕ} (next : ℕ) → i + 1 ≡ next → i < length out → Writing out₀ out i (x ∷ future) total → Writing out₀ (set out i x) next future total
@@ -75,40 +72,42 @@ four_more j n f h =
         sum : (j k : ℕ) → j + k + 1 ≡ j + (k + 1)
         sum j k = omega arith
 
-module _ {from to₀ : List ℕ} {n : ℕ} {to : List ℕ} {j i : ℕ} (w : Unpacking from to₀ n to j i) where
-  fits : i < n → j + 3 < length to
-  fits h = omega (arith, w.wrote.long, w.room, w.place)
+module _ {from to₀ : List ℕ} {n : ℕ} {to : List ℕ} {i : ℕ} (w : Unpacking from to₀ n to i) where
+  fits : i < n → 4 * i + 3 < length to
+  fits h = omega (arith, w.wrote.long, w.room)
 
   -- place k of byte i
-  is : (k : ℕ) → k < 4 → place_in from (j + k) ≡ standing_at k (get_or from i 0)
-  is k h = ap (λ (m : ℕ). place_in from (m + k)) w.place ∙ place_at from i k h
+  is : (k : ℕ) → k < 4 → place_in from (4 * i + k) ≡ standing_at k (get_or from i 0)
+  is k h = place_at from i k h
 
   pub unpacking_next : i < n → {a b c d : ℕ} → a ≡ standing_at 0 (get_or from i 0) → b ≡ standing_at 1 (get_or from i 0) → c ≡ standing_at 2 (get_or from i 0) → d ≡ standing_at 3 (get_or from i 0)
-      → Unpacking from to₀ n (set (set (set (set to j a) (j + 1) b) (j + 2) c) (j + 3) d) (j + 4) (i + 1)
+      → Unpacking from to₀ n (set (set (set (set to (4 * i) a) (4 * i + 1) b) (4 * i + 2) c) (4 * i + 3) d) (i + 1)
   unpacking_next h {a} {b} {c} {d} ea eb ec ed = record {
     passed = omega arith;
-    place = omega (arith, w.place);
     enough = w.enough;
     room = w.room;
     wrote = fourth;
   }
     where
       future : List ℕ
-      future = tab_from (j + 4) (4 * n - (j + 4)) (place_in from)
+      future = tab_from (4 * i + 4) (4 * n - (4 * i + 4)) (place_in from)
 
-      zeroth : Writing to₀ to j (a ∷ b ∷ c ∷ d ∷ future) (tab (4 * n) (place_in from))
-      zeroth = same (four_more j (4 * n) (place_in from) (omega (arith, w.place)) ∙ rw (ea, eb, ec, ed) (rw (← is 0 (omega arith), ← is 1 (omega arith), ← is 2 (omega arith), ← is 3 (omega arith)) (ap (λ (m : ℕ). place_in from m ∷ place_in from (j + 1) ∷ place_in from (j + 2) ∷ place_in from (j + 3) ∷ future) (sym (add-zero j))))) w.wrote
+      zeroth : Writing to₀ to (4 * i) (a ∷ b ∷ c ∷ d ∷ future) (tab (4 * n) (place_in from))
+      zeroth = same (four_more (4 * i) (4 * n) (place_in from) (omega arith) ∙ rw (ea, eb, ec, ed) (rw (← is 0 (omega arith), ← is 1 (omega arith), ← is 2 (omega arith), ← is 3 (omega arith)) (ap (λ (m : ℕ). place_in from m ∷ place_in from (4 * i + 1) ∷ place_in from (4 * i + 2) ∷ place_in from (4 * i + 3) ∷ future) (sym (add-zero (4 * i)))))) w.wrote
 
-      fourth : Writing to₀ (set (set (set (set to j a) (j + 1) b) (j + 2) c) (j + 3) d) (j + 4) future (tab (4 * n) (place_in from))
-      fourth =
-          push_to (j + 4) (omega arith) (simp length-set (fits h))
-          (push_to (j + 3) (omega arith) (simp length-set (omega (arith, fits h)))
-          (push_to (j + 2) (omega arith) (simp length-set (omega (arith, fits h)))
-          (push (omega (arith, fits h)) zeroth)))
+      four_on : (j : ℕ) → 4 * i + 4 ≡ j → Writing to₀ (set (set (set (set to (4 * i) a) (4 * i + 1) b) (4 * i + 2) c) (4 * i + 3) d) j (tab_from j (4 * n - j) (place_in from)) (tab (4 * n) (place_in from))
+      four_on j e = rw (← e)
+          (push_to (4 * i + 4) (omega arith) (simp length-set (fits h))
+          (push_to (4 * i + 3) (omega arith) (simp length-set (omega (arith, fits h)))
+          (push_to (4 * i + 2) (omega arith) (simp length-set (omega (arith, fits h)))
+          (push (omega (arith, fits h)) zeroth))))
+
+      fourth : Writing to₀ (set (set (set (set to (4 * i) a) (4 * i + 1) b) (4 * i + 2) c) (4 * i + 3) d) (4 * (i + 1)) (tab_from (4 * (i + 1)) (4 * n - 4 * (i + 1)) (place_in from)) (tab (4 * n) (place_in from))
+      fourth = four_on (4 * (i + 1)) (omega arith)
 
   pub unpacking_finish : n ≤ i → to ≡ unpacked_over n from to₀
   unfolding unpacked_over unpacked
-  unpacking_finish h = rw (all n i j w.passed h w.place) at (finish (rest_none j (4 * n) (place_in from) (omega (arith, w.place))) w.wrote)
+  unpacking_finish h = rw (all n i w.passed h) at (finish (rest_none (4 * i) (4 * n) (place_in from) (omega arith)) w.wrote)
     where
-      all : (n i j : ℕ) → i ≤ n → n ≤ i → j ≡ 4 * i → j ≡ 4 * n
-      all n i j a b c = omega arith
+      all : (n i : ℕ) → i ≤ n → n ≤ i → 4 * i ≡ 4 * n
+      all n i a b = omega arith

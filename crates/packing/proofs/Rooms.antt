@@ -1,8 +1,8 @@
 -- The change of form of one room: its refusals in their order, and what is written where none applies.
 -- Assumes nothing.
-use mathlib.Core.Path.{◌≡◌, ◌∙◌, ap, ap₂}
+use mathlib.Core.Path.{◌≡◌, refl, ◌∙◌, ap, ap₂}
 use mathlib.Core.Bool.{true, false, cond}
-use mathlib.Core.List.{List, [], ◌++◌, append-nil}
+use mathlib.Core.List.{List, [], ◌∷◌, ◌++◌, append-nil}
 use Prim.Native.Nat.{ℕ, ◌+◌, ◌*◌, ◌/◌, ◌≤◌, ◌<◌, min}
 use native.Mathlib.Omega.{arith}
 use lib.Dec.{eqb, ltb}
@@ -11,9 +11,10 @@ use lib.Seq.{length-take-le, get_or-take}
 use borrow.Author.Tests.{eqb-false, ltb-false, lt-ltb, le-ltb}
 use Rattle.laws.proofs.Tab.{tab_ext}
 use Rattle.refusals.specs.Refusals.{first_of}
+use Rattle.refusals.proofs.Refusals.{passed, listed}
 use Rattle.codeword.proofs.Accepted.{or-false}
 use Rattle.packing.specs.Packing.{four_in, packed_at, packed, packed_over, standing_at, place_in, unpacked, unpacked_over}
-use Rattle.packing.specs.Change.{bad_blocks, change_number}
+use Rattle.packing.specs.Change.{bad_blocks, blocks_rule, bytes_rule, change_number}
 
 -- ---- the refusals
 
@@ -42,6 +43,22 @@ module _ (M from to needed written : ℕ) (x l : List ℕ) where
   pub accepted : {out : List ℕ} → bad_blocks M ≡ false → needed ≤ from → written ≤ to → out ≡ x → Answered 0 out
   unfolding change_number first_of
   accepted e h g o = (simp (e, le-ltb from needed h, le-ltb to written g), o ∙ simp (e, le-ltb from needed h, le-ltb to written g))
+
+-- number 0: M is in range, and both buffers are long enough
+pub record Changeable (M from to needed written : ℕ) : Type 0 where
+  pub few : M ≤ 5
+  pub read : needed ≤ from
+  pub room : written ≤ to
+
+pub changeable : (M from to needed written : ℕ) → 0 ≡ change_number M from to needed written → Changeable M from to needed written
+unfolding change_number
+changeable M from to needed written z =
+    let clear = passed (blocks_rule M ∷ bytes_rule needed from ∷ bytes_rule written to ∷ []) z refl tt in
+    record {
+      few = (in_range M (clear (blocks_rule M) (search listed))).1;
+      read = ltb-false from needed (clear (bytes_rule needed from) (search listed));
+      room = ltb-false to written (clear (bytes_rule written to) (search listed));
+    }
 
 -- ---- what is written
 

@@ -5,11 +5,13 @@ mod opening;
 mod small;
 
 ghost use Rattle.std.specs.Prelude.{◌≡◌, ◌*◌, ◌/◌, ◌≤◌, min, length};
+ghost use Rattle.refusals.specs.Refusals.{number_in};
 ghost use Rattle.packing.specs.Packing.{in_two_bits, four_in, four_apart, packed_over, unpacked_over};
 ghost use Rattle.packing.specs.Store.{bytes_a_block, places_asked};
-ghost use Rattle.packing.specs.Change.{bad_blocks, pack_number, pack_output, unpack_number, unpack_output};
+ghost use Rattle.packing.specs.Change.{bad_blocks, change_number, pack_number, pack_output, unpack_number, unpack_output};
 
 pub use opening::{open_down_packed, open_packed};
+use refusals::{Refusal, applied};
 use slot_calls::states::PER_BLOCK;
 
 // The bytes that a packed room has for one code block.
@@ -27,7 +29,7 @@ pub fn places_asked(four: bool, bytes: usize) -> usize
     ensures { result ≡ places_asked four bytes }
 {
     if four {
-        4 * fewer(bytes, 40 * PACKED_PER_BLOCK)
+        4 * bytes.min(40 * PACKED_PER_BLOCK)
     } else {
         bytes
     }
@@ -47,18 +49,11 @@ fn four_in(a: u8, b: u8, c: u8, d: u8) -> u8
     in_two_bits(a) * 64 + in_two_bits(b) * 16 + in_two_bits(c) * 4 + in_two_bits(d)
 }
 
-// The smaller of two numbers.
-fn fewer(a: usize, b: usize) -> usize
-    ensures { result ≡ min a b }
-{
-    if a < b { a } else { b }
-}
-
 // Packs places over the front of `to`, as many bytes as there are of both.
 pub fn pack_places(from: &[u8], to: &mut [u8])
     ensures { to.new ≡ packed_over (min (length from.now / 4) (length to.old)) from.now to.old }
 {
-    let n = fewer(from.len() / 4, to.len());
+    let n = (from.len() / 4).min(to.len());
     if small::all_small(from) {
         small::pack_small(n, from, to);
         return;
@@ -71,12 +66,9 @@ fn pack_any(n: usize, from: &[u8], to: &mut [u8])
     requires { (4 * n ≤ length from.now) × (n ≤ length to.old) }
     ensures { to.new ≡ packed_over n from.now to.old }
 {
-    let mut j = 0;
-    let mut i = 0;
-    while i < n {
+    for i in 0..n {
+        let j = 4 * i;
         to[i] = four_in(from[j], from[j + 1], from[j + 2], from[j + 3]);
-        j += 4;
-        i += 1;
     }
 }
 
@@ -92,17 +84,14 @@ fn apart(b: u8) -> u64
 pub fn unpack_places(from: &[u8], to: &mut [u8])
     ensures { to.new ≡ unpacked_over (min (length from.now) (length to.old / 4)) from.now to.old }
 {
-    let n = fewer(from.len(), to.len() / 4);
-    let mut j = 0;
-    let mut i = 0;
-    while i < n {
+    let n = from.len().min(to.len() / 4);
+    for i in 0..n {
         let w = apart(from[i]);
+        let j = 4 * i;
         to[j] = (w % 256) as u8;
         to[j + 1] = (w / 256 % 256) as u8;
         to[j + 2] = (w / 65536 % 256) as u8;
         to[j + 3] = (w / 16777216 % 256) as u8;
-        j += 4;
-        i += 1;
     }
 }
 
@@ -113,42 +102,42 @@ fn bad_blocks(m: usize) -> bool
     m == 0 || m > 5
 }
 
-// Packs one room of M code blocks: 0, or the number of the refusal, which writes nothing.
-pub fn pack_room(m: usize, from: &[u8], to: &mut [u8]) -> u8
-    ensures number { result ≡ pack_number m (length from.now) (length to.old) }
-    ensures output { to.new ≡ pack_output m from.now to.old }
+// The refusals of a change of form: M, and buffers of `from` and `to` bytes, of which a code block needs so many each.
+fn change_admitted(
+    m: usize,
+    from: usize,
+    to: usize,
+    needed: usize,
+    written: usize,
+) -> Result<(), Refusal>
+    requires { (needed ≤ 18528) × (written ≤ 18528) }
+    ensures { number_in result ≡ change_number m from to (m * needed) (m * written) }
 {
-    if bad_blocks(m) {
-        return 13;
-    }
-    let long = m * PER_BLOCK;
-    let short = m * PACKED_PER_BLOCK;
-    if from.len() < long {
-        return 5;
-    }
-    if to.len() < short {
-        return 5;
-    }
-    pack_places(&from[..long], &mut to[..short]);
-    0
+    applied(bad_blocks(m), Refusal::BadState)?;
+    applied(from < m * needed, Refusal::TooShort)?;
+    applied(to < m * written, Refusal::TooShort)
 }
 
-// Unpacks one room of M code blocks: 0, or the number of the refusal, which writes nothing.
-pub fn unpack_room(m: usize, from: &[u8], to: &mut [u8]) -> u8
-    ensures number { result ≡ unpack_number m (length from.now) (length to.old) }
-    ensures output { to.new ≡ unpack_output m from.now to.old }
+// Packs one room of M code blocks. A refusal writes nothing.
+pub fn pack_room(m: usize, from: &[u8], to: &mut [u8]) -> Result<(), Refusal>
+    ensures number { number_in result ≡ pack_number m (length from.now) (length to.old) }
+    ensures output { to.new ≡ pack_output m from.now to.old }
 {
-    if bad_blocks(m) {
-        return 13;
-    }
+    change_admitted(m, from.len(), to.len(), PER_BLOCK, PACKED_PER_BLOCK)?;
     let long = m * PER_BLOCK;
     let short = m * PACKED_PER_BLOCK;
-    if from.len() < short {
-        return 5;
-    }
-    if to.len() < long {
-        return 5;
-    }
+    pack_places(&from[..long], &mut to[..short]);
+    Ok(())
+}
+
+// Unpacks one room of M code blocks. A refusal writes nothing.
+pub fn unpack_room(m: usize, from: &[u8], to: &mut [u8]) -> Result<(), Refusal>
+    ensures number { number_in result ≡ unpack_number m (length from.now) (length to.old) }
+    ensures output { to.new ≡ unpack_output m from.now to.old }
+{
+    change_admitted(m, from.len(), to.len(), PACKED_PER_BLOCK, PER_BLOCK)?;
+    let long = m * PER_BLOCK;
+    let short = m * PACKED_PER_BLOCK;
     unpack_places(&from[..short], &mut to[..long]);
-    0
+    Ok(())
 }

@@ -3,22 +3,13 @@ ghost use Rattle.std.specs.Prelude.{◌≡◌, true, ◌*◌, ◌≤◌, ◌<◌
 ghost use Rattle.laws.specs.Bits.{EachBelow};
 ghost use Rattle.packing.specs.Packing.{four_in, packed_over};
 
-// The larger of two places.
-fn larger(a: u8, b: u8) -> u8
-    ensures { (a ≤ result) × (b ≤ result) }
-{
-    if a < b { b } else { a }
-}
-
 // Whether two bits are enough for each place. The largest is looked for, so that the loop runs many places at a time.
 pub(crate) fn all_small(places: &[u8]) -> bool
     ensures { result ≡ true → EachBelow 4 places.now }
 {
     let mut most: u8 = 0;
-    let mut i = 0;
-    while i < places.len() {
-        most = larger(most, places[i]);
-        i += 1;
+    for place in places {
+        most = most.max(*place);
     }
     most <= 3
 }
@@ -37,11 +28,8 @@ pub(crate) fn pack_small(n: usize, from: &[u8], to: &mut [u8])
     requires { EachBelow 4 from.now × (4 * n ≤ length from.now) × (n ≤ length to.old) }
     ensures { to.new ≡ packed_over n from.now to.old }
 {
-    let mut j = 0;
-    let mut i = 0;
-    while i < n {
+    for i in 0..n {
+        let j = 4 * i;
         to[i] = small_four(from[j], from[j + 1], from[j + 2], from[j + 3]);
-        j += 4;
-        i += 1;
     }
 }

@@ -1,47 +1,52 @@
--- `pack_room` meets its contract: the refusals in their order, and the room packed over the front (`Rooms`).
+-- `pack_room` meets its contract: number 0 says that both rooms are there, and the room is packed over the front (`Rooms`).
 -- Assumes nothing.
-use mathlib.Core.Path.{◌≡◌, sym, ◌∙◌}
-use mathlib.Core.Bool.{false}
-use Prim.Native.Nat.{◌*◌, ◌≤◌}
+use mathlib.Core.Path.{◌≡◌, refl}
+use Prim.Native.Nat.{◌*◌}
 use native.Mathlib.Omega.{arith}
+use Rattle.std.proofs.lemmas.Result.{err_from_is_err_and}
+use lib.ListN.{length}
 use Rattle.laws.proofs.Parts.{front_count}
+use Rattle.refusals.proofs.Numbers.{refusal_ne0}
 use Rattle.slots.specs.State.{room_length}
-use Rattle.packing.specs.Change.{packed_length, bad_blocks, pack_number, pack_output}
-use Rattle.packing.proofs.Rooms.{in_range, refused_13, refused_5, refused_5_too, accepted, packed_room}
-use Rattle.packing.proofs.pack_room.Goals.{Else-bad_blocks}
+use Rattle.packing.specs.Change.{packed_length, pack_number, pack_output}
+use Rattle.packing.proofs.Rooms.{Changeable, changeable, packed_room}
+use Rattle.packing.proofs.pack_room.Goals.{In_ok-change_admitted}
 use Rattle.packing.proofs.pack_room.Goals as goal
 
-good : (c : Else-bad_blocks) → bad_blocks c.args.m ≡ false
-good c = sym c.bad_blocks.ensures ∙ c.if-bad_blocks.false
+there : (c : In_ok-change_admitted) → let e = c.args in Changeable e.m (length e.from.now) (length e.to.now) (e.m * 18528) (e.m * 4632)
+there c = changeable _ _ _ _ _ c.in_ok-change_admitted.ensures
 
-few : (c : Else-bad_blocks) → c.args.m ≤ 5
-few c = (in_range _ (good c)).1
+pub returns-in_err-change_admitted-clause-number : goal.returns-in_err-change_admitted-clause-number
+unfolding pack_number packed_length room_length
+returns-in_err-change_admitted-clause-number c =
+    let p = err_from_is_err_and c.from_residual.result c.from_residual.ensures.1 in rw (p.1, p.2) c.in_err-change_admitted.ensures
 
-pub returns-then-bad_blocks : goal.returns-then-bad_blocks
-unfolding pack_number pack_output
-returns-then-bad_blocks c = let told = refused_13 _ _ _ _ _ _ _ (sym c.bad_blocks.ensures ∙ c.if-bad_blocks.true) in record { number = told.0; output = told.1 }
+pub returns-in_err-change_admitted-clause-output : goal.returns-in_err-change_admitted-clause-output
+unfolding pack_number pack_output packed_length room_length
+returns-in_err-change_admitted-clause-output c = rw (← c.in_err-change_admitted.ensures, refusal_ne0 c.in_err-change_admitted.field-0.0)
 
 pub overflow_mul-long : goal.overflow_mul-long
-overflow_mul-long c = omega (arith, few (goal.at.overflow_mul-long c).Else-bad_blocks)
+overflow_mul-long c = omega (arith, (there (goal.at.overflow_mul-long c).In_ok-change_admitted).few)
 
 pub overflow_mul-short : goal.overflow_mul-short
-overflow_mul-short c = omega (arith, few (goal.at.overflow_mul-short c).Else-bad_blocks)
-
-pub returns-then-from-long : goal.returns-then-from-long
-unfolding pack_number pack_output packed_length room_length
-returns-then-from-long c = let told = refused_5 _ _ _ _ _ _ _ (good (goal.at.returns-then-from-long c).Else-bad_blocks) c.if-from-long.true in record { number = told.0; output = told.1 }
-
-pub returns-then-to-short : goal.returns-then-to-short
-unfolding pack_number pack_output packed_length room_length
-returns-then-to-short c = let told = refused_5_too _ _ _ _ _ _ _ (good (goal.at.returns-then-to-short c).Else-bad_blocks) c.if-from-long.false c.if-to-short.true in record { number = told.0; output = told.1 }
+overflow_mul-short c = omega (arith, (there (goal.at.overflow_mul-short c).In_ok-change_admitted).few)
 
 pub slice_bounds-pack_places-end : goal.slice_bounds-pack_places-end
-slice_bounds-pack_places-end c = front_count _ _ c.if-from-long.false
+slice_bounds-pack_places-end c = front_count _ _ (there (goal.at.slice_bounds-pack_places-end c).In_ok-change_admitted).read
+
+pub slice_bounds-pack_places-end-2 : goal.slice_bounds-pack_places-end-2
+slice_bounds-pack_places-end-2 c = (there (goal.at.slice_bounds-pack_places-end-2 c).In_ok-change_admitted).room
 
 pub slice_bounds-pack_places-end-3 : goal.slice_bounds-pack_places-end-3
-slice_bounds-pack_places-end-3 c = front_count _ _ c.if-to-short.false
+slice_bounds-pack_places-end-3 c = front_count _ _ (there (goal.at.slice_bounds-pack_places-end-3 c).In_ok-change_admitted).room
 
-pub returns : goal.returns
+pub returns-clause-number : goal.returns-clause-number
+unfolding pack_number packed_length room_length
+returns-clause-number c = c.in_ok-change_admitted.ensures
+
+pub returns-clause-output : goal.returns-clause-output
 unfolding pack_number pack_output packed_length room_length
-returns c = let told = accepted _ _ _ _ _ _ _ (good (goal.at.returns c).Else-bad_blocks) c.if-from-long.false c.if-to-short.false
-    (packed_room (c.args.m * 4632) (c.args.m * 18528) (omega arith) c.args.from.now c.args.to.now c.if-from-long.false c.if-to-short.false c.pack_places.ensures) in record { number = told.0; output = told.1 }
+returns-clause-output c =
+    let w = there (goal.at.returns-clause-output c).In_ok-change_admitted in
+    rw (← c.in_ok-change_admitted.ensures)
+    (packed_room (c.args.m * 4632) (c.args.m * 18528) (omega arith) c.args.from.now c.args.to.now w.read w.room c.pack_places.ensures)

@@ -5,7 +5,7 @@ use Rattle.packing.proofs.places_asked.Goals as goal
 
 pub returns-then-four : goal.returns-then-four
 unfolding places_asked
-returns-then-four c = rw (c.if-four.true, c.fewer.ensures)
+returns-then-four c = rw (c.if-four.true, c.min.ensures)
 
 pub returns-else-four : goal.returns-else-four
 unfolding places_asked

@@ -7,7 +7,7 @@ use Rattle.packing.proofs.Changing.{unpacking_start, unpacking_next, unpacking_f
 use Rattle.packing.proofs.unpack_places.Goals as goal
 
 pub loop-i-init : goal.loop-i-init
-loop-i-init c = unpacking_start _ _ _ (omega (arith, c.fewer-n.ensures)) (omega (arith, c.fewer-n.ensures))
+loop-i-init c = unpacking_start _ _ _ (omega (arith, c.min-n.ensures)) (omega (arith, c.min-n.ensures))
 
 pub bounds-to-j-in-loop-i : goal.bounds-to-j-in-loop-i
 bounds-to-j-in-loop-i c = simp length-set (omega arith)
@@ -32,4 +32,4 @@ pub shape_of-to : goal.shape_of-to
 shape_of-to c = c.loop-i.invariant.wrote.long
 
 pub returns : goal.returns
-returns c = rw (← c.fewer-n.ensures) (unpacking_finish c.loop-i.invariant (omega arith))
+returns c = rw (← c.min-n.ensures) (unpacking_finish c.loop-i.invariant (omega arith))

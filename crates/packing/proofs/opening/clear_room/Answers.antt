@@ -6,6 +6,7 @@ use Prim.Native.Nat.{ℕ, ◌+◌, ◌*◌, ◌≤◌}
 use native.Mathlib.Nat.{mul-le-mul}
 use native.Mathlib.Omega.{arith}
 use lib.ListN.{length}
+use Rattle.slots.specs.Outcome.{answer_of}
 use Rattle.slots.specs.Answers.{is_done}
 use Rattle.slots.specs.State.{room_length, room_start}
 use Rattle.packing.specs.Store.{places_a_byte}
@@ -15,7 +16,7 @@ use Rattle.packing.proofs.opening.clear_room.Goals.{Else-not-is_done}
 use Rattle.packing.proofs.opening.clear_room.Goals as goal
 
 -- past the test the answer is done
-done : (c : Else-not-is_done) → is_done c.args.answer ≡ true
+done : (c : Else-not-is_done) → is_done (answer_of c.args.answer) ≡ true
 done c = sym c.is_done.ensures ∙ c.if-not-is_done.false
 
 -- no room starts past 8 of 5 code blocks
@@ -50,4 +51,4 @@ pub returns : goal.returns
 returns c =
     let entry = c.args in
     rw (done (goal.at.returns c).Else-not-is_done)
-    (room_cleared_packed entry.m entry.slot entry.store.now c.fill.new.room (ends (goal.at.returns c).Else-not-is_done) c.fill.ensures (λ i. omega (arith, c.type_inv.store i)))
+    (room_cleared_packed entry.m entry.slot entry.store.now c.fill.new.self (ends (goal.at.returns c).Else-not-is_done) (c.fill.ensures.after (λ y h. h)) (λ i. omega (arith, c.type_inv.store i)))

@@ -6,7 +6,7 @@ use Prim.Native.Nat.{ℕ}
 use borrow.Author.Tests.{eqb-true}
 use lib.Dec.{eqb}
 use lib.ListN.{length}
-use Rattle.slots.specs.Outcome.{Outcome}
+use Rattle.slots.specs.Outcome.{Outcome, answer_of, told}
 use Rattle.slots.specs.Answers.{is_done}
 use Rattle.slots.specs.Calls.{open_down_number, open_down_outcome, open_down_store}
 use Rattle.slots.proofs.Done.{down_told, down_stored, room_there}
@@ -17,22 +17,22 @@ use Rattle.packing.proofs.opening.open_down_packed.Goals as goal
 
 -- the outcome is that of the places that the store keeps
 outcome_is : (c : After-open_down_outcome-after) → let entry = c.args in
-    c.open_down_outcome-after.result ≡ open_down_outcome entry.state (length (places_in true entry.store.now)) entry.slot entry.terminal entry.size entry.release entry.mimo entry.processes entry.soft entry.layers
+    told c.open_down_outcome-after.result ≡ open_down_outcome entry.state (length (places_in true entry.store.now)) entry.slot entry.terminal entry.size entry.receiver.release entry.receiver.mimo entry.receiver.processes entry.receiver.soft entry.receiver.layers
 outcome_is c =
     let entry = c.args in
     c.open_down_outcome-after.ensures
-    ∙ ap (λ (n : ℕ). open_down_outcome entry.state n entry.slot entry.terminal entry.size entry.release entry.mimo entry.processes entry.soft entry.layers) c.places_asked-lent.ensures
-    ∙ asked_down entry.state entry.store.now entry.slot entry.terminal entry.size entry.release entry.mimo entry.processes entry.soft entry.layers
+    ∙ ap (λ (n : ℕ). open_down_outcome entry.state n entry.slot entry.terminal entry.size entry.receiver.release entry.receiver.mimo entry.receiver.processes entry.receiver.soft entry.receiver.layers) c.places_asked-lent.ensures
+    ∙ asked_down entry.state entry.store.now entry.slot entry.terminal entry.size entry.receiver.release entry.receiver.mimo entry.receiver.processes entry.receiver.soft entry.receiver.layers
 
 -- its answer is done where the number is 0
-told : (c : After-open_down_outcome-after) → let entry = c.args in
-    is_done c.open_down_outcome-after.result.answer ≡ eqb (open_down_number entry.state (length (places_in true entry.store.now)) entry.slot entry.size entry.release entry.mimo entry.processes entry.soft entry.layers) 0
-told c = ap (λ (o : Outcome). is_done o.answer) (outcome_is c) ∙ down_told _ _ _ _ _ _ _ _ _ _
+is_told : (c : After-open_down_outcome-after) → let entry = c.args in
+    is_done (answer_of c.open_down_outcome-after.result.answer) ≡ eqb (open_down_number entry.state (length (places_in true entry.store.now)) entry.slot entry.size entry.receiver.release entry.receiver.mimo entry.receiver.processes entry.receiver.soft entry.receiver.layers) 0
+is_told c = ap (λ (o : Outcome). is_done o.answer) (outcome_is c) ∙ down_told _ _ _ _ _ _ _ _ _ _
 
 pub clear_room-requires : goal.clear_room-requires
-clear_room-requires c = λ done. room_there (down_stored _ _ _ 0 _ _ _ _ _ _ (eqb-true _ 0 (sym (told (goal.at.clear_room-requires c).After-open_down_outcome-after) ∙ done)))
+clear_room-requires c = λ done. room_there (down_stored _ _ _ 0 _ _ _ _ _ _ (eqb-true _ 0 (sym (is_told (goal.at.clear_room-requires c).After-open_down_outcome-after) ∙ done)))
 
 pub returns : goal.returns
 unfolding open_down_store
 returns c =
-    record { value = outcome_is (goal.at.returns c).After-open_down_outcome-after; store_after = rw (told (goal.at.returns c).After-open_down_outcome-after) at c.clear_room.ensures }
+    record { value = outcome_is (goal.at.returns c).After-open_down_outcome-after; store_after = rw (is_told (goal.at.returns c).After-open_down_outcome-after) at c.clear_room.ensures }

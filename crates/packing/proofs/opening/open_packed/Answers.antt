@@ -6,7 +6,7 @@ use Prim.Native.Nat.{ℕ}
 use borrow.Author.Tests.{eqb-true}
 use lib.Dec.{eqb}
 use lib.ListN.{length}
-use Rattle.slots.specs.Outcome.{Outcome}
+use Rattle.slots.specs.Outcome.{Outcome, answer_of, told}
 use Rattle.slots.specs.Answers.{is_done}
 use Rattle.slots.specs.Calls.{open_number, open_outcome, open_store}
 use Rattle.slots.proofs.Done.{open_told, open_stored, room_there}
@@ -17,7 +17,7 @@ use Rattle.packing.proofs.opening.open_packed.Goals as goal
 
 -- the outcome is that of the places that the store keeps
 outcome_is : (c : After-open_outcome-after) → let entry = c.args in
-    c.open_outcome-after.result ≡ open_outcome entry.state (length (places_in true entry.store.now)) entry.slot entry.terminal entry.size
+    told c.open_outcome-after.result ≡ open_outcome entry.state (length (places_in true entry.store.now)) entry.slot entry.terminal entry.size
 outcome_is c =
     let entry = c.args in
     c.open_outcome-after.ensures
@@ -25,14 +25,14 @@ outcome_is c =
     ∙ asked_open entry.state entry.store.now entry.slot entry.terminal entry.size
 
 -- its answer is done where the number is 0
-told : (c : After-open_outcome-after) → let entry = c.args in
-    is_done c.open_outcome-after.result.answer ≡ eqb (open_number entry.state (length (places_in true entry.store.now)) entry.slot entry.size) 0
-told c = ap (λ (o : Outcome). is_done o.answer) (outcome_is c) ∙ open_told _ _ _ _ _
+is_told : (c : After-open_outcome-after) → let entry = c.args in
+    is_done (answer_of c.open_outcome-after.result.answer) ≡ eqb (open_number entry.state (length (places_in true entry.store.now)) entry.slot entry.size) 0
+is_told c = ap (λ (o : Outcome). is_done o.answer) (outcome_is c) ∙ open_told _ _ _ _ _
 
 pub clear_room-requires : goal.clear_room-requires
-clear_room-requires c = λ done. room_there (open_stored _ _ _ 0 _ (eqb-true _ 0 (sym (told (goal.at.clear_room-requires c).After-open_outcome-after) ∙ done)))
+clear_room-requires c = λ done. room_there (open_stored _ _ _ 0 _ (eqb-true _ 0 (sym (is_told (goal.at.clear_room-requires c).After-open_outcome-after) ∙ done)))
 
 pub returns : goal.returns
 unfolding open_store
 returns c =
-    record { value = outcome_is (goal.at.returns c).After-open_outcome-after; store_after = rw (told (goal.at.returns c).After-open_outcome-after) at c.clear_room.ensures }
+    record { value = outcome_is (goal.at.returns c).After-open_outcome-after; store_after = rw (is_told (goal.at.returns c).After-open_outcome-after) at c.clear_room.ensures }
