@@ -4,7 +4,7 @@
 mod opening;
 mod small;
 
-ghost use Rattle.std.specs.Prelude.{◌≡◌, ◌*◌, ◌/◌, ◌≤◌, min, length};
+ghost use Rattle.std.specs.Prelude.{◌≡◌, ℕ, ◌+◌, ◌*◌, ◌/◌, ◌≤◌, ◌<◌, min, length, get_or};
 ghost use Rattle.refusals.specs.Refusals.{number_in};
 ghost use Rattle.packing.specs.Packing.{in_two_bits, four_in, four_apart, packed_over, unpacked_over};
 ghost use Rattle.packing.specs.Store.{bytes_a_block, places_asked};
@@ -55,20 +55,23 @@ pub fn pack_places(from: &[u8], to: &mut [u8])
 {
     let n = (from.len() / 4).min(to.len());
     if small::all_small(from) {
-        small::pack_small(n, from, to);
+        pack_by(small::small_four, n, from, to);
         return;
     }
-    pack_any(n, from, to);
+    pack_by(four_in, n, from, to);
 }
 
-// The same for any places, over the first n bytes.
-fn pack_any(n: usize, from: &[u8], to: &mut [u8])
-    requires { (4 * n ≤ length from.now) × (n ≤ length to.old) }
+// Packs the first places over the first n bytes of `to`, each four by `byte`.
+fn pack_by<F: Fn(u8, u8, u8, u8) -> u8>(byte: F, n: usize, from: &[u8], to: &mut [u8])
+    requires counts { (4 * n ≤ length from.now) × (n ≤ length to.old) }
+    requires may { (i : ℕ) → F.pre byte (get_or from.now (4 * i) 0) (get_or from.now (4 * i + 1) 0) (get_or from.now (4 * i + 2) 0) (get_or from.now (4 * i + 3) 0) }
+    requires gives { (i x : ℕ) → i < n → x < 256 → F.post byte (get_or from.now (4 * i) 0) (get_or from.now (4 * i + 1) 0) (get_or from.now (4 * i + 2) 0) (get_or from.now (4 * i + 3) 0) x
+        → x ≡ four_in (get_or from.now (4 * i) 0) (get_or from.now (4 * i + 1) 0) (get_or from.now (4 * i + 2) 0) (get_or from.now (4 * i + 3) 0) }
     ensures { to.new ≡ packed_over n from.now to.old }
 {
     for i in 0..n {
         let j = 4 * i;
-        to[i] = four_in(from[j], from[j + 1], from[j + 2], from[j + 3]);
+        to[i] = byte(from[j], from[j + 1], from[j + 2], from[j + 3]);
     }
 }
 

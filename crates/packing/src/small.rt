@@ -15,21 +15,10 @@ pub(crate) fn all_small(places: &[u8]) -> bool
 }
 
 // The byte of four such places. The factor brings them side by side: ten bits less apart than they stand in the word.
-fn small_four(a: u8, b: u8, c: u8, d: u8) -> u8
+pub(crate) fn small_four(a: u8, b: u8, c: u8, d: u8) -> u8
     requires { (a < 4) × (b < 4) × (c < 4) × (d < 4) }
     ensures { result ≡ four_in a b c d }
 {
     let word = (a as u64) + (b as u64) * 256 + (c as u64) * 65536 + (d as u64) * 16777216;
     (word * 0x4010_0401 / 16777216 % 256) as u8
-}
-
-// Packs the first places over the first n bytes of `to`.
-pub(crate) fn pack_small(n: usize, from: &[u8], to: &mut [u8])
-    requires { EachBelow 4 from.now × (4 * n ≤ length from.now) × (n ≤ length to.old) }
-    ensures { to.new ≡ packed_over n from.now to.old }
-{
-    for i in 0..n {
-        let j = 4 * i;
-        to[i] = small_four(from[j], from[j + 1], from[j + 2], from[j + 3]);
-    }
 }
