@@ -4,18 +4,19 @@ use mathlib.Core.Path.{◌≡◌, refl, sym, ◌∙◌, ap}
 use mathlib.Core.Bool.{true, false}
 use mathlib.Core.List.{List, [], ◌∷◌, ◌++◌}
 use Prim.Native.Nat.{ℕ, ◌+◌, ◌-◌, ◌*◌, ◌≤◌}
-use lib.Dec.{ltb}
+use lib.Dec.{eqb, ltb}
 use lib.ListN.{length}
-use borrow.Author.Tests.{ne_eqb, ltb-false}
+use borrow.Author.Tests.{ltb-false}
 use borrow.Rule.Slice.PartMut.{mid_of}
-use Rattle.refusals.specs.Refusals.{Rule, rule, first_of, or_else}
-use Rattle.refusals.proofs.Refusals.{done, next, chained_on, passed, listed}
+use Rattle.std.specs.declared.result.Result.TheVariants.{Ok, Err}
+use Rattle.refusals.specs.declared.Refusal.{Refusal}
+use Rattle.refusals.specs.Refusals.{Rule, rule, number_of}
+use Rattle.refusals.proofs.Refusals.{passed, listed}
 use Rattle.segmentation.specs.Sizes.{bad_size}
 use Rattle.segmentation.proofs.Segmentation.{good_size}
 use Rattle.slots.specs.declared.Head.{Head}
 use Rattle.slots.specs.declared.State.{State}
-use Rattle.slots.specs.Outcome.{Answer}
-use Rattle.slots.specs.Outcome.{Refused}
+use Rattle.slots.specs.Outcome.{Answer, Refused, Outcome}
 use Rattle.slots.specs.State.{per_block, room_length, room_start, head_at}
 use Rattle.slots.specs.Room.{room_at}
 use Rattle.slots.specs.Answers.{is_done, unless_refused}
@@ -23,20 +24,35 @@ use Rattle.codeword.specs.Build.{output_rule}
 use Rattle.slots.specs.Calls.{store_rules, owner_rules, size_at_head, read_number, read_outcome, released, read_output}
 use Rattle.slots.specs.Reading.{heard_answer, heard_block}
 use Rattle.slots.proofs.Accepted.{Fitting, Stored, stored, owned}
+use Rattle.slot_calls.specs.Owner.{owner_of}
+use Rattle.slot_calls.proofs.OwnerParts.{owned_number, owner_refused}
+use Rattle.slot_calls.proofs.Rules.{Settled, failed_all, passed_all}
 use Rattle.reading.specs.inner.Room.{room_fits, room_output}
 use Rattle.reading.proofs.Lent.{answer_lent, block_lent, room_fits_lem}
 
 pub fitting_good : {M A : ℕ} → Fitting M A → bad_size A ≡ false
 fitting_good {M} {A} w = good_size A w.size_some w.size_most
 
+-- ---- the owner's rules, and those that are asked after them
+
+module _ (state : State) (room slot terminal : ℕ) where
+  pub refused_first : (r : Refusal) (ss : List Rule) → Err r ≡ owner_of state room slot terminal
+      → Settled (number_of r) ((store_rules state room slot ++ owner_rules state slot terminal) ++ ss)
+  unfolding store_rules owner_rules
+  refused_first r ss e = failed_all (store_rules state room slot ++ owner_rules state slot terminal) r ss tt (owner_refused state room slot terminal e)
+
+  pub passed_first : {head : Head} {m : ℕ} {ss : List Rule} → Ok head ≡ owner_of state room slot terminal → Settled m ss
+      → Settled m ((store_rules state room slot ++ owner_rules state slot terminal) ++ ss)
+  unfolding store_rules owner_rules
+  passed_first e w = passed_all (store_rules state room slot ++ owner_rules state slot terminal) tt (owned_number state room slot terminal e) w
+
 -- ---- Read
 
--- the chain over the store's and the owner's rules goes on over 5 (output)
-pub read_chained : (state : State) (room slot terminal size : ℕ) {head : Head} {owner n : ℕ} → head ≡ head_at state slot
-    → owner ≡ first_of (store_rules state room slot ++ owner_rules state slot terminal) → n ≡ or_else owner (ltb size head.size) 5 → n ≡ read_number state room slot terminal size
+-- over the store's and the owner's rules, then over 5 (output)
+pub read_told : (state : State) (room slot terminal size : ℕ) {head : Head} {n : ℕ} → head ≡ head_at state slot
+    → Settled n ((store_rules state room slot ++ owner_rules state slot terminal) ++ (rule (ltb size head.size) 5 ∷ [])) → n ≡ read_number state room slot terminal size
 unfolding read_number store_rules owner_rules size_at_head
-read_chained state room slot terminal size h o e =
-    chained_on (store_rules state room slot ++ owner_rules state slot terminal) o (next (rw h at e) done) tt tt
+read_told state room slot terminal size h w = rw h at w.is
 
 -- the call was not refused before the room, and its head was found
 pub record Reading (state : State) (store : List ℕ) (slot terminal : ℕ) (out : List ℕ) (n : ℕ) (head : Head) : Type 0 where
@@ -46,10 +62,10 @@ pub record Reading (state : State) (store : List ℕ) (slot terminal : ℕ) (out
 
 -- a refused one
 pub read_refused : (state : State) (store : List ℕ) (slot terminal : ℕ) (out : List ℕ) {n : ℕ}
-    → n ≡ read_number state (length store) slot terminal (length out) → (n ≡ 0 → ⊥)
-    → (record { answer = Refused n; state = state } ≡ read_outcome state store slot terminal (length out)) × (out ≡ read_output state store slot terminal out)
+    → n ≡ read_number state (length store) slot terminal (length out) → eqb n 0 ≡ false
+    → (Refused n ≡ (read_outcome state store slot terminal (length out)).answer) × (out ≡ read_output state store slot terminal out)
 unfolding read_outcome unless_refused read_output released is_done
-read_refused state store slot terminal out e h = (rw (← e, ne_eqb _ 0 h), rw (← e, ne_eqb _ 0 h))
+read_refused state store slot terminal out e h = (rw (← e, h), rw (← e, h))
 
 -- one that comes to the room: what `read_room` gives for it is what the call gives
 module _ {state : State} {store : List ℕ} {slot terminal : ℕ} {out : List ℕ} {n : ℕ} {head : Head} (w : Reading state store slot terminal out n head) where
@@ -105,8 +121,8 @@ module _ {state : State} {store : List ℕ} {slot terminal : ℕ} {out : List �
   unfolding read_outcome unless_refused
   outcome = rw (← w.number, w.zero)
 
-  pub answer_told : {answer : Answer} → answer ≡ heard_answer head.size room → record { answer = answer; state = state } ≡ read_outcome state store slot terminal (length out)
-  answer_told a = ap (λ (x : Answer). record { answer = x; state = state }) (a ∙ rw (size_is, answers)) ∙ sym outcome
+  pub answer_told : {answer : Answer} → answer ≡ heard_answer head.size room → answer ≡ (read_outcome state store slot terminal (length out)).answer
+  answer_told a = a ∙ (rw (size_is, answers)) ∙ ap (λ (o : Outcome). o.answer) (sym outcome)
 
   pub output_told : {out' : List ℕ} → out' ≡ room_output head.size room out → out' ≡ read_output state store slot terminal out
   unfolding read_output released room_output

@@ -25,7 +25,7 @@ use Rattle.rate_matching.specs.Circle.{circle_length}
 use Rattle.slots.proofs.RoomLaws.{circle_entry}
 use Rattle.kept_bits.specs.Circle.{reach_of}
 use Rattle.kept_bits.specs.inner.Rows.{Streams, Stretch}
-use Rattle.reading.specs.inner.Form.{Circles}
+use Rattle.reading.specs.inner.Form.{HasCircle}
 use Rattle.kept_bits.proofs.Rows.{reach_most, reach_last}
 use Rattle.reading.proofs.Lent.{Alike, circle_alike}
 
@@ -73,7 +73,7 @@ plain_long f = rw f
 
 -- ---- a code block's part is lent
 
-module _ {four : Bool} {needed r : ℕ} {room circle : List ℕ} (w : Circles four needed r room circle) {long : ℕ} (e : long ≡ bytes_a_block four) where
+module _ {four : Bool} {r : ℕ} {room : List ℕ} (w : HasCircle four r room) {long : ℕ} (e : long ≡ bytes_a_block four) where
   pub part_within : r * long + long ≤ length room
   part_within = rw e (bytes_there four r room w.enough)
 
@@ -90,8 +90,7 @@ pub plain_alike : {four : Bool} {long : ℕ} (r : ℕ) (room : List ℕ) → lon
 plain_alike r room e f = rw (plain_is f room, e ∙ plain_long f) (circle_alike r room refl)
 
 -- where it is packed, n of its bytes are unpacked over the front of the buffer, which then has the first 4·n places of the circle
-module _ {four : Bool} {needed r n : ℕ} {room circle : List ℕ} (w : Circles four needed r room circle) (f : four ≡ true) {long : ℕ} (e : long ≡ bytes_a_block four)
-    (few : n ≤ 4632) (fits : 4 * n ≤ length circle) where
+module _ {four : Bool} {r n : ℕ} {room : List ℕ} (w : HasCircle four r room) (f : four ≡ true) {long : ℕ} (e : long ≡ bytes_a_block four) (few : n ≤ 4632) where
   abbrev front : List ℕ
   front = mid_of (r * long) (r * long + n - r * long) room
 
@@ -117,10 +116,10 @@ module _ {four : Bool} {needed r n : ℕ} {room circle : List ℕ} (w : Circles 
       counts : places_a_byte true * (r * long + n) - places_a_byte true * (r * long) ≡ 4 * n
       counts = rw four_a_byte (omega arith)
 
-  pub front_alike : {circle' : List ℕ} → circle' ≡ unpacked_over (min (length front) (length circle / 4)) front circle
+  pub front_alike : (circle : List ℕ) → 4 * n ≤ length circle → {circle' : List ℕ} → circle' ≡ unpacked_over (min (length front) (length circle / 4)) front circle
       → Alike (4 * n) circle' (circle_at r (places_in four room))
   unfolding unpacked_over
-  front_alike o = record {
+  front_alike circle fits o = record {
     same = λ p h.
         ap (λ (l : List ℕ). get_or l p 0) (o ∙ ap (λ (m : ℕ). unpacked m front ++ drop (4 * m) circle) all)
         ∙ get_or-append (unpacked n front) (drop (4 * n) circle) 0 p (omega (arith, length_unpacked n front))

@@ -311,6 +311,9 @@ module _ {A : ℕ} {room b₀ b : List ℕ} {n right at r : ℕ} {s : Segments} 
               (pushed A here.below w (rw (size ∙ here.size, zeros ∙ here.filled) at e) (rw (size ∙ here.size, zeros ∙ here.filled) at c)
               (rw (size ∙ here.size, zeros ∙ here.filled, check_told) at told-right))
 
+  pub hearing_blocks : s ≡ segments_for A → Hearing A room b₀ b n right at r → s.blocks ≡ blocks (A + 24)
+  hearing_blocks told w = blocks_told A told w.room_fits_lem.admitted
+
   pub hearing_finish : s ≡ segments_for A → s.blocks ≤ r → Hearing A room b₀ b n right at r
       → (n ≡ lacking A room) × (n ≡ 0 → right ≡ first_wrong A room) × (take (A + 24) b ≡ heard_sequence A room)
   unfolding lacking first_wrong

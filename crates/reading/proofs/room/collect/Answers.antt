@@ -1,8 +1,8 @@
 use native.Mathlib.Omega.{arith}
 use Rattle.packing.specs.Store.{places_in}
-use mathlib.Core.Path.{refl, ◌∙◌}
 use Rattle.reading.proofs.Blocks.{blocks_few}
-use Rattle.reading.proofs.Sequence.{fit, hearing_start, Turn, turn, part_back, sum_fits, hearing_next, hearing_finish}
+use Rattle.reading.proofs.Sequence.{fit, hearing_start, Turn, turn, part_back, sum_fits, hearing_next, hearing_blocks, hearing_finish}
+use Rattle.reading.proofs.Release.{some_lacking, one_wrong, none_wrong}
 use Rattle.reading.proofs.room.collect.Goals.{After-filler_of-f}
 use Rattle.reading.proofs.room.collect.Goals as goal
 
@@ -11,10 +11,10 @@ parts : (c : After-filler_of-f) → Turn (places_in c.args.four c.args.room.now)
     c.check_length-check.result c.filler_of-f.result
 parts c =
     turn c.segments_for-s.ensures c.check_length-check.ensures c.loop-r-test.true c.size_of-k.ensures
-    c.filler_of-f.ensures c.loop-r.invariant.0
+    c.filler_of-f.ensures c.loop-r.invariant
 
 pub loop-r-init : goal.loop-r-init
-loop-r-init c = (hearing_start _ _ _ (fit _ _ c.requires.0) c.requires.1, c.requires.2, refl)
+loop-r-init c = hearing_start _ _ _ (fit _ _ c.requires.0) c.requires.1
 
 pub overflow_sub-end : goal.overflow_sub-end
 overflow_sub-end c = (parts (goal.at.overflow_sub-end c).After-filler_of-f).filled
@@ -26,13 +26,7 @@ pub slice_bounds-read_data-end : goal.slice_bounds-read_data-end
 slice_bounds-read_data-end c = (parts (goal.at.slice_bounds-read_data-end c).After-filler_of-f).ends
 
 pub read_data-requires : goal.read_data-requires
-read_data-requires c = (
-  record {
-    enough = (parts (goal.at.read_data-requires c).After-filler_of-f).circle;
-    unpacks = c.loop-r.invariant.1;
-  },
-  (parts (goal.at.read_data-requires c).After-filler_of-f).stretch,
-)
+read_data-requires c = (record { enough = (parts (goal.at.read_data-requires c).After-filler_of-f).circle }, (parts (goal.at.read_data-requires c).After-filler_of-f).stretch)
 
 pub slice_bounds-count_missing-end : goal.slice_bounds-count_missing-end
 slice_bounds-count_missing-end c =
@@ -43,7 +37,7 @@ overflow_add-lacking c =
     record {
       fits =
           sum_fits c.segments_for-s.ensures c.check_length-check.ensures c.loop-r-test.true c.size_of-k.ensures
-          c.filler_of-f.ensures c.loop-r.invariant.0 c.read_data.ensures c.count_missing-lacking.ensures;
+          c.filler_of-f.ensures c.loop-r.invariant c.read_data.ensures c.count_missing-lacking.ensures;
     }
 
 pub slice_bounds-right_after-end : goal.slice_bounds-right_after-end
@@ -59,19 +53,24 @@ overflow_sub-at c = (parts (goal.at.overflow_sub-at c).After-filler_of-f).checke
 
 pub loop-r-preserved : goal.loop-r-preserved
 loop-r-preserved c =
-    let heard = hearing_next c.segments_for-s.ensures c.check_length-check.ensures c.loop-r-test.true c.size_of-k.ensures
-    c.filler_of-f.ensures c.loop-r.invariant.0 c.read_data.ensures c.count_missing-lacking.ensures
-    c.right_after-right.ensures in
-    let kept = c.read_data.auto.circle in
-    (heard, λ f. omega (arith, kept, c.loop-r.invariant.1 f), kept ∙ c.loop-r.invariant.2)
-
-pub shape_of-circle : goal.shape_of-circle
-shape_of-circle c = c.loop-r.invariant.2
+    hearing_next c.segments_for-s.ensures c.check_length-check.ensures c.loop-r-test.true c.size_of-k.ensures
+    c.filler_of-f.ensures c.loop-r.invariant c.read_data.ensures c.count_missing-lacking.ensures
+    c.right_after-right.ensures
 
 pub shape_of-b : goal.shape_of-b
-shape_of-b c = c.loop-r.invariant.0.long
+shape_of-b c = c.loop-r.invariant.long
+
+pub returns-then-lacking-ne0 : goal.returns-then-lacking-ne0
+returns-then-lacking-ne0 c =
+    let all = hearing_finish c.segments_for-s.ensures c.loop-r-test.false c.loop-r.invariant in
+    record { heard = some_lacking _ _ all.0 c.if-lacking-ne0.true; sequence = all.2 }
+
+pub returns-then-right-s : goal.returns-then-right-s
+returns-then-right-s c =
+    let all = hearing_finish c.segments_for-s.ensures c.loop-r-test.false c.loop-r.invariant in
+    record { heard = one_wrong _ _ all.0 c.if-lacking-ne0.false all.1 (hearing_blocks c.segments_for-s.ensures c.loop-r.invariant) c.if-right-s.true; sequence = all.2 }
 
 pub returns : goal.returns
 returns c =
-    let all = hearing_finish c.segments_for-s.ensures c.loop-r-test.false c.loop-r.invariant.0 in
-    record { count = all.0; right = all.1; sequence = all.2 }
+    let all = hearing_finish c.segments_for-s.ensures c.loop-r-test.false c.loop-r.invariant in
+    record { heard = none_wrong _ _ all.0 c.if-lacking-ne0.false all.1 (hearing_blocks c.segments_for-s.ensures c.loop-r.invariant) c.if-right-s.false; sequence = all.2 }

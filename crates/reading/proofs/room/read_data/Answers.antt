@@ -1,10 +1,10 @@
 -- `room::read_data` meets its contract: the circle is lent from the room, or the places of stream 0 are unpacked first (`Form`).
 -- Assumes nothing.
 use mathlib.Core.Path.{◌∙◌}
-use Prim.Native.Nat.{◌+◌, ◌-◌, ◌*◌, ◌/◌, ◌≤◌}
+use Prim.Native.Nat.{ℕ, ◌+◌, ◌-◌, ◌*◌, ◌/◌, ◌≤◌}
 use native.Mathlib.Omega.{arith}
 use borrow.Rule.Slice.PartMut.{mid_of}
-use lib.ListN.{length}
+use lib.ListN.{length, replicate, length-replicate}
 use Rattle.slots.specs.Circle.{heard_on}
 use Rattle.kept_bits.proofs.Rows.{reach_most, stream_read}
 use Rattle.reading.proofs.Lent.{heard_alike}
@@ -21,12 +21,9 @@ within c = part_within c.requires.0 c.bytes_a_block-long.ensures
 few : (c : Then-four) → 8 * ((c.args.k + 35) / 32) ≤ 1544
 few c = data_few c.args.k c.requires.1.sized
 
-ample : (c : Then-four) → 4 * (8 * ((c.args.k + 35) / 32)) ≤ length c.args.circle.now
-ample c = omega (arith, few c, c.requires.0.unpacks c.if-four.true)
-
 there : (c : Then-four) → let e = c.args in
     e.r * c.bytes_a_block-long.result + 8 * ((e.k + 35) / 32) ≤ length e.room.now
-there c = front_within c.requires.0 c.if-four.true c.bytes_a_block-long.ensures (omega (arith, few c)) (ample c)
+there c = front_within c.requires.0 c.if-four.true c.bytes_a_block-long.ensures (omega (arith, few c))
 
 pub overflow_mul-from : goal.overflow_mul-from
 overflow_mul-from c = omega (arith, within (goal.at.overflow_mul-from c).After-bytes_a_block-long)
@@ -40,15 +37,15 @@ slice_bounds-unpack_places-end c = there (goal.at.slice_bounds-unpack_places-end
 pub overflow_add-to-else-four : goal.overflow_add-to-else-four
 overflow_add-to-else-four c = omega (arith, within (goal.at.overflow_add-to-else-four c).After-bytes_a_block-long)
 
-pub slice_bounds-read_stream-end : goal.slice_bounds-read_stream-end
-slice_bounds-read_stream-end c = within (goal.at.slice_bounds-read_stream-end c).After-bytes_a_block-long
+pub slice_bounds-read_stream-end-else-four : goal.slice_bounds-read_stream-end-else-four
+slice_bounds-read_stream-end-else-four c = within (goal.at.slice_bounds-read_stream-end-else-four c).After-bytes_a_block-long
 
 pub returns-then-four : goal.returns-then-four
 unfolding heard_on
 returns-then-four c =
-    stream_read c.unpack_places.new.to c.args.out.now (c.args.k + 4) 0 c.args.f c.read_stream.ensures (stretch_in c.requires.1 (omega (arith, data_reach c.args.k, ample (goal.at.returns-then-four c).Then-four, c.unpack_places.auto.to)))
+    stream_read c.unpack_places.new.to c.args.out.now (c.args.k + 4) 0 c.args.f c.read_stream.ensures (stretch_in c.requires.1 (omega (arith, data_reach c.args.k, few (goal.at.returns-then-four c).Then-four, c.unpack_places.auto.to)))
     ∙ heard_alike c.args.k c.requires.1.sized
-    (front_alike c.requires.0 c.if-four.true c.bytes_a_block-long.ensures (omega (arith, few (goal.at.returns-then-four c).Then-four)) (ample (goal.at.returns-then-four c).Then-four) c.unpack_places.ensures)
+    (front_alike c.requires.0 c.if-four.true c.bytes_a_block-long.ensures (omega (arith, few (goal.at.returns-then-four c).Then-four)) (replicate {A = ℕ} 6176 0) (omega (arith, few (goal.at.returns-then-four c).Then-four, length-replicate {A = ℕ})) c.unpack_places.ensures)
     (data_reach c.args.k) c.args.f (length c.args.out.now) c.requires.1.within
 
 pub returns-else-four : goal.returns-else-four
