@@ -13,7 +13,7 @@ use Rattle.slots.specs.Answers.{unless_refused}
 use Rattle.slots.specs.Calls.{receive_outcome, read_outcome}
 
 -- an accepted answer or a refusal, with the same state
-kept : (number : ℕ) (state : State) (answer : Answer) → let o = unless_refused number state (record { answer = answer; state = state }) in
+pub kept : (number : ℕ) (state : State) (answer : Answer) → let o = unless_refused number state (record { answer = answer; state = state }) in
     ◌≡◌ {A = Outcome} (record { answer = o.answer; state = state }) o
 unfolding unless_refused
 kept number state answer = go (eqb number 0)
@@ -24,7 +24,7 @@ kept number state answer = go (eqb number 0)
     go false = refl
 
 -- beside a state
-beside : {state : State} {a b : Answer} → a ≡ b → ◌≡◌ {A = Outcome} (record { answer = a; state = state }) (record { answer = b; state = state })
+pub beside : {state : State} {a b : Answer} → a ≡ b → ◌≡◌ {A = Outcome} (record { answer = a; state = state }) (record { answer = b; state = state })
 beside {state} e = ap (λ (x : Answer). record { answer = x; state = state }) e
 
 pub receive_kept : (state : State) (slot terminal Q N v : ℕ) (bits places : List ℕ) {answer : Answer} → answer ≡ (receive_outcome state slot terminal Q N v bits places).answer

@@ -1,22 +1,24 @@
 -- The call Streams of 01, from what its parts tell: the refusals in order, what their absence tells, and the outcome with the output.
 -- Assumes nothing.
-use mathlib.Core.Path.{◌≡◌, ◌∙◌, ap}
-use mathlib.Core.Bool.{cond, not}
+use mathlib.Core.Path.{◌≡◌, refl, ◌∙◌, ap}
+use mathlib.Core.Bool.{false, cond, not}
 use mathlib.Core.List.{List, [], ◌∷◌, ◌++◌}
 use Prim.Native.Nat.{ℕ, ◌+◌, ◌*◌, ◌≤◌, ◌<◌}
 use native.Mathlib.Nat.{mul-le-mul_left, mul-le-mul_right}
 use native.Mathlib.Omega.{arith}
-use lib.Dec.{eqb, ltb}
+use native.Mathlib.Decide.{dec_le}
+use lib.Dec.{eqb, leb, ltb}
 use lib.ListN.{length, drop}
-use borrow.Author.Tests.{ne_eqb, ltb-true, ltb-false, not-false}
-use Rattle.refusals.specs.Refusals.{Rule, rule, first_of}
-use Rattle.refusals.proofs.Refusals.{Chain, chained_on, passed, listed}
+use borrow.Author.Tests.{le-leb, lt-leb, le-ltb, lt-ltb, ltb-true, ltb-false, not-false}
+use Rattle.std.specs.declared.result.Result.TheVariants.{Ok}
+use Rattle.refusals.specs.Refusals.{Rule, rule}
+use Rattle.refusals.proofs.Refusals.{passed, listed}
 use Rattle.segmentation.specs.declared.Segments.{Segments}
 use Rattle.segmentation.specs.Segmentation.{blocks, size_of, filler_of}
 use Rattle.segmentation.specs.Sizes.{segments_for}
 use Rattle.slots.specs.declared.Head.{Head}
 use Rattle.slots.specs.declared.State.{State}
-use Rattle.slots.specs.Outcome.{Done, Refused}
+use Rattle.slots.specs.Outcome.{Answer, Done, Refused, Outcome}
 use Rattle.slots.specs.State.{per_block, room_length, room_start, head_at}
 use Rattle.slots.specs.Room.{circle_at}
 use Rattle.slots.specs.Circle.{streams_on}
@@ -25,51 +27,59 @@ use Rattle.codeword.specs.Build.{output_rule}
 use Rattle.slots.specs.Calls.{code_block_rule, store_rules, owner_rules, size_at_head, streams_number, streams_outcome, streams_output}
 use Rattle.slots.specs.Reading.{three_streams}
 use Rattle.slots.proofs.Accepted.{Fitting, Stored, stored, owned, served}
+use Rattle.slot_calls.specs.Owner.{owner_of}
+use Rattle.slot_calls.proofs.OwnerParts.{owned_number, owned_head}
+use Rattle.slot_calls.proofs.Rules.{Settled}
 use Rattle.kept_bits.specs.inner.Rows.{Stretch}
 use Rattle.reading.proofs.Blocks.{streams, filler_below, stretch, blocks_told, size_told, filler_told}
 use Rattle.reading.proofs.Lent.{circle_in_store}
 use Rattle.reading.proofs.Answering.{fitting_good}
+use Rattle.reading.proofs.Kept.{kept, beside}
 
 -- 14 and 5 (output), for streams of so many places
-abbrev stream_rules : ℕ → ℕ → ℕ → ℕ → List Rule
-stream_rules C r size D = rule (not (ltb r C)) 14 ∷ rule (ltb size (3 * D)) 5 ∷ []
+abbrev pub stream_rules : ℕ → ℕ → ℕ → ℕ → List Rule
+stream_rules C r size D = rule (leb C r) 14 ∷ rule (ltb size (3 * D)) 5 ∷ []
 
-module _ (state : State) (room slot terminal r size : ℕ) {owner : ℕ} (o : owner ≡ first_of (store_rules state room slot ++ owner_rules state slot terminal)) where
-  abbrev B : ℕ
-  B = size_at_head state slot + 24
+absent : (C r : ℕ) → leb C r ≡ not (ltb r C)
+absent C r = elim (dec_le C r) [ yes h ↦ rw (le-leb C r h, le-ltb r C h) | no h ↦ rw (lt-leb C r (omega arith), lt-ltb r C (omega arith)) ]
 
-  on : {m : ℕ} → Chain owner (stream_rules (blocks B) r size (size_of B r + 4)) m → m ≡ streams_number state room slot terminal r size
-  unfolding streams_number store_rules owner_rules
-  on w = chained_on (store_rules state room slot ++ owner_rules state slot terminal) o w tt tt
+-- over the store's and the owner's rules, then over 14 and 5 (output)
+pub streams_told_number : (state : State) (room slot terminal r size : ℕ) {n C D : ℕ} → C ≡ blocks (size_at_head state slot + 24) → D ≡ size_of (size_at_head state slot + 24) r + 4
+    → Settled n ((store_rules state room slot ++ owner_rules state slot terminal) ++ stream_rules C r size D) → n ≡ streams_number state room slot terminal r size
+unfolding streams_number store_rules owner_rules
+streams_told_number state room slot terminal r size c d w = rw (c, d, absent (blocks (size_at_head state slot + 24)) r) at w.is
 
-  -- a rule of the store or the owner applies
-  pub owner_refused : (owner ≡ 0 → ⊥) → owner ≡ streams_number state room slot terminal r size
-  owner_refused h = on (record { is = λ t. rw (ne_eqb owner 0 h) })
+-- the owner's rules found nothing: the segmentation of the slot's block
+module _ (state : State) (room slot terminal r : ℕ) {head : Head} {s : Segments} (served_lem : Ok head ≡ owner_of state room slot terminal) (told : s ≡ segments_for head.size) where
+  fits_owner : Fitting state.blocks (size_at_head state slot)
+  fits_owner = (served state room slot terminal (owned_number state room slot terminal served_lem) refl).1.size_fits
 
-  module _ (z : owner ≡ 0) {head : Head} {s : Segments} (h : head ≡ head_at state slot) (told : s ≡ segments_for head.size) where
-    fits_owner : Fitting state.blocks (size_at_head state slot)
-    fits_owner = (served state room slot terminal o z).1.size_fits
+  told_size : s ≡ segments_for (size_at_head state slot)
+  unfolding size_at_head
+  told_size = told ∙ ap (λ (x : Head). segments_for x.size) (owned_head state room slot terminal served_lem)
 
-    told_size : s ≡ segments_for (size_at_head state slot)
-    unfolding size_at_head
-    told_size = told ∙ ap (λ (x : Head). segments_for x.size) h
+  pub found_blocks : s.blocks ≡ blocks (size_at_head state slot + 24)
+  found_blocks = blocks_told (size_at_head state slot) told_size (fitting_good fits_owner)
 
-    module _ {k : ℕ} (size_is : k ≡ cond (ltb r s.shorts) s.short s.long) where
-      found_size : k ≡ size_of B r
-      found_size = size_is ∙ size_told (size_at_head state slot) r told_size (fitting_good fits_owner)
+  module _ {k : ℕ} (size_is : k ≡ cond (ltb r s.shorts) s.short s.long) where
+    pub found_size : k ≡ size_of (size_at_head state slot + 24) r
+    found_size = size_is ∙ size_told (size_at_head state slot) r told_size (fitting_good fits_owner)
 
-      pub found_most : k ≤ 6144
-      found_most = omega (arith, found_size, (streams (size_at_head state slot) (fitting_good fits_owner) r).most)
-
-      pub streams_chained : {n : ℕ} → n ≡ first_of (stream_rules s.blocks r size (k + 4)) → n ≡ streams_number state room slot terminal r size
-      streams_chained e = on (record { is = λ t. rw z (rw (blocks_told (size_at_head state slot) told_size (fitting_good fits_owner), found_size) at e) })
+    pub found_most : k ≤ 6144
+    found_most = omega (arith, found_size, (streams (size_at_head state slot) (fitting_good fits_owner) r).most)
 
 -- a refused one
 pub streams_refused : (state : State) (store : List ℕ) (slot terminal r : ℕ) (out : List ℕ) {n : ℕ}
-    → n ≡ streams_number state (length store) slot terminal r (length out) → (n ≡ 0 → ⊥)
-    → (record { answer = Refused n; state = state } ≡ streams_outcome state (length store) slot terminal r (length out)) × (out ≡ streams_output state store slot terminal r out)
+    → n ≡ streams_number state (length store) slot terminal r (length out) → eqb n 0 ≡ false
+    → (Refused n ≡ (streams_outcome state (length store) slot terminal r (length out)).answer) × (out ≡ streams_output state store slot terminal r out)
 unfolding streams_outcome unless_refused streams_output
-streams_refused state store slot terminal r out e h = (rw (← e, ne_eqb _ 0 h), rw (← e, ne_eqb _ 0 h))
+streams_refused state store slot terminal r out e h = (rw (← e, h), rw (← e, h))
+
+-- a call that keeps the state: its outcome is its answer beside the state as it came
+pub streams_kept : (state : State) (lent slot terminal r size : ℕ) {answer : Answer} → answer ≡ (streams_outcome state lent slot terminal r size).answer
+    → ◌≡◌ {A = Outcome} (record { answer = answer; state = state }) (streams_outcome state lent slot terminal r size)
+unfolding streams_outcome
+streams_kept state lent slot terminal r size e = beside e ∙ kept _ state _
 
 -- the call was not refused, and its head and segmentation were found
 pub record Streaming (state : State) (store : List ℕ) (slot terminal r : ℕ) (out : List ℕ) (n : ℕ) (head : Head) (s : Segments) : Type 0 where
@@ -84,7 +94,7 @@ module _ {state : State} {store : List ℕ} {slot terminal r : ℕ} {out : List 
 
   -- 14 and 5 (output) are the last rules
   lasts : List Rule
-  lasts = stream_rules (blocks (A + 24)) r (length out) (size_of (A + 24) r + 4)
+  lasts = code_block_rule (A + 24) r ∷ output_rule (3 * (size_of (A + 24) r + 4)) (length out) ∷ []
 
   store_is : Stored state (length store) slot
   unfolding streams_number store_rules owner_rules lasts
@@ -133,7 +143,7 @@ module _ {state : State} {store : List ℕ} {slot terminal r : ℕ} {out : List 
       )
 
       pub streams_told : {out' : List ℕ} → out' ≡ streams_on (circle_at (slot * state.blocks + r) store) (k + 4) f ++ drop (3 * (k + 4)) out
-          → (record { answer = Done; state = state } ≡ streams_outcome state (length store) slot terminal r (length out)) × (out' ≡ streams_output state store slot terminal r out)
+          → (Done ≡ (streams_outcome state (length store) slot terminal r (length out)).answer) × (out' ≡ streams_output state store slot terminal r out)
       unfolding streams_outcome unless_refused streams_output three_streams
       streams_told o =
           (rw (← w.number, w.zero), rw (← w.number, w.zero) (o ∙ rw (k_is, f_is, circle_in_store state.blocks slot r store)))

@@ -1,62 +1,35 @@
 // The call Streams of 01, on rooms of either form.
 #![tactic(auto)]
 
-ghost use Rattle.std.specs.Prelude.{◌≡◌, true, not, [], ◌∷◌, ◌++◌, ◌*◌, ◌≤◌, ltb, length, drop};
-ghost use Rattle.refusals.specs.Refusals.{rule, first_of};
-ghost use Rattle.slots.specs.Outcome.{Refused};
+ghost use Rattle.std.specs.Prelude.{◌≡◌, true, ◌++◌, ◌*◌, ◌≤◌, length, drop};
+ghost use Rattle.slots.specs.Outcome.{answer_of, told};
 ghost use Rattle.slots.specs.State.{per_block};
 ghost use Rattle.slots.specs.Room.{circle_at};
 ghost use Rattle.slots.specs.Circle.{streams_on};
 ghost use Rattle.slots.specs.Calls.{streams_outcome, streams_output};
 ghost use Rattle.packing.specs.Store.{places_in};
 ghost use Rattle.kept_bits.specs.inner.Rows.{Stretch};
-ghost use Rattle.reading.specs.inner.Form.{Unpacks, Circles};
+ghost use Rattle.reading.specs.inner.Form.{HasCircle};
 
-use refusals::or_else;
+use refusals::{Refusal, applied};
 use segmentation::block;
 use slot_calls::states;
+use slot_calls::states::PER_BLOCK;
 use slots::{Answer, Outcome, State};
 
-// Streams' last refusals, for an owner's block of so many code blocks, of which this one has streams of d places.
-fn block_number(blocks: usize, block: usize, d: usize, size: usize) -> u8
-    requires { d ≤ 6148 }
-    ensures { result ≡ first_of (rule (not (ltb block blocks)) 14 ∷ rule (ltb size (3 * d)) 5 ∷ []) }
-{
-    let present = block < blocks;
-    let absent = or_else(0, !present, 14);
-    or_else(absent, size < 3 * d, 5)
-}
-
-// A refusal: the state stays.
-fn refused(number: u8, state: State) -> Outcome
-    ensures { result ≡ record { answer = Refused number; state = state } }
-{
-    Outcome {
-        answer: Answer::Refused(number),
-        state,
-    }
-}
-
 // Writes the three runs of code block i of a store over the front of `out`, of streams of d places, the first f being filler: from the
-// store, or where it keeps four places a byte from `circle`, in which its circle is unpacked: 96 places a row, 24 bytes.
-fn runs_of(
-    four: bool,
-    i: usize,
-    d: usize,
-    f: usize,
-    store: &[u8],
-    circle: &mut [u8],
-    out: &mut [u8],
-)
-    requires { Circles four per_block i store.now circle.old × (f ≤ d) × (3 * d ≤ length out.old) × Stretch per_block d 2 0 d }
+// store, or where it keeps four places a byte from an array, in which its circle is unpacked: 96 places a row, 24 bytes.
+fn runs_of(four: bool, i: usize, d: usize, f: usize, store: &[u8], out: &mut [u8])
+    requires { HasCircle four i store.now × (f ≤ d) × (3 * d ≤ length out.old) × Stretch per_block d 2 0 d }
     ensures { out.new ≡ streams_on (circle_at i (places_in four store.now)) d f ++ drop (3 * d) out.old }
 {
     let long = packing::bytes_a_block(four);
     let from = i * long;
     if four {
+        let mut circle = [0u8; PER_BLOCK];
         let to = from + 24 * ((d + 31) / 32);
-        packing::unpack_places(&store[from..to], circle);
-        kept_bits::three_streams(circle, d, f, out);
+        packing::unpack_places(&store[from..to], &mut circle);
+        kept_bits::three_streams(&circle, d, f, out);
     } else {
         let to = from + long;
         kept_bits::three_streams(&store[from..to], d, f, out);
@@ -64,6 +37,7 @@ fn runs_of(
 }
 
 // Writes the three streams of a code block over the front of `out`, for the decoder chip.
+#[tactic(auto, using(crate::proofs::Answering::streams_kept), unfolding(packing::specs::Store::places_in))]
 pub fn streams(
     state: State,
     slot: usize,
@@ -72,14 +46,15 @@ pub fn streams(
     store: &[u8],
     out: &mut [u8],
 ) -> Outcome
-    ensures value { result ≡ streams_outcome state (length store.now) slot terminal block (length out.old) }
+    ensures value { told result ≡ streams_outcome state (length store.now) slot terminal block (length out.old) }
     ensures out_after { out.new ≡ streams_output state store.now slot terminal block out.old }
 {
-    let mut none = [0u8; 1];
-    streams_form(false, state, slot, terminal, block, store, &mut none, out)
+    let answer = streams_form(false, state, slot, terminal, block, store, out);
+    Outcome { answer, state }
 }
 
 // The same for a store with four places a byte.
+#[tactic(auto, using(crate::proofs::Answering::streams_kept))]
 pub fn streams_packed(
     state: State,
     slot: usize,
@@ -88,14 +63,14 @@ pub fn streams_packed(
     store: &[u8],
     out: &mut [u8],
 ) -> Outcome
-    ensures value { result ≡ streams_outcome state (length (places_in true store.now)) slot terminal block (length out.old) }
+    ensures value { told result ≡ streams_outcome state (length (places_in true store.now)) slot terminal block (length out.old) }
     ensures out_after { out.new ≡ streams_output state (places_in true store.now) slot terminal block out.old }
 {
-    let mut circle = [0u8; 18528];
-    streams_form(true, state, slot, terminal, block, store, &mut circle, out)
+    let answer = streams_form(true, state, slot, terminal, block, store, out);
+    Outcome { answer, state }
 }
 
-// The same for a store of either form, with a buffer for one code block's circle where it has to be unpacked.
+// Its answer for a store of either form. The state stays as it came, and is not handed back with it: all of it would be copied.
 fn streams_form(
     four: bool,
     state: State,
@@ -103,29 +78,18 @@ fn streams_form(
     terminal: u16,
     block: usize,
     store: &[u8],
-    circle: &mut [u8],
     out: &mut [u8],
-) -> Outcome
-    requires { Unpacks four per_block (length circle.old) }
-    ensures value { result ≡ streams_outcome state (length (places_in four store.now)) slot terminal block (length out.old) }
+) -> Answer
+    ensures value { answer_of result ≡ (streams_outcome state (length (places_in four store.now)) slot terminal block (length out.old)).answer }
     ensures out_after { out.new ≡ streams_output state (places_in four store.now) slot terminal block out.old }
 {
     let asked = packing::places_asked(four, store.len());
-    let owner = states::owner(state, asked, slot, terminal);
-    if owner.number != 0 {
-        return refused(owner.number, state);
-    }
-    let head = owner.head;
+    let head = states::owner(state, asked, slot, terminal)?;
     let s = segmentation::segments_for(head.size);
+    applied(block >= s.blocks, Refusal::NoCodeBlock)?;
     let d = block::size_of(s, block) + 4;
-    let number = block_number(s.blocks, block, d, out.len());
-    if number != 0 {
-        return refused(number, state);
-    }
+    applied(out.len() < 3 * d, Refusal::TooShort)?;
     let i = slot * state.blocks + block;
-    runs_of(four, i, d, block::filler_of(s, block), store, circle, out);
-    Outcome {
-        answer: Answer::Done,
-        state,
-    }
+    runs_of(four, i, d, block::filler_of(s, block), store, out);
+    Ok(None)
 }

@@ -4,7 +4,7 @@ use mathlib.Core.Path.{◌∙◌, ap}
 use mathlib.Core.List.{List, ◌++◌}
 use Prim.Native.Nat.{ℕ, ◌+◌, ◌*◌, ◌/◌, ◌≤◌}
 use native.Mathlib.Omega.{arith}
-use lib.ListN.{length, drop}
+use lib.ListN.{length, drop, replicate, length-replicate}
 use Rattle.kept_bits.proofs.Rows.{reach_most, streams_shown}
 use Rattle.reading.proofs.Lent.{streams_alike}
 use Rattle.reading.proofs.Form.{part_within, part_long, plain_long, plain_alike, stretch_on, stretch_in, front_within, front_alike, circle_few, circle_reach}
@@ -20,12 +20,9 @@ within c = part_within c.requires.0 c.bytes_a_block-long.ensures
 few : (c : Then-four) → 24 * ((c.args.d + 31) / 32) ≤ 4632
 few c = circle_few c.requires.3.sized
 
-ample : (c : Then-four) → 4 * (24 * ((c.args.d + 31) / 32)) ≤ length c.args.circle.now
-ample c = omega (arith, few c, c.requires.0.unpacks c.if-four.true)
-
 there : (c : Then-four) → let e = c.args in
     e.i * c.bytes_a_block-long.result + 24 * ((e.d + 31) / 32) ≤ length e.store.now
-there c = front_within c.requires.0 c.if-four.true c.bytes_a_block-long.ensures (few c) (ample c)
+there c = front_within c.requires.0 c.if-four.true c.bytes_a_block-long.ensures (few c)
 
 pub overflow_mul-from : goal.overflow_mul-from
 overflow_mul-from c = omega (arith, within (goal.at.overflow_mul-from c).After-bytes_a_block-long)
@@ -39,16 +36,16 @@ slice_bounds-unpack_places-end c = there (goal.at.slice_bounds-unpack_places-end
 pub overflow_add-to-else-four : goal.overflow_add-to-else-four
 overflow_add-to-else-four c = omega (arith, within (goal.at.overflow_add-to-else-four c).After-bytes_a_block-long)
 
-pub slice_bounds-three_streams-end : goal.slice_bounds-three_streams-end
-slice_bounds-three_streams-end c = within (goal.at.slice_bounds-three_streams-end c).After-bytes_a_block-long
+pub slice_bounds-three_streams-end-else-four : goal.slice_bounds-three_streams-end-else-four
+slice_bounds-three_streams-end-else-four c = within (goal.at.slice_bounds-three_streams-end-else-four c).After-bytes_a_block-long
 
 pub returns-then-four : goal.returns-then-four
 returns-then-four c =
     streams_shown _ _ _ _ c.three_streams.ensures c.requires.1 c.requires.2
-    (stretch_in c.requires.3 (omega (arith, circle_reach c.args.d 2, ample (goal.at.returns-then-four c).Then-four, c.unpack_places.auto.to)))
+    (stretch_in c.requires.3 (omega (arith, circle_reach c.args.d 2, few (goal.at.returns-then-four c).Then-four, c.unpack_places.auto.to)))
     ∙ ap (λ (l : List ℕ). l ++ drop (3 * c.args.d) c.args.out.now)
     (streams_alike c.requires.3.sized
-    (front_alike c.requires.0 c.if-four.true c.bytes_a_block-long.ensures (few (goal.at.returns-then-four c).Then-four) (ample (goal.at.returns-then-four c).Then-four) c.unpack_places.ensures)
+    (front_alike c.requires.0 c.if-four.true c.bytes_a_block-long.ensures (few (goal.at.returns-then-four c).Then-four) (replicate {A = ℕ} 18528 0) (omega (arith, few (goal.at.returns-then-four c).Then-four, length-replicate {A = ℕ})) c.unpack_places.ensures)
     c.args.f (circle_reach c.args.d))
 
 pub returns-else-four : goal.returns-else-four
