@@ -1,6 +1,5 @@
 pub mod Reading
 pub mod Decimal
-mod Powers
 pub mod Putting
 pub mod Numbers
 pub mod Refusals

@@ -1,7 +1,7 @@
 -- Laws of reading a line (`read_on`): one byte more, and the bound that keeps the number below 2 ^ 64.
 -- Assumes nothing.
 use mathlib.Core.Path.{◌≡◌, refl, sym, ◌∙◌, ap}
-use mathlib.Core.Bool.{false, cond}
+use mathlib.Core.Bool.{true, false, cond}
 use mathlib.Core.List.{List}
 use Prim.Native.Nat.{ℕ, ◌+◌, ◌-◌, ◌*◌, ◌^◌, ◌≤◌, ◌<◌, min}
 use native.Mathlib.Nat.{pow-suc, pow-le-pow_right}
@@ -9,9 +9,10 @@ use native.Mathlib.Numerals.{add-one}
 use native.Mathlib.Omega.{arith}
 use lib.Dec.{lit<}
 use lib.ListN.{length, get_or, drop, drop_of_length-le}
-use borrow.Author.Tests.{le-leb, lt-leb, ne_eqb, le-ltb}
+use borrow.Author.Tests.{ne_eqb, le-ltb}
+use Rattle.std.proofs.Common.{Some, None}
+use Rattle.std.proofs.lemmas.Bool.Decides.{nat_tests}
 use Rattle.laws.proofs.Writing.{drop_next}
-use Rattle.lines.specs.declared.Line.TheVariants.{Read, Unreadable}
 use Rattle.lines.specs.Line.{is_digit, read_on, too_long, leading_zero, line_of}
 
 -- after i bytes of the line, which gave n: what is still read is what the whole line says
@@ -23,30 +24,28 @@ pub record Reading (line : List ℕ) (n i : ℕ) : Type 0 where
 pub start : (line : List ℕ) → Reading line 0 0
 start line = record { within = omega arith; small = omega arith; told = refl }
 
+digit_small : (b : ℕ) → is_digit b ≡ true → b ≤ 57
+unfolding is_digit
+digit_small b e = grind (arith, nat_tests)
+
 -- the byte at i is looked at
 turn : (line : List ℕ) (n i : ℕ) → i < length line
-    → read_on n (drop i line) ≡ cond (is_digit (get_or line i 0)) (read_on (n * 10 + (get_or line i 0 - 48)) (drop (i + 1) line)) Unreadable
+    → read_on n (drop i line) ≡ cond (is_digit (get_or line i 0)) (read_on (n * 10 + (get_or line i 0 - 48)) (drop (i + 1) line)) None
 unfolding read_on
 turn line n i h = rw (drop_next line i h)
 
 module _ {line : List ℕ} {n i : ℕ} (r : Reading line n i) (h : i < length line) where
-  pub next : 48 ≤ get_or line i 0 → get_or line i 0 ≤ 57 → Reading line (n * 10 + (get_or line i 0 - 48)) (i + 1)
-  unfolding is_digit
-  next a b = record {
+  pub next : is_digit (get_or line i 0) ≡ true → Reading line (n * 10 + (get_or line i 0 - 48)) (i + 1)
+  next e = record {
     within = omega arith;
-    small = rw (add-one i, pow-suc 10 i) (omega (arith, r.small));
-    told = sym (simp (le-leb 48 (get_or line i 0) a, le-leb (get_or line i 0) 57 b) at (turn line n i h)) ∙ r.told;
+    small = rw (add-one i, pow-suc 10 i) (omega (arith, r.small, digit_small (get_or line i 0) e));
+    told = sym (simp e at (turn line n i h)) ∙ r.told;
   }
 
-  pub low : get_or line i 0 < 48 → Unreadable ≡ read_on 0 line
-  unfolding is_digit
-  low a = sym (simp (lt-leb 48 (get_or line i 0) a) at (turn line n i h)) ∙ r.told
+  pub other : is_digit (get_or line i 0) ≡ false → None ≡ read_on 0 line
+  other e = sym (simp e at (turn line n i h)) ∙ r.told
 
-  pub high : 48 ≤ get_or line i 0 → 57 < get_or line i 0 → Unreadable ≡ read_on 0 line
-  unfolding is_digit
-  high a b = sym (simp (le-leb 48 (get_or line i 0) a, lt-leb (get_or line i 0) 57 b) at (turn line n i h)) ∙ r.told
-
-pub finish : {line : List ℕ} {n i : ℕ} → Reading line n i → length line ≤ i → Read n ≡ read_on 0 line
+pub finish : {line : List ℕ} {n i : ℕ} → Reading line n i → length line ≤ i → Some n ≡ read_on 0 line
 unfolding read_on
 finish {line} {n} {i} r h = sym (ap (λ (l : List ℕ). read_on n l) (drop_of_length-le line h)) ∙ r.told
 

@@ -6,10 +6,10 @@ use Prim.Native.Nat.{ℕ, suc, ◌+◌, ◌-◌, ◌≤◌, ◌<◌, min}
 use native.Mathlib.Omega.{arith}
 use lib.ListN.{length, take, drop, drop_of_length-le}
 use borrow.Author.Tests.{le-leb, lt-leb}
+use Rattle.std.specs.Prelude.{Some, None}
 use Rattle.laws.proofs.Writing.{Writing, start as begun, same, finish as written_out, count}
 use Rattle.segmentation.specs.declared.SizesAnswer.{SizesAnswer}
 use Rattle.segmentation.specs.Sizes.{sizes_answer}
-use Rattle.lines.specs.declared.Line.TheVariants.{Read, Unreadable}
 use Rattle.lines.specs.declared.Progress.{Progress}
 use Rattle.lines.specs.Line.{line_of}
 use Rattle.lines.specs.Put.{put_over}
@@ -19,11 +19,11 @@ use Rattle.lines.proofs.Lines.{lines_at}
 use Rattle.lines.proofs.Putting.{wrote, over_room}
 
 -- the row of a line, by what the line says
-pub row_read : (l : List ℕ) {A : ℕ} {answer : SizesAnswer} → line_of 5 l ≡ Read A → answer ≡ sizes_answer A → row_of (answer_fields A answer) ≡ sizes_row l
+pub row_read : (l : List ℕ) {A : ℕ} {answer : SizesAnswer} → line_of 5 l ≡ Some A → answer ≡ sizes_answer A → row_of (answer_fields A answer) ≡ sizes_row l
 unfolding sizes_row line_fields
 row_read l e f = rw (e, f)
 
-pub row_unreadable : (l : List ℕ) → line_of 5 l ≡ Unreadable → row_of (dash ∷ refused ∷ decimal_of 15 ∷ []) ≡ sizes_row l
+pub row_unreadable : (l : List ℕ) → line_of 5 l ≡ None → row_of (dash ∷ refused ∷ decimal_of 15 ∷ []) ≡ sizes_row l
 unfolding sizes_row line_fields
 row_unreadable l e = rw e
 

@@ -1,12 +1,10 @@
 -- The row that answers a line: tab-parted fields and a newline (01, "The sizes program").
 -- Assumes nothing.
-use Rattle.std.specs.Prelude.{true, false, List, [], ◌∷◌, ◌++◌, map, ℕ, zero, suc, ◌/◌, ltb}
+use Rattle.std.specs.Prelude.{true, false, Option, None, Some, List, [], ◌∷◌, ◌++◌, map, ℕ, zero, suc, ◌/◌, ltb}
 use Rattle.lines.specs.Digits.{last_digits}
 use Rattle.segmentation.specs.declared.SizesAnswer.{SizesAnswer}
 use Rattle.segmentation.specs.declared.SizesAnswer.TheVariants.{Given, Refused}
 use Rattle.segmentation.specs.Sizes.{sizes_answer, number_of, values_of}
-use Rattle.lines.specs.declared.Line.{Line}
-use Rattle.lines.specs.declared.Line.TheVariants.{Read, Unreadable}
 use Rattle.lines.specs.Line.{line_of}
 
 -- how many digits n takes: 1 below 10, else one more than its tenth takes; there are never more turns than n
@@ -48,9 +46,9 @@ answer_fields A (Given s) = map decimal_of (A ∷ values_of (Given s))
 answer_fields A (Refused n) = decimal_of A ∷ refused ∷ decimal_of (number_of (Refused n)) ∷ []
 
 -- an unreadable line is number 15
-unfoldable pub line_fields : Line → List (List ℕ)
-line_fields (Read A) = answer_fields A (sizes_answer A)
-line_fields Unreadable = dash ∷ refused ∷ decimal_of 15 ∷ []
+unfoldable pub line_fields : Option ℕ → List (List ℕ)
+line_fields (Some A) = answer_fields A (sizes_answer A)
+line_fields None = dash ∷ refused ∷ decimal_of 15 ∷ []
 
 -- the row of a line of the sizes program, whose numbers have 1 to 5 digits
 unfoldable pub sizes_row : List ℕ → List ℕ

@@ -11,27 +11,12 @@ ghost use Rattle.lines.specs.Text.{line_end, header, row_room, progress_of, rows
 
 use segmentation::SizesAnswer;
 
-// What a line says: a number, or nothing that can be read.
-#[derive(Clone, Copy)]
-pub enum Line {
-    Read(usize),
-    Unreadable,
-}
-
 // Where a call of sizes_rows stopped: the first line that it has not answered, and the bytes that it wrote.
 #[derive(Clone, Copy)]
 pub struct Progress {
     pub next: usize,
     pub written: usize,
 }
-
-const TAB: u8 = 9;
-
-const NEWLINE: u8 = 10;
-
-const ZERO: u8 = 48;
-
-const NINE: u8 = 57;
 
 // The digits that a number of the sizes program may have.
 const MOST_DIGITS: usize = 5;
@@ -48,58 +33,44 @@ const NUMBER_ROOM: usize = 21;
 // No row is longer: 7 fields of 20 digits at most, each with its tab or newline.
 const ROW_ROOM: usize = 147;
 
-// Reads a line of 1 to `most` digits, without its newline. A limit above 19 counts as 19.
-pub fn read_number(line: &[u8], most: usize) -> Line
+// Reads a line of 1 to `most` digits, without its newline: the number, or none where it can't be read. A limit above 19 counts as 19.
+#[tactic(auto, unfolding(crate::specs::Line::line_of, crate::specs::Line::too_long, crate::specs::Line::leading_zero))]
+pub fn read_number(line: &[u8], most: usize) -> Option<usize>
     ensures { result ≡ line_of most line.now }
 {
-    if line.len() == 0 {
-        return Line::Unreadable;
-    }
-    if least(most, DIGITS_HELD) < line.len() {
-        return Line::Unreadable;
-    }
-    if line[0] == ZERO {
-        if 1 < line.len() {
-            return Line::Unreadable;
-        }
+    if line.is_empty()
+        || most.min(DIGITS_HELD) < line.len()
+        || (line[0] == b'0' && 1 < line.len())
+    {
+        return None;
     }
     read_digits(line)
 }
 
-fn least(a: usize, b: usize) -> usize
-    ensures { result ≡ min a b }
-{
-    if a < b { a } else { b }
-}
-
-fn read_digits(line: &[u8]) -> Line
+#[tactic(auto, using(crate::proofs::Reading::held, crate::proofs::Reading::finish, crate::proofs::Reading::other), unfolding(crate::specs::Line::is_digit))]
+fn read_digits(line: &[u8]) -> Option<usize>
     requires { length line.now ≤ 19 }
     ensures { result ≡ read_on 0 line.now }
 {
     let mut n: usize = 0;
-    let mut i = 0;
-    while i < line.len() {
-        let digit = line[i];
-        if digit < ZERO {
-            return Line::Unreadable;
+    for byte in line {
+        if !byte.is_ascii_digit() {
+            return None;
         }
-        if NINE < digit {
-            return Line::Unreadable;
-        }
-        n = n * 10 + (digit - ZERO) as usize;
-        i += 1;
+        n = n * 10 + (*byte - b'0') as usize;
     }
-    Line::Read(n)
+    Some(n)
 }
 
 // The place of the next newline from `from` on, or of the text's end.
+#[tactic(auto, unfolding(crate::specs::Text::line_end, octets::specs::Bytes::index_of))]
 pub fn line_end(text: &[u8], from: usize) -> usize
     ensures { result ≡ line_end text.now from }
 {
     if text.len() < from {
         return from;
     }
-    octets::find(text, from, NEWLINE)
+    octets::find(text, from, b'\n')
 }
 
 // The start of the next line, or the text's end. A text's last line may lack its newline.
@@ -111,22 +82,21 @@ fn line_next(text: &[u8], end: usize) -> usize
 }
 
 // Puts the bytes into out at a place and answers the place after them; where they do not fit, it does nothing and answers `at`.
+#[tactic(auto, unfolding(crate::specs::Put::end_at, crate::specs::Put::put_at, crate::specs::Put::fits, crate::specs::Put::put_over))]
 pub fn put_bytes(given: &[u8], out: &mut [u8], at: usize) -> usize
     ensures value { result ≡ end_at at given.now out.old }
     ensures out_after { out.new ≡ put_at at given.now out.old }
 {
-    if out.len() < at {
-        return at;
-    }
-    if out.len() - at < given.len() {
+    if out.len() < at || out.len() - at < given.len() {
         return at;
     }
     let end = at + given.len();
-    octets::copy(given, &mut out[at..end]);
+    out[at..end].copy_from_slice(given);
     end
 }
 
 // Puts n's decimal digits into out as put_bytes does.
+#[tactic(auto, using(crate::proofs::Decimal::decimal_is))]
 pub fn put_decimal(n: usize, out: &mut [u8], at: usize) -> usize
     ensures value { result ≡ end_at at (decimal_of n) out.old }
     ensures out_after { out.new ≡ put_at at (decimal_of n) out.old }
@@ -150,15 +120,10 @@ fn write_decimal(n: u64, out: &mut [u8; 20]) -> usize
 
 // How many digits n takes.
 fn digit_count(n: u64) -> usize
-    ensures { IsDigitCount 10 1 n result }
+    ensures room { result ≤ 20 }
+    ensures fewest { IsDigitCount 10 1 n result }
 {
-    let mut k = 1;
-    let mut rest = n / 10;
-    while rest > 0 {
-        k += 1;
-        rest /= 10;
-    }
-    k
+    n.max(1).ilog10() as usize + 1
 }
 
 // Puts the last k digits of n at the start of `out`.
@@ -167,10 +132,8 @@ fn write_digits(n: u64, k: usize, out: &mut [u8])
     ensures digits { take k out.new ≡ last_digits 10 k n }
     ensures rest { drop k out.new ≡ drop k out.old }
 {
-    let mut i = k;
     let mut rest = n;
-    while i > 0 {
-        i -= 1;
+    for i in (0..k).rev() {
         out[i] = digit_mark(rest % 10);
         rest /= 10;
     }
@@ -185,6 +148,7 @@ fn digit_mark(digit: u64) -> u8
 }
 
 // Puts the header of the sizes program into out as put_bytes does.
+#[tactic(auto, unfolding(crate::specs::Text::header, crate::specs::Row::row_of, crate::specs::Row::end_of))]
 pub fn put_header(out: &mut [u8]) -> usize
     ensures value { result ≡ end_at 0 header out.old }
     ensures out_after { out.new ≡ put_at 0 header out.old }
@@ -198,14 +162,12 @@ pub fn put_header(out: &mut [u8]) -> usize
 
 // Puts a row of numbers into out at a place and answers the place after it; where it might not fit, as there are not 21 bytes
 // for each number, it does nothing and answers `at`.
+#[tactic(auto, unfolding(crate::specs::Numbers::end_numbers, crate::specs::Numbers::put_numbers, crate::specs::Numbers::has_room))]
 pub fn put_number_row(numbers: &[usize], out: &mut [u8], at: usize) -> usize
     ensures value { result ≡ end_numbers at numbers.now out.old }
     ensures out_after { out.new ≡ put_numbers at numbers.now out.old }
 {
-    if out.len() < at {
-        return at;
-    }
-    if (out.len() - at) / NUMBER_ROOM < numbers.len() {
+    if out.len() < at || (out.len() - at) / NUMBER_ROOM < numbers.len() {
         return at;
     }
     put_numbers(numbers, out, at)
@@ -218,11 +180,9 @@ fn put_numbers(numbers: &[usize], out: &mut [u8], at: usize) -> usize
     ensures out_after { out.new ≡ put_over at (row_of (map decimal_of numbers.now)) out.old }
 {
     let mut end = at;
-    let mut i = 0;
-    while i < numbers.len() {
-        let mark = put_decimal(numbers[i], out, end);
-        i += 1;
-        out[mark] = field_end(i < numbers.len());
+    for (i, n) in numbers.iter().enumerate() {
+        let mark = put_decimal(*n, out, end);
+        out[mark] = field_end(i + 1 < numbers.len());
         end = mark + 1;
     }
     end
@@ -231,7 +191,7 @@ fn put_numbers(numbers: &[usize], out: &mut [u8], at: usize) -> usize
 fn field_end(more: bool) -> u8
     ensures { result ≡ cond more tab newline }
 {
-    if more { TAB } else { NEWLINE }
+    if more { b'\t' } else { b'\n' }
 }
 
 // Ends the row of a refusal, after a first field that ends at `at`.
@@ -270,8 +230,8 @@ fn put_row(line: &[u8], out: &mut [u8], at: usize) -> usize
     ensures out_after { out.new ≡ put_over at (sizes_row line.now) out.old }
 {
     match read_number(line, MOST_DIGITS) {
-        Line::Read(a) => put_answer(a, segmentation::sizes_for(a), out, at),
-        Line::Unreadable => {
+        Some(a) => put_answer(a, segmentation::sizes_for(a), out, at),
+        None => {
             let end = put_bytes(b"-", out, at);
             put_refusal(UNREADABLE, out, end)
         }
@@ -283,6 +243,7 @@ pub fn sizes_rows(text: &[u8], from: usize, out: &mut [u8]) -> Progress
     ensures value { result ≡ progress_of text.now from (length out.old) }
     ensures out_after { out.new ≡ rows_over text.now from out.old }
 {
+    // kept: a turn goes on at the next line's place, not one further, and that place is part of the answer, so that no iterator over lines is plainer.
     let mut next = from;
     let mut written = 0;
     while next < text.len() {

@@ -1,27 +1,22 @@
--- What is left after k digits is below a tenth of what was left before.
-use Rattle.std.proofs.Common.{ℕ, ◌/◌, ◌∙◌, ap, arith}
-use Rattle.lines.proofs.Powers.{two-mul-div-le, div-pow-one, div-pow-div, pow-le_of_div_pos, lt-pow_of_div-zero}
+-- `lines::digit_count` meets its contract: the power of ten that is at most n, and the next one, tell its digits.
+-- Assumes nothing.
+use mathlib.Core.Path.{◌≡◌}
+use Prim.Native.Nat.{ℕ, suc, ◌+◌, ◌*◌, ◌^◌, ◌≤◌, ◌<◌, max}
+use native.Mathlib.Nat.{pow-suc, pow-le-pow_right}
+use native.Mathlib.Numerals.{add-one, sub-one}
+use native.Mathlib.Omega.{arith}
+use lib.Dec.{lit<}
+use Rattle.lines.specs.Digits.{IsDigitCount}
 use Rattle.lines.proofs.digit_count.Goals as goal
 
-pub loop-rest-init : goal.loop-rest-init
-loop-rest-init c =
-    let a = c.args in
-    (omega arith, omega (arith, two-mul-div-le a.n 10 (omega arith)), div-pow-one a.n 10, omega arith)
+counted : (n m k : ℕ) → m ≡ max n 1 → 10 ^ k ≤ m → m < 10 * 10 ^ k → IsDigitCount 10 1 n (k + 1)
+counted n m k e low high = rw (add-one k) (omega arith, rw (pow-suc 10 k) (omega arith), λ (l : 1 < suc k). rw sub-one (whole l))
+  where
+    whole : 1 < suc k → 10 ^ k ≤ n
+    whole l =
+        let some : 1 ≤ k = omega arith in
+        let ten : 10 ^ 1 ≤ 10 ^ k = pow-le-pow_right (lit< tt) some in
+        omega arith
 
-pub loop-rest-smaller : goal.loop-rest-smaller
-loop-rest-smaller c = omega (arith, two-mul-div-le c.loop-rest.rest 10 (omega arith))
-
-pub loop-rest-preserved : goal.loop-rest-preserved
-loop-rest-preserved c =
-    let l = c.loop-rest in
-    let n = c.args.n in (
-      omega arith,
-      omega (arith, two-mul-div-le l.rest 10 (omega arith)),
-      ap (λ (m : ℕ). m / 10) l.invariant.2 ∙ div-pow-div n 10 l.k,
-      λ _. pow-le_of_div_pos n 10 l.k (omega arith) (omega arith),
-    )
-
-pub returns : goal.returns
-returns c =
-    let l = c.loop-rest in
-    (omega arith, lt-pow_of_div-zero c.args.n 10 l.k l.k (omega arith) (omega arith) (omega arith), λ more. l.invariant.3 (omega arith))
+pub returns-clause-fewest : goal.returns-clause-fewest
+returns-clause-fewest c = counted c.args.n c.max.result c.ilog10.result c.max.ensures c.ilog10.ensures.power_le c.ilog10.ensures.next_power_gt

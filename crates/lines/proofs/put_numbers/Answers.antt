@@ -1,7 +1,7 @@
 use Prim.Native.Nat.{◌<◌}
 use native.Mathlib.Omega.{arith}
 use lib.ListN.{length}
-use Rattle.lines.proofs.Numbers.{start, inside, next, finish}
+use Rattle.lines.proofs.Numbers.{inside, next, finish}
 use Rattle.lines.proofs.put_numbers.Goals.{After-field_end}
 use Rattle.lines.proofs.put_numbers.Goals as goal
 
@@ -11,9 +11,6 @@ in_out c =
     let head = c.loop-i in
     let small = c.type_inv.numbers head.i in
     inside head.invariant (omega arith) small.fits (c.put_decimal-mark.ensures.value, c.put_decimal-mark.ensures.out_after)
-
-pub loop-i-init : goal.loop-i-init
-loop-i-init c = start _ _ _ (omega arith)
 
 pub bounds-out-mark : goal.bounds-out-mark
 bounds-out-mark c = in_out (goal.at.bounds-out-mark c).After-field_end
@@ -26,9 +23,6 @@ loop-i-preserved c =
     let head = c.loop-i in
     let small = c.type_inv.numbers head.i in
     next head.invariant (omega arith) small.fits (c.put_decimal-mark.ensures.value, c.put_decimal-mark.ensures.out_after) c.field_end.ensures
-
-pub shape_of-out : goal.shape_of-out
-shape_of-out c = c.loop-i.invariant.writing.long
 
 pub returns : goal.returns
 returns c =
