@@ -1,27 +1,29 @@
--- `line_words::word` meets its contract: the part of the line from the word's start to its blank.
+-- `line_words::word` meets its contract: the parts between blanks are the words.
 -- Assumes nothing.
-use mathlib.Core.Path.{sym, ◌∙◌, ap}
-use Prim.Native.Nat.{ℕ, ◌-◌}
-use native.Mathlib.Omega.{arith}
-use lib.ListN.{take, drop}
-use Rattle.line_words.specs.inner.Scan.{blank_from}
-use Rattle.line_words.proofs.WordLaws.{first_past, first_within}
+use denote.Ref.{Bor}
+use Rattle.std.specs.List.{slice_get}
+use Rattle.std.proofs.Common.{◌≡◌, ◌∙◌, ℕ, zero, suc, Option, None, Some, option_map, unwrap_or, List, [], ◌∷◌, eqb, ap, refl, get_or, rules, tests}
+use Rattle.std.proofs.lemmas.Iterator.Consumers.{nth_from_yields_List}
+use Rattle.std.proofs.lemmas.Iterator.Splits.{YieldsList-from_slice_split}
+use Rattle.line_words.specs.Words.{blank, words_of, word_at}
+use Rattle.line_words.proofs.WordLaws.{words_split}
 use Rattle.line_words.proofs.word.Goals as goal
 
-pub returns-then-line-from : goal.returns-then-line-from
-returns-then-line-from c = sym (c.word_start-from.ensures ∙ first_past _ _ c.if-line-from.true)
+or_empty : (ws : List (List ℕ)) (i : ℕ) → unwrap_or (slice_get ws i) [] ≡ get_or ws i []
+or_empty [] i = refl
+or_empty (w ∷ ws) zero = refl
+or_empty (w ∷ ws) (suc i) = or_empty ws i
 
-pub slice_bounds-result-count : goal.slice_bounds-result-count
-unfolding blank_from
-slice_bounds-result-count c = omega (arith, c.word_end-end.ensures.value)
-
-pub slice_bounds-result-start : goal.slice_bounds-result-start
-unfolding blank_from
-slice_bounds-result-start c = omega (arith, c.word_end-end.ensures.value)
+-- the part that is given, or else an empty one
+chosen : (given : Option (Bor (List ℕ))) (i : ℕ) (ws : List (List ℕ)) (other : Bor (List ℕ)) → other.now ≡ []
+    → option_map (λ (x : Bor (List ℕ)). x.now) given ≡ slice_get ws i → (unwrap_or given other).now ≡ get_or ws i []
+chosen None i ws other none e = none ∙ ap (λ (o : Option (List ℕ)). unwrap_or o []) e ∙ or_empty ws i
+chosen (Some w) i ws other none e = ap (λ (o : Option (List ℕ)). unwrap_or o []) e ∙ or_empty ws i
 
 pub returns : goal.returns
+unfolding word_at
 returns c =
-    let from = c.word_start-from.result in
     let line = c.args.line.now in
-    ap (λ (k : ℕ). take (k - from) (drop from line)) c.word_end-end.ensures.value
-    ∙ sym (c.word_start-from.ensures ∙ first_within line from (omega arith))
+    let part = nth_from_yields_List _ _ _ c.nth.ensures.ran
+    (YieldsList-from_slice_split _ (λ b. eqb b blank) line c.split.ensures.rest c.split.ensures.done c.split.ensures.closure (λ x b q k. search (rules, tests))) in
+    rw c.unwrap_or.ensures (chosen c.nth.result c.args.i (words_of line) _ refl (rw words_split at part))
