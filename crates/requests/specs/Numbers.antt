@@ -1,31 +1,25 @@
 -- The numbers of a line of the yard's log: decimal, 1 to 6 digits, soft bits to 8, no leading zero.
 -- Assumes nothing.
-use Rattle.std.specs.Prelude.{Bool, true, false, cond, ◌&&◌, List, [], ◌∷◌, ℕ, zero, suc, eqb, ltb}
-use Rattle.lines.specs.declared.Line.{Line}
-use Rattle.lines.specs.declared.Line.TheVariants.{Read, Unreadable}
+use Rattle.std.specs.Prelude.{Bool, true, cond, ◌&&◌, Option, None, Some, is_some, unwrap_or, List, [], ◌∷◌, ℕ, zero, suc, eqb, ltb}
 use Rattle.lines.specs.Line.{line_of}
 use Rattle.line_words.specs.Words.{word_at}
 use Rattle.requests.specs.declared.Form.{Form}
 
-unfoldable pub is_number : Line → Bool
-is_number (Read n) = true
-is_number Unreadable = false
-
-unfoldable pub value_of : Line → ℕ
-value_of (Read n) = n
-value_of Unreadable = 0
-
 -- how many digits word i may have: soft bits more than the other numbers
 unfoldable pub digits_at : Form → ℕ → ℕ
-digits_at f i = cond (eqb i f.soft) 8 6
+digits_at f i = elim f.soft [ None ↦ 6 | Some s ↦ cond (eqb s i) 8 6 ]
+
+-- word i of a line as a number, or none where it says none
+unfoldable pub read_word : List ℕ → Form → ℕ → Option ℕ
+read_word l f i = line_of (digits_at f i) (word_at l i)
 
 -- word i of a line says a number
 unfoldable pub says_number : List ℕ → Form → ℕ → Bool
-says_number l f i = is_number (line_of (digits_at f i) (word_at l i))
+says_number l f i = is_some (read_word l f i)
 
 -- the number that word i says, 0 where it says none
 unfoldable pub number_at : List ℕ → Form → ℕ → ℕ
-number_at l f i = value_of (line_of (digits_at f i) (word_at l i))
+number_at l f i = unwrap_or (read_word l f i) 0
 
 -- n words from word i on say numbers
 unfoldable pub said_from : List ℕ → Form → ℕ → ℕ → Bool

@@ -1,6 +1,6 @@
 -- What a line of the yard's log asks for: a call with its numbers and the place of its BITS, or nothing, or what can't be read (number 15).
 -- Assumes nothing.
-use Rattle.std.specs.Prelude.{Bool, cond, not, ◌&&◌, ◌||◌, List, ◌++◌, map, ℕ, ◌+◌, ◌-◌, eqb, leb, ltb, length, drop, get_or, replicate}
+use Rattle.std.specs.Prelude.{Bool, cond, not, ◌&&◌, ◌||◌, Option, None, Some, List, ◌++◌, map, ℕ, ◌+◌, ◌-◌, eqb, leb, ltb, length, drop, get_or, replicate}
 use Rattle.line_words.specs.Words.{words_of, word_at, is_run, bit_of}
 use Rattle.requests.specs.declared.Verb.{Verb}
 use Rattle.requests.specs.declared.Verb.TheVariants.{Nothing, Unreadable}
@@ -30,18 +30,23 @@ right_bits l f = not f.bits || is_run (word_at l (f.numbers + 1))
 
 -- the line asks for a call
 unfoldable pub well_formed : List ℕ → Form → Bool
-well_formed l f = f.known && (right_words l f && (right_terminal l f && right_bits l f))
+well_formed l f = right_words l f && (right_terminal l f && right_bits l f)
 
 -- a request without numbers or bits
 unfoldable pub bare : Verb → Request
 bare v = record { verb = v; numbers = replicate {A = ℕ} 9 0; bits = 0 }
 
 -- a call's numbers, and the start of its last word if that is BITS, else the line's end
+abbrev pub call : List ℕ → Verb → Form → Request
+call l v f = record { verb = v; numbers = fields l f; bits = length l - length (word_at l (f.numbers + 1)) }
+
+-- the call with this verb, whose form is given, where there is one and the line has it
+unfoldable pub asked_by : List ℕ → Verb → Option Form → Request
+asked_by l v None = bare Unreadable
+asked_by l v (Some f) = cond (well_formed l f) (call l v f) (bare Unreadable)
+
 unfoldable pub asked_for : List ℕ → Verb → Request
-asked_for l v =
-    cond (well_formed l (form_of v))
-    (record { verb = v; numbers = fields l (form_of v); bits = length l - length (word_at l ((form_of v).numbers + 1)) })
-    (bare Unreadable)
+asked_for l v = asked_by l v (form_of v)
 
 -- what a line, without its newline, asks for
 unfoldable pub request_of : List ℕ → Request

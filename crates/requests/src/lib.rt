@@ -4,10 +4,8 @@
 mod verbs;
 
 ghost use Rattle.std.specs.Prelude.{◌≡◌, cond, ◌≤◌, leb, length};
-ghost use Rattle.requests.specs.Numbers.{digits_at, says_number, said_from, number_at, field, fields};
+ghost use Rattle.requests.specs.Numbers.{digits_at, read_word, says_number, said_from, number_at, field, fields};
 ghost use Rattle.requests.specs.Request.{is_silent, right_words, right_terminal, right_bits, well_formed, bare, asked_for, request_of, bits_from, bits_over};
-
-use lines::Line;
 
 // What a line asks for.
 #[derive(Clone, Copy)]
@@ -31,14 +29,13 @@ pub enum Verb {
     Unreadable,
 }
 
-// What follows a verb: so many numbers, the second of them a terminal or not, one of them soft bits (its word, 0 for none), and then
+// What follows a verb: so many numbers, the second of them a terminal or not, one of them soft bits (its word) or none, and then
 // BITS or not.
 #[derive(Clone, Copy)]
 pub struct Form {
-    pub known: bool,
     pub numbers: usize,
     pub terminal: bool,
-    pub soft: usize,
+    pub soft: Option<usize>,
     pub bits: bool,
 }
 
@@ -61,9 +58,8 @@ const SOFT_DIGITS: usize = 8;
 
 const MOST_TERMINAL: usize = 65535;
 
-const HASH: u8 = 35;
-
 // Reads a line, without its newline.
+#[tactic(auto, unfolding(crate::specs::Request::request_of))]
 pub fn read_request(line: &[u8]) -> Request
     ensures { result ≡ request_of line.now }
 {
@@ -77,33 +73,33 @@ pub fn read_request(line: &[u8]) -> Request
 }
 
 // The call that a line with this verb asks for.
+#[tactic(auto, using(line_words::proofs::WordLaws::word_short), unfolding(crate::specs::Request::asked_for, crate::specs::Request::asked_by))]
 fn asked_for(line: &[u8], verb: Verb) -> Request
     ensures { result ≡ asked_for line.now verb }
 {
-    let form = verbs::form_of(verb);
-    if !well_formed(line, form) {
-        return bare(Verb::Unreadable);
-    }
-    let last = line_words::word(line, form.numbers + 1);
-    let bits = line.len() - last.len();
-    Request {
-        verb,
-        numbers: fields(line, form),
-        bits,
+    match verbs::form_of(verb) {
+        Some(form) if well_formed(line, form) => {
+            let last = line_words::word(line, form.numbers + 1);
+            Request {
+                verb,
+                numbers: fields(line, form),
+                bits: line.len() - last.len(),
+            }
+        }
+        _ => bare(Verb::Unreadable),
     }
 }
 
 // An empty line and a comment ask for nothing.
+#[tactic(auto, unfolding(crate::specs::Request::is_silent))]
 fn is_silent(line: &[u8]) -> bool
     ensures { result ≡ is_silent line.now }
 {
-    if line.len() == 0 {
-        return true;
-    }
-    line[0] == HASH
+    line.is_empty() || line[0] == b'#'
 }
 
 // A request without numbers or bits.
+#[tactic(auto, unfolding(crate::specs::Request::bare))]
 fn bare(verb: Verb) -> Request
     ensures { result ≡ bare verb }
 {
@@ -115,28 +111,31 @@ fn bare(verb: Verb) -> Request
 }
 
 // Whether a line has the words that its verb asks for.
+#[tactic(auto, unfolding(crate::specs::Request::well_formed))]
 fn well_formed(line: &[u8], form: Form) -> bool
     requires { form.numbers ≤ 9 }
     ensures { result ≡ well_formed line.now form }
 {
-    form.known
-        && (right_words(line, form) && (right_terminal(line, form) && right_bits(line, form)))
+    right_words(line, form) && right_terminal(line, form) && right_bits(line, form)
 }
 
+#[tactic(auto, unfolding(crate::specs::Request::right_words))]
 fn right_words(line: &[u8], form: Form) -> bool
-    requires { form.numbers ≤ 9 }
     ensures { result ≡ right_words line.now form }
 {
-    line_words::word_count(line) == form.numbers + 1 + form.bits as usize
-        && said_from(line, form, 1, form.numbers)
+    let others = 1 + usize::from(form.bits);
+    line_words::word_count(line).checked_sub(others) == Some(form.numbers)
+        && says_numbers(line, form)
 }
 
+#[tactic(auto, unfolding(crate::specs::Request::right_terminal))]
 fn right_terminal(line: &[u8], form: Form) -> bool
     ensures { result ≡ right_terminal line.now form }
 {
     !form.terminal || number_at(line, form, 2) <= MOST_TERMINAL
 }
 
+#[tactic(auto, unfolding(crate::specs::Request::right_bits))]
 fn right_bits(line: &[u8], form: Form) -> bool
     requires { form.numbers ≤ 9 }
     ensures { result ≡ right_bits line.now form }
@@ -144,54 +143,51 @@ fn right_bits(line: &[u8], form: Form) -> bool
     !form.bits || line_words::is_run(line_words::word(line, form.numbers + 1))
 }
 
-// Whether n words from word i on say numbers.
-fn said_from(line: &[u8], form: Form, i: usize, n: usize) -> bool
-    requires { (i ≤ 9) × (n ≤ 9) }
-    ensures { result ≡ said_from line.now form i n }
+// Whether the words behind the verb say its numbers.
+fn says_numbers(line: &[u8], form: Form) -> bool
+    ensures { result ≡ said_from line.now form 1 form.numbers }
 {
-    let mut at = i;
-    let end = i + n;
-    while at < end {
-        if !says_number(line, form, at) {
-            return false;
-        }
-        at += 1;
-    }
-    true
+    (0..form.numbers).all(|i| says_number(line, form, i + 1))
 }
 
 // How many digits word i may have.
+#[tactic(auto, unfolding(crate::specs::Numbers::digits_at))]
 fn digits_at(form: Form, i: usize) -> usize
     ensures { result ≡ digits_at form i }
 {
-    if i == form.soft {
+    if form.soft == Some(i) {
         SOFT_DIGITS
     } else {
         MOST_DIGITS
     }
 }
 
+// What word i says where it is read as a number.
+#[tactic(auto, unfolding(crate::specs::Numbers::read_word))]
+fn read_word(line: &[u8], form: Form, i: usize) -> Option<usize>
+    ensures { result ≡ read_word line.now form i }
+{
+    lines::read_number(line_words::word(line, i), digits_at(form, i))
+}
+
 // Whether word i says a number.
+#[tactic(auto, unfolding(crate::specs::Numbers::says_number))]
 fn says_number(line: &[u8], form: Form, i: usize) -> bool
     ensures { result ≡ says_number line.now form i }
 {
-    match lines::read_number(line_words::word(line, i), digits_at(form, i)) {
-        Line::Read(_) => true,
-        Line::Unreadable => false,
-    }
+    read_word(line, form, i).is_some()
 }
 
 // The number that word i says, 0 where it says none.
+#[tactic(auto, unfolding(crate::specs::Numbers::number_at))]
 fn number_at(line: &[u8], form: Form, i: usize) -> usize
     ensures { result ≡ number_at line.now form i }
 {
-    match lines::read_number(line_words::word(line, i), digits_at(form, i)) {
-        Line::Read(n) => n,
-        Line::Unreadable => 0,
-    }
+    read_word(line, form, i).unwrap_or(0)
 }
 
 // Number i of a line, 0 where its form has fewer: words behind its numbers are not looked at, since BITS may be long.
+#[tactic(auto, unfolding(crate::specs::Numbers::field))]
 fn field(line: &[u8], form: Form, i: usize) -> usize
     ensures { result ≡ field line.now form i }
 {
@@ -203,20 +199,11 @@ fn field(line: &[u8], form: Form, i: usize) -> usize
 }
 
 // The numbers of a line.
+#[tactic(auto, unfolding(crate::specs::Numbers::fields))]
 fn fields(line: &[u8], form: Form) -> [usize; 9]
     ensures { result ≡ fields line.now form }
 {
-    [
-        field(line, form, 1),
-        field(line, form, 2),
-        field(line, form, 3),
-        field(line, form, 4),
-        field(line, form, 5),
-        field(line, form, 6),
-        field(line, form, 7),
-        field(line, form, 8),
-        field(line, form, 9),
-    ]
+    std::array::from_fn(|i| field(line, form, i + 1))
 }
 
 // Writes the bits that the line's digits from place `from` on stand for to the start of out, and answers how many they are; where
@@ -225,17 +212,12 @@ pub fn read_bits(line: &[u8], from: usize, out: &mut [u8]) -> usize
     ensures value { result ≡ cond (leb (length (bits_from line.now from)) (length out.old)) (length (bits_from line.now from)) 0 }
     ensures out_after { out.new ≡ bits_over line.now from out.old }
 {
-    if line.len() < from {
+    let digits = &line[from.min(line.len())..];
+    if out.len() < digits.len() {
         return 0;
     }
-    let count = line.len() - from;
-    if out.len() < count {
-        return 0;
+    for (i, digit) in digits.iter().enumerate() {
+        out[i] = line_words::bit_of(*digit);
     }
-    let mut i = 0;
-    while i < count {
-        out[i] = line_words::bit_of(line[from + i]);
-        i += 1;
-    }
-    count
+    digits.len()
 }
