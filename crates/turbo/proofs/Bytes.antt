@@ -2,14 +2,13 @@
 -- Assumes nothing.
 use mathlib.Core.Path.{◌≡◌, sym, ◌∙◌, ap, ap₂}
 use mathlib.Core.List.{List, [], ◌∷◌, ◌++◌, append-nil}
-use Prim.Native.Nat.{ℕ, zero, suc, ◌+◌, ◌*◌, ◌/◌, ◌%◌, ◌^◌, ◌≤◌, ◌<◌}
-use native.Mathlib.Nat.{zero-add, add-zero, mod-lt, mod-eq_of_lt, suc-add, add-mul-div_right, add-mul-mod_self_right, add_comm}
+use Prim.Native.Nat.{ℕ, zero, suc, ◌+◌, ◌*◌, ◌/◌, ◌%◌, ◌^◌, ◌<◌}
+use native.Mathlib.Nat.{zero-add, add-zero, mod-lt, suc-add, add-mul-div_right, add-mul-mod_self_right, add_comm}
 use native.Mathlib.Omega.{arith}
-use lib.Arith.{digits_lt}
-use lib.Bits.{bit_or, or_shifted_r}
-use lib.ListN.{length, get_or, take, drop, drop_of_length-le}
-use lib.Pow.{pow-add, pow_pos, shl_exact, shr_lt, shr-shr, split}
-use lib.Seq.{drop-cons, drop-drop, take-add, sets, sets-eq}
+use lib.ListN.{length, get_or}
+use lib.Pow.{pow-add, pow_pos, shr_lt, shr-shr, split}
+use Rattle.std.specs.Int.{to_le_bytes, from_le_bytes, w64}
+use Rattle.std.proofs.lemmas.Nat.{le_bytes_8}
 use Rattle.turbo.specs.inner.Eight.{bytes_of}
 
 one_more : (n : ℕ) → 2 ^ (suc n * 8) ≡ 2 ^ (n * 8) * 2 ^ 8
@@ -39,29 +38,7 @@ bytes_of_mod n w =
     sym (append-nil (bytes_of n (w % 2 ^ (n * 8)))) ∙ sym (bytes_of_join n 0 (w / 2 ^ (n * 8)) (w % 2 ^ (n * 8)) (mod-lt w (pow_pos (n * 8))))
     ∙ ap₂ bytes_of (add-zero n) (split w (n * 8))
 
--- ---- bytes gathered from a list
-
--- a byte alone
-pub one_byte : (bits : List ℕ) (from : ℕ) → from < length bits → get_or bits from 0 < 2 ^ 8 → bytes_of 1 (get_or bits from 0) ≡ take 1 (drop from bits)
-unfolding bytes_of
-one_byte bits from h b = ap (λ (x : ℕ). x ∷ []) (mod-eq_of_lt b) ∙ rw (drop-cons bits from 0 h)
-
--- j bytes, and i above them, by `|` and `<<`
-pub joined : (bits : List ℕ) (j i from : ℕ) {x y : ℕ} → i + j ≤ 8
-    → (x < 2 ^ (j * 8)) × (bytes_of j x ≡ take j (drop from bits)) → (y < 2 ^ (i * 8)) × (bytes_of i y ≡ take i (drop (from + j) bits))
-    → (bit_or x (y * 2 ^ (j * 8) % 2 ^ 64) < 2 ^ (i * 8 + j * 8)) × (bytes_of (j + i) (bit_or x (y * 2 ^ (j * 8) % 2 ^ 64)) ≡ take (j + i) (drop from bits))
-joined bits j i from {x} {y} l hx hy = (
-  rw (sum, pow-add) (digits_lt hy.0 hx.0),
-  ap (bytes_of (j + i)) sum
-      ∙ bytes_of_join j i y x hx.0
-      ∙ ap₂ ◌++◌ hx.1 (hy.1 ∙ sym (ap (take i) (drop-drop j from bits)))
-      ∙ sym (take-add j i (drop from bits)),
-)
-  where
-    sum : bit_or x (y * 2 ^ (j * 8) % 2 ^ 64) ≡ y * 2 ^ (j * 8) + x
-    sum = ap (bit_or x) (shl_exact (i * 8) (j * 8) 64 hy.0 (omega arith)) ∙ or_shifted_r y (j * 8) x hx.0
-
--- ---- bytes written over a list
+-- ---- the library's eight bytes
 
 -- the eight bytes of a number by shifts
 abbrev pub shifted : ℕ → List ℕ
@@ -80,8 +57,10 @@ by_shifts : (w : ℕ) → bytes_of 8 w ≡ shifted w
 unfolding bytes_of
 by_shifts w = rw (shr-shr w 8 8, shr-shr w 16 8, shr-shr w 24 8, shr-shr w 32 8, shr-shr w 40 8, shr-shr w 48 8)
 
--- eight stores over a list of eight
-pub eight_stored : (bits : List ℕ) (w : ℕ) → length bits ≡ 8 → sets bits 0 (shifted w) ≡ bytes_of 8 w
-eight_stored bits w l =
-    sets-eq (shifted w) bits 0 (omega arith)
-    ∙ ap (λ (r : List ℕ). shifted w ++ r) (drop_of_length-le bits {i = 8} (omega arith)) ∙ append-nil (shifted w) ∙ sym (by_shifts w)
+-- those that it writes
+pub written : (w : ℕ) → to_le_bytes w64 w ≡ bytes_of 8 w
+written w = sym (by_shifts w)
+
+-- those of the number that it reads
+pub word_is : (bits : List ℕ) (w : ℕ) → length bits ≡ 8 → ((i : ℕ) → get_or bits i 0 < 256) → w ≡ from_le_bytes w64 bits → bytes_of 8 w ≡ bits
+word_is bits w l h e = sym (written w) ∙ le_bytes_8 bits w l h e

@@ -40,6 +40,10 @@ pub begin : (bits : List ℕ) → InEights bits bits 0 0
 unfolding start registers_of parities after
 begin bits = record { within = omega arith; long = refl; small = lit< tt; outputs = refl; registers = refl }
 
+-- the place said in another way
+pub moved : {bits₀ bits : List ℕ} {held i j : ℕ} → i ≡ j → InEights bits₀ bits held i → InEights bits₀ bits held j
+moved e p = rw e at p
+
 eight_more : (i : ℕ) → (i + 8) - i ≡ 8
 eight_more i = omega arith
 
@@ -79,18 +83,6 @@ module _ {bits₀ bits : List ℕ} {held i : ℕ} (p : InEights bits₀ bits hel
 
       back : drop (i + 8) bits ≡ drop (i + 8) bits₀
       back = sym (drop-drop 8 i bits) ∙ ap (drop 8) rest ∙ drop-drop 8 i bits₀
-
--- ---- how far it goes
-
--- where the loop ends: at a multiple of eight within both lengths
-pub record Ending (m n end : ℕ) : Type 0 where
-  pub whole : end % 8 ≡ 0
-  pub one : end ≤ m
-  pub two : end ≤ n
-
-pub eights_end : (m n : ℕ) → Ending m n (eights m n)
-unfolding eights
-eights_end m n = record { whole = omega arith; one = omega arith; two = omega arith }
 
 -- ---- two streams of K + 4 places that begin with the K input bits: K is a multiple of eight, so all of them are encoded
 

@@ -1,6 +1,6 @@
 -- What a call of the encoder asks of its arguments and what its parts leave in a stream, for the streams of clause 5.1.3.2.
 -- Assumes nothing.
-use Rattle.std.specs.Prelude.{Bool, ◌&&◌, List, ◌++◌, ◌≡◌, ℕ, ◌+◌, ◌-◌, ◌≤◌, ◌<◌, eqb, ltb, leb, length, take}
+use Rattle.std.specs.Prelude.{Bool, ◌&&◌, List, [], ◌∷◌, ◌++◌, ◌≡◌, ℕ, ◌+◌, ◌-◌, ◌≤◌, ◌<◌, eqb, ltb, leb, length, take}
 use Rattle.interleaver.specs.Table.{row_count, size_at}
 use Rattle.turbo.specs.declared.Registers.{Registers}
 use Rattle.turbo.specs.declared.Tail.{Tail}
@@ -30,7 +30,7 @@ fit row F d0 d1 d2 = encodable row F (length d0) (length d1) (length d2)
 
 -- the six tail bits of an encoder, from the registers after the K input bits
 unfoldable pub tail_of : Registers → Tail
-tail_of s = record { x0 = x_tail 0 s; x1 = x_tail 1 s; x2 = x_tail 2 s; z0 = z_tail 0 s; z1 = z_tail 1 s; z2 = z_tail 2 s }
+tail_of s = record { x = x_tail 0 s ∷ x_tail 1 s ∷ x_tail 2 s ∷ []; z = z_tail 0 s ∷ z_tail 1 s ∷ z_tail 2 s ∷ [] }
 
 -- a stream d that is complete but for its filler places and its last four places
 unfoldable pub completed : ℕ → List ℕ → List ℕ → List ℕ

@@ -26,19 +26,20 @@ pub struct Registers {
 // The tail bits of a constituent encoder: x_K, x_K+1, x_K+2 and z_K, z_K+1, z_K+2.
 #[derive(Clone, Copy)]
 pub struct Tail {
-    pub x0: u8,
-    pub x1: u8,
-    pub x2: u8,
-    pub z0: u8,
-    pub z1: u8,
-    pub z2: u8,
+    pub x: [u8; 3],
+    pub z: [u8; 3],
 }
 
-// The tails of the first and the second encoder.
-#[derive(Clone, Copy)]
-pub struct Tails {
-    pub first: Tail,
-    pub second: Tail,
+impl Registers {
+    // The tail from the registers after the last bit. The input is the feedback, so a zero enters at each of the three steps.
+    fn tail(self) -> Tail
+        ensures { result ≡ tail_of self }
+    {
+        Tail {
+            x: [self.d2 ^ self.d3, self.d1 ^ self.d2, self.d1],
+            z: [self.d1 ^ self.d3, self.d2, self.d1],
+        }
+    }
 }
 
 // Whether slices of these lengths are for the streams of a code block of the row's size, and its filler is within it.
@@ -52,57 +53,28 @@ fn is_encodable(row: usize, filler: usize, n0: usize, n1: usize, n2: usize) -> b
     table::has_size(row, k) & (filler <= k) & (n1 == n0) & (n2 == n0)
 }
 
-// The tail from the registers after the last bit. The input is the feedback, so a zero enters at each of the three steps.
-fn tail_of(s: Registers) -> Tail
-    ensures { result ≡ tail_of s }
-{
-    Tail {
-        x0: s.d2 ^ s.d3,
-        x1: s.d1 ^ s.d2,
-        x2: s.d1,
-        z0: s.d1 ^ s.d3,
-        z1: s.d2,
-        z2: s.d1,
-    }
-}
-
-// Sets the first `count` places to <NULL>.
-fn set_absent(d: &mut [u8], count: usize)
-    requires { count ≤ length d.old }
-    ensures { d.new ≡ without_filler count d.old }
-{
-    let mut i = 0;
-    while i < count {
-        d[i] = NULL;
-        i += 1;
-    }
-}
-
 // Puts the tail at the end of a stream and sets its filler places to <NULL>.
 fn complete(d: &mut [u8], filler: usize, tail: [u8; 4])
     requires { filler + 4 ≤ length d.old }
     ensures { d.new ≡ completed filler d.old tail }
 {
     let k = d.len() - 4;
-    octets::copy(&tail, &mut d[k..]);
-    set_absent(d, filler);
+    d[k..].copy_from_slice(&tail);
+    d[..filler].fill(NULL);
 }
 
 // Both encoders, the second with the bits in the interleaver's order: their outputs at the fronts of `d1` and `d2`.
-fn encode_parities(row: usize, c: &[u8], d1: &mut [u8], d2: &mut [u8]) -> Tails
+fn encode_parities(row: usize, c: &[u8], d1: &mut [u8], d2: &mut [u8]) -> (Tail, Tail)
     requires { (row < row_count) × (length c.now ≡ size_at row) × (length d1.old ≡ length c.now + 4) × (length d2.old ≡ length c.now + 4) }
     ensures first { d1.new ≡ parities start c.now ++ drop (length c.now) d1.old }
     ensures second { d2.new ≡ parities start (interleaved row c.now) ++ drop (length c.now) d2.old }
-    ensures tails { (result.first ≡ tail_of (first_end c.now)) × (result.second ≡ tail_of (second_end row c.now)) }
+    ensures tails { (result.0 ≡ tail_of (first_end c.now)) × (result.1 ≡ tail_of (second_end row c.now)) }
 {
     let k = c.len();
-    octets::copy(c, d1);
+    d1[..k].copy_from_slice(c);
     block::interleave(row, c, &mut d2[..k]);
-    let ends = steps::encode_both(d1, d2);
-    Tails {
-        first: tail_of(ends.first),
-        second: tail_of(ends.second),
-    }
+    let (first, second) = steps::encode_both(d1, d2);
+    (first.tail(), second.tail())
 }
 
 // The three streams, where all lengths are right. Filler is absent from streams 0 and 1; stream 2 holds a bit at every place.
@@ -113,12 +85,18 @@ fn encode_streams(row: usize, filler: usize, d0: &mut [u8], d1: &mut [u8], d2: &
     ensures third { d2.new ≡ stream2 row (block_in d0.old) }
 {
     let k = d0.len() - 4;
-    let tails = encode_parities(row, &d0[..k], d1, d2);
-    let first = tails.first;
-    let second = tails.second;
-    complete(d0, filler, [first.x0, first.z1, second.x0, second.z1]);
-    complete(d1, filler, [first.z0, first.x2, second.z0, second.x2]);
-    complete(d2, 0, [first.x1, first.z2, second.x1, second.z2]);
+    let (first, second) = encode_parities(row, &d0[..k], d1, d2);
+    complete(
+        d0,
+        filler,
+        [first.x[0], first.z[1], second.x[0], second.z[1]],
+    );
+    complete(
+        d1,
+        filler,
+        [first.z[0], first.x[2], second.z[0], second.x[2]],
+    );
+    complete(d2, 0, [first.x[1], first.z[2], second.x[1], second.z[2]]);
 }
 
 // Writes the three streams of the code block of a row's size that stands at the front of `d0`, whose first `filler` bits are filler; stream 0

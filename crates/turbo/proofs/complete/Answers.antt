@@ -1,12 +1,10 @@
--- `turbo::complete` meets its contract: `copy` puts the tail over the last four places and `set_absent` sets the filler places.
--- Assumes nothing.
+-- The tail is put over the last four places, and the filler places are set.
 use mathlib.Core.Path.{◌∙◌}
 use native.Mathlib.Omega.{arith}
-use Rattle.octets.proofs.Copied.{over}
-use Rattle.std.proofs.lemmas.Grind.{common_steps}
-use Rattle.turbo.proofs.Completing.{completing}
+use Rattle.turbo.proofs.Completing.{completing, set_absent}
 use Rattle.turbo.proofs.complete.Goals as goal
 
 pub returns : goal.returns
 returns c =
-    c.set_absent.ensures ∙ completing c.args.filler c.args.d.now c.args.tail c.requires (omega (arith, c.well_formed)) (over _ _ c.copy.ensures (grind (arith, common_steps)))
+    set_absent c.args.filler _ (omega arith) (c.fill.ensures.after (λ y e. e))
+    ∙ completing c.args.filler c.args.d.now c.args.tail c.requires (omega (arith, c.well_formed)) c.copy_from_slice.ensures.after

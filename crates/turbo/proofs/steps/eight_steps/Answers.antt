@@ -1,18 +1,21 @@
--- `turbo::steps::eight_steps` meets its contract.
--- Assumes nothing.
-use mathlib.Core.Path.{◌≡◌, sym, ◌∙◌}
-use Prim.Native.Nat.{◌/◌, ◌^◌, ◌<◌}
+-- The number that is written is the eight steps' output (`Stepping`).
+use mathlib.Core.Path.{sym, ◌∙◌, ap₂}
+use mathlib.Core.List.{◌++◌, append-nil}
 use native.Mathlib.Omega.{arith}
-use lib.Pow.{shr_lt}
-use Rattle.laws.specs.Bits.{◌⊕◌}
-use Rattle.turbo.specs.inner.Eight.{shl, times}
+use lib.ListN.{drop_of_length-le}
+use Rattle.turbo.specs.inner.Eight.{shl}
+use Rattle.turbo.proofs.Bytes.{written}
 use Rattle.turbo.proofs.Stepping.{eight_outputs, eight_after}
 use Rattle.turbo.proofs.steps.eight_steps.Goals as goal
 
-pub returns : goal.returns
+pub returns-clause-outputs : goal.returns-clause-outputs
 unfolding shl
-returns c =
+returns-clause-outputs c =
     let a = c.args in
-    let told : times 16 24 c.divided-entering.result ≡ c.eight.result ⊕ a.held ⊕ a.held / 2 ^ 8 = c.divided-entering.ensures in
-    let fits : c.divided-entering.result < 2 ^ 64 = omega arith in
-    let small : a.held < 2 ^ 24 = c.requires.0 in record { small = shr_lt 24 40 fits; outputs = c.put_eight.ensures ∙ sym (eight_outputs a.held c.divided-entering.result small fits c.eight.result told c.eight.ensures); registers = sym (eight_after a.held c.divided-entering.result small fits c.eight.result told c.eight.ensures) }
+    ap₂ ◌++◌ (c.to_le_bytes.ensures ∙ written _) (drop_of_length-le a.bits.now {i = 8} (omega arith))
+    ∙ append-nil _
+    ∙ sym (eight_outputs a.held c.divided-entering.result c.requires.0 (omega arith) c.word_of.result c.divided-entering.ensures c.word_of.ensures)
+
+pub returns-clause-registers : goal.returns-clause-registers
+returns-clause-registers c =
+    sym (eight_after c.args.held c.divided-entering.result c.requires.0 (omega arith) c.word_of.result c.divided-entering.ensures c.word_of.ensures)

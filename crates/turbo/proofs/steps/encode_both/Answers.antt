@@ -1,51 +1,39 @@
-use mathlib.Core.Path.{◌≡◌, refl, ◌∙◌, ap}
-use Prim.Native.Nat.{ℕ}
+-- Eight bytes of each stream a turn.
+use mathlib.Core.Path.{◌≡◌, ◌∙◌, ap}
+use Prim.Native.Nat.{ℕ, ◌*◌, ◌+◌}
 use native.Mathlib.Omega.{arith}
-use Rattle.turbo.specs.inner.Eight.{reach, encoded_front, front_end}
-use Rattle.turbo.proofs.InEights.{begin, lent, turn, eights_end}
+use Rattle.turbo.specs.inner.Eight.{reach, eights, encoded_front, front_end}
+use Rattle.turbo.proofs.InEights.{begin, turn, moved}
+use Rattle.turbo.proofs.steps.encode_both.Goals.{After-loop-turn}
 use Rattle.turbo.proofs.steps.encode_both.Goals as goal
 
-pub loop-i-init : goal.loop-i-init
-loop-i-init c = (begin _, begin _, rw c.whole_eights-end.ensures (eights_end _ _), refl, omega arith)
+pub loop-turn-init : goal.loop-turn-init
+loop-turn-init c = (begin _, begin _)
 
-pub eight_steps-s-requires : goal.eight_steps-s-requires
-eight_steps-s-requires c =
-    let p = c.loop-i.invariant in
-    (omega arith, lent p.0 (omega arith))
-
-pub eight_steps-t-requires : goal.eight_steps-t-requires
-eight_steps-t-requires c =
-    let p = c.loop-i.invariant in
-    (omega arith, lent p.1 (omega arith))
-
-pub loop-i-preserved : goal.loop-i-preserved
-loop-i-preserved c =
-    let second = c.eight_steps-t.ensures in
+pub loop-turn-preserved : goal.loop-turn-preserved
+loop-turn-preserved c =
+    let p = c.loop-turn.invariant in
     let first = c.eight_steps-s.ensures in
-    let p = c.loop-i.invariant in (
-      turn p.0 (omega arith) c.eight_steps-s.ensures.small c.eight_steps-s.ensures.outputs c.eight_steps-s.ensures.registers,
-      turn p.1 (omega arith) c.eight_steps-t.ensures.small c.eight_steps-t.ensures.outputs c.eight_steps-t.ensures.registers,
-      p.2,
-      omega arith,
-      omega arith,
+    let second = c.eight_steps-t.ensures in
+    let on : 8 * c.loop-turn.turn + 8 ≡ 8 * (c.loop-turn.turn + 1) = omega arith in (
+      moved on (turn p.0 (omega arith) first.small first.outputs first.registers),
+      moved on (turn p.1 (omega arith) second.small second.outputs second.registers),
     )
 
-pub shape_of-first : goal.shape_of-first
-shape_of-first c = c.loop-i.invariant.0.long
+-- the loop ends where both streams have no eight bytes more
+all : (c : After-loop-turn) → 8 * c.loop-turn.turn ≡ reach c.args.first.now c.args.second.now
+unfolding eights
+all c = omega arith
 
-pub shape_of-second : goal.shape_of-second
-shape_of-second c = c.loop-i.invariant.1.long
+pub returns-clause-one : goal.returns-clause-one
+returns-clause-one c = c.loop-turn.invariant.0.outputs ∙ ap (λ (n : ℕ). encoded_front n c.args.first.now) (all (goal.at.returns-clause-one c).After-loop-turn)
 
-pub returns : goal.returns
-returns c =
-    let a = c.args in
-    let one = c.loop-i.invariant.0 in
-    let two = c.loop-i.invariant.1 in
-    let all : c.loop-i.i ≡ reach a.first.now a.second.now = omega arith in record {
-      one = one.outputs ∙ ap (λ (n : ℕ). encoded_front n a.first.now) all;
-      two = two.outputs ∙ ap (λ (n : ℕ). encoded_front n a.second.now) all;
-      ends = (
-        c.registers_of.ensures ∙ one.registers ∙ ap (λ (n : ℕ). front_end n a.first.now) all,
-        c.registers_of-2.ensures ∙ two.registers ∙ ap (λ (n : ℕ). front_end n a.second.now) all,
-      );
-    }
+pub returns-clause-two : goal.returns-clause-two
+returns-clause-two c = c.loop-turn.invariant.1.outputs ∙ ap (λ (n : ℕ). encoded_front n c.args.second.now) (all (goal.at.returns-clause-two c).After-loop-turn)
+
+pub returns-clause-ends : goal.returns-clause-ends
+returns-clause-ends c =
+    let whole = all (goal.at.returns-clause-ends c).After-loop-turn in (
+      c.registers_of.ensures ∙ c.loop-turn.invariant.0.registers ∙ ap (λ (n : ℕ). front_end n c.args.first.now) whole,
+      c.registers_of-2.ensures ∙ c.loop-turn.invariant.1.registers ∙ ap (λ (n : ℕ). front_end n c.args.second.now) whole,
+    )
