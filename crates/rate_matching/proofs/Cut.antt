@@ -24,7 +24,7 @@ use Rattle.turbo.proofs.Streams.{past_filler}
 use Rattle.rate_matching.specs.Places.{longest, circle_place, place_number, place_of, stream_of, entry_of, InStreams}
 use Rattle.rate_matching.specs.Walk.{on_circle, holds_bit, is_bit, itself, turn, turn_after_turn, sent_places}
 use Rattle.rate_matching.specs.Shape.{blank, shape, bit_places, second, pair_places, last_place}
-use Rattle.rate_matching.specs.Units.{unit_start, start_unit, whole_units, rest_places, unit_within, pair_unit, no_unit, alone_count, bits_before}
+use Rattle.rate_matching.specs.Units.{unit_start, start_unit, whole_units, rest_places, unit_at, pair_unit, alone_count, bits_before}
 use Rattle.rate_matching.proofs.Columns.{column_rule}
 use Rattle.rate_matching.proofs.Places.{dummies_add, place_lt, held_place}
 use Rattle.rate_matching.proofs.Matrix.{pair_head}
@@ -32,7 +32,7 @@ use Rattle.rate_matching.proofs.Walk.{get_or_map, turn_pos, turn_lt}
 use Rattle.rate_matching.proofs.Circle.{circle_holds, eighths, start_below}
 use Rattle.rate_matching.proofs.ShapeTurn.{bit_places_none, turn_parts, blanks, stream, length_shape}
 use Rattle.rate_matching.proofs.ShapeColumns.{bit_places_split, pair_places_lem}
-use Rattle.rate_matching.proofs.UnitPlaces.{unit_there, unit_none, unit_high}
+use Rattle.rate_matching.proofs.UnitPlaces.{unit_high}
 use Rattle.rate_matching.proofs.Units.{some_dummies, high_start, high_next, starts_rise, unit_last, unit_of_lem}
 
 -- ---- where the cut lies
@@ -80,6 +80,13 @@ module _ {Ncb R : ℕ} (cut : Cut Ncb R) where
   whole_all e = elim (dec_lt (whole_units Ncb R) 64) [
     | yes l ↦ absurd (omega (arith, cut_place, rest_few, next_start, unit_last R, starts_rise R (whole_units Ncb R + 1) 64 (omega arith)))
     | no l ↦ omega (arith, whole_most)
+  ]
+
+  -- and one is left where it is
+  pub whole_left : (Ncb ≡ circle_length R → ⊥) → whole_units Ncb R < 64
+  whole_left h = elim (dec_lt (whole_units Ncb R) 64) [
+    | yes l ↦ l
+    | no l ↦ absurd (h (omega (arith, cut_place, cut.most, unit_last R, starts_rise R 64 (whole_units Ncb R) (omega arith))))
   ]
 
   -- k0 is the head of a unit
@@ -178,14 +185,23 @@ module _ (e f last : ℕ) (alone : e ≤ f) (after : 2 * f ≤ last) where
 
 -- ---- the unit that is cut
 
--- a unit without places has none before it
-none_before : (n : ℕ) → bits_before no_unit (circle_place n) ≡ 0
-unfolding bits_before no_unit alone_count
-none_before n = go (ltb 0 n) refl
+-- of the unit behind the last none lies before a cut
+none_before : (D F n : ℕ) → n ≤ circle_length (rows D) → bits_before (pair_unit D F 32) (circle_place n) ≡ 0
+unfolding bits_before pair_unit alone_count second circle_length
+none_before D F n h = rw (pair_head (rows D) 32) (go _ refl)
   where
-    go : (t : Bool) → ltb 0 n ≡ t → cond {A = ℕ} t (1 / 2 + (min 0 n - 0)) ((n + 1 - 0) / 2) ≡ 0
-    go true z = omega arith
-    go false z = omega (arith, ltb-false 0 n z)
+    e : ℕ
+    e = rows_before (dummies D) (column 32 + 1)
+
+    b : ℕ
+    b = 32 * rows D + 32 * (2 * rows D) + 2 * rows_before (dummies D + F) (column 32)
+
+    go : (t : Bool) → ltb b n ≡ t
+        → cond {A = ℕ} t ((b + 1 - (32 * rows D + 32 * (2 * rows D) + (2 * e + 1))) / 2 + (min (32 * rows D + 32 * (2 * rows D) + last_place (rows D) (column 32)) n - b))
+        ((n + 1 - (32 * rows D + 32 * (2 * rows D) + (2 * e + 1))) / 2)
+        ≡ 0
+    go true z = absurd (omega (arith, ltb-true b n z))
+    go false z = omega arith
 
 further : (j a b n : ℕ) → min (j + a) (j + b) - (j + n) ≡ min a b - n
 further j a b n = omega arith
@@ -295,7 +311,7 @@ turn_cut w n k0 h l =
 -- the unit that is cut, and how many of its bits lie before the cut
 module _ (D F : ℕ) (some : D % 8 ≡ 4) (few : F < D) (most : D ≤ longest) {Ncb : ℕ} (cut : Cut Ncb (rows D)) where
   abbrev pub rest_bits : ℕ
-  rest_bits = bits_before (unit_within D F (whole_units Ncb (rows D))) (circle_place Ncb)
+  rest_bits = bits_before (unit_at D F (whole_units Ncb (rows D))) (circle_place Ncb)
 
   abbrev shortened : List ℕ
   shortened = bit_places (shape D F) (unit_start (rows D) (whole_units Ncb (rows D))) Ncb
@@ -310,8 +326,8 @@ module _ (D F : ℕ) (some : D % 8 ≡ 4) (few : F < D) (most : D ≤ longest) {
     here : 32 * rows D + c * (2 * rows D) + rest_places Ncb (rows D) ≡ Ncb
     here = ap (λ (n : ℕ). n + rest_places Ncb (rows D)) (sym start) ∙ cut_place cut
 
-    pub cut_unit : unit_within D F (whole_units Ncb (rows D)) ≡ pair_unit D F c
-    cut_unit = unit_there most few l ∙ unit_high D F (whole_least cut)
+    pub cut_unit : unit_at D F (whole_units Ncb (rows D)) ≡ pair_unit D F c
+    cut_unit = unit_high D F (whole_least cut)
 
     counts : bits_before (pair_unit D F c) (circle_place (32 * rows D + c * (2 * rows D) + rest_places Ncb (rows D))) ≡ rest_bits
     counts = ap₂ (λ (U : Unit) (n : ℕ). bits_before U (circle_place n)) (sym cut_unit) here
@@ -320,7 +336,9 @@ module _ (D F : ℕ) (some : D % 8 ≡ 4) (few : F < D) (most : D ≤ longest) {
   no_rest l = elim (dec_lt 0 (rest_places Ncb (rows D))) [ yes h ↦ absurd (omega (arith, rest_before cut h)) | no h ↦ omega arith ]
 
   pub none_cut : 64 ≤ whole_units Ncb (rows D) → rest_bits ≡ 0
-  none_cut l = ap (λ (U : Unit). bits_before U (circle_place Ncb)) (unit_none D F l) ∙ none_before Ncb
+  none_cut l =
+      let last : whole_units Ncb (rows D) - 32 ≡ 32 = omega (arith, whole_most cut) in
+      ap (λ (U : Unit). bits_before U (circle_place Ncb)) (unit_high D F (whole_least cut) ∙ ap (pair_unit D F) last) ∙ none_before D F Ncb cut.most
 
   pub shortened_count : length shortened ≡ rest_bits
   shortened_count = elim (dec_lt (whole_units Ncb (rows D)) 64) [

@@ -20,7 +20,7 @@ use Rattle.rate_matching.specs.Circle.{circle_length, Cut, cut_at, start_in}
 use Rattle.rate_matching.specs.Places.{longest}
 use Rattle.rate_matching.specs.Shape.{shape, bit_places}
 use Rattle.rate_matching.specs.Walk.{holds_bit, itself, turn}
-use Rattle.rate_matching.specs.Units.{unit_within, pair_unit, alone_place, alone_count, both_count, unit_places, bits_before, unit_start, whole_units, Lies}
+use Rattle.rate_matching.specs.Units.{unit_at, pair_unit, alone_place, alone_count, both_count, unit_places, bits_before, unit_start, whole_units, Lies}
 use Rattle.rate_matching.specs.Turns.{matchable, turn_length}
 use Rattle.rate_matching.proofs.Places.{dummies_add}
 use Rattle.rate_matching.proofs.Circle.{start_below}
@@ -112,7 +112,7 @@ module _ {D F : ℕ} (most : D ≤ longest) (few : F < D) (some : D % 8 ≡ 4) w
       ap length (bit_places_split (shape D F) 0 n m (omega arith) h) ∙ length-append (bit_places (shape D F) 0 m) (bit_places (shape D F) m n)
 
   -- a unit more
-  pub one_unit : (u : ℕ) {U : Unit} → U ≡ unit_within D F u → u < 64 → units_to (u + 1) ≡ units_to u + (alone_count U + both_count U)
+  pub one_unit : (u : ℕ) {U : Unit} → U ≡ unit_at D F u → u < 64 → units_to (u + 1) ≡ units_to u + (alone_count U + both_count U)
   one_unit u {U} is l =
       more (unit_start R u) (unit_start R (u + 1)) (starts_rise R u (u + 1) (omega arith))
       ∙ ap (λ (n : ℕ). units_to u + n) (ap length (sym (unit_named u most few is some l)) ∙ unit_long U)
@@ -139,7 +139,7 @@ module _ {D F : ℕ} (most : D ≤ longest) (few : F < D) (some : D % 8 ≡ 4) w
       low : n < 32
       low = omega arith
 
-      counted : alone_count (unit_within D F n) + both_count (unit_within D F n) ≡ R - first (column n)
+      counted : alone_count (unit_at D F n) + both_count (unit_at D F n) ≡ R - first (column n)
       counted = rw (told_low n most few refl low) (omega (arith, alone_none most few low, column_count most few low))
 
   pub stream_0 : units_to 32 ≡ D - F
@@ -169,10 +169,10 @@ module _ {D F : ℕ} (most : D ≤ longest) (few : F < D) (some : D % 8 ≡ 4) w
       back : 32 + n - 32 ≡ n
       back = omega arith
 
-      is : unit_within D F (32 + n) ≡ pair_unit D F n
-      is = told_high (32 + n) most few refl (omega arith) (omega arith) ∙ ap (pair_unit D F) back
+      is : unit_at D F (32 + n) ≡ pair_unit D F n
+      is = told_high (32 + n) most few refl (omega arith) ∙ ap (pair_unit D F) back
 
-      counted : alone_count (unit_within D F (32 + n)) + both_count (unit_within D F (32 + n)) + absent (column n) ≡ 2 * R
+      counted : alone_count (unit_at D F (32 + n)) + both_count (unit_at D F (32 + n)) + absent (column n) ≡ 2 * R
       counted = rw is (omega (arith, alone_count_lem most few low, pair_count most few low, column_rowed most few low))
 
   few_dummies : dummies D < 32

@@ -6,7 +6,7 @@ use Prim.Native.Nat.{ℕ, ◌+◌, ◌*◌, ◌%◌, ◌≤◌, ◌<◌}
 use native.Mathlib.Omega.{arith}
 use lib.ListN.{take}
 use lib.Seq.{take_at}
-use Rattle.rate_matching.specs.declared.Turn.{Turn}
+use Rattle.core.specs.declared.option.Option.TheVariants.{Some, None}
 use Rattle.rate_matching.specs.SubBlocks.{rows}
 use Rattle.rate_matching.specs.Circle.{circle_length, Cut, cut_at}
 use Rattle.rate_matching.specs.Places.{longest}
@@ -19,13 +19,13 @@ use Rattle.rate_matching.proofs.Units.{high_next}
 use Rattle.rate_matching.proofs.Cut.{cut_place, rest_few, whole_least, whole_all, rest_bits, none_cut, shortened_count}
 
 module _ (D F soft v : ℕ) {Ncb : ℕ} (cut : Ncb ≡ cut_at soft (rows D)) where
-  pub turn_none : matchable D D D F Ncb v ≡ false → ◌≡◌ {A = Turn} (record { start = 0; whole = 0; rest = 0 }) (turn_of D F soft v)
+  pub turn_none : matchable D D D F Ncb v ≡ false → None ≡ turn_of D F soft v
   unfolding turn_of
   turn_none t = rw (rw cut at t)
 
-  pub turn_told : matchable D D D F Ncb v ≡ true → units_of D F Ncb v ≡ turn_of D F soft v
+  pub turn_told : matchable D D D F Ncb v ≡ true → Some (units_of D F Ncb v) ≡ turn_of D F soft v
   unfolding turn_of
-  turn_told t = rw (rw cut at t) (ap (λ (n : ℕ). units_of D F n v) cut)
+  turn_told t = rw (rw cut at t) (ap (λ (n : ℕ). Some (units_of D F n v)) cut)
 
 -- a circle that is not cut: N_cb is 12 times 8·R, and all 64 units lie before it
 module _ (D F v : ℕ) (some : D % 8 ≡ 4) (few : F < D) (most : D ≤ longest) {Ncb : ℕ} (cut : Cut Ncb (rows D)) (all : Ncb ≡ circle_length (rows D)) where

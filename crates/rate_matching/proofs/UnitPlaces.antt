@@ -3,15 +3,16 @@
 use mathlib.Core.Path.{◌≡◌, refl, sym, ◌∙◌, ap, ap₂, subst}
 use mathlib.Core.Bool.{Bool, true, false, cond, ◌&&◌}
 use mathlib.Core.List.{◌++◌, map, map-append}
-use Prim.Native.Nat.{ℕ, ◌+◌, ◌-◌, ◌*◌, ◌/◌, ◌%◌, ◌≤◌, ◌<◌, min}
+use Prim.Native.Nat.{ℕ, ◌+◌, ◌-◌, ◌*◌, ◌/◌, ◌%◌, ◌≤◌, ◌<◌}
 use native.Mathlib.Nat.{add-zero, mul-le-mul_right}
 use native.Mathlib.Omega.{arith}
 use lib.Dec.{leb, ltb}
-use lib.ListN.{get_or, replicate, get_or-replicate}
+use lib.ListN.{get_or}
 use borrow.Author.Tests.{ltb-true, ltb-false, le-leb, lt-ltb, le-ltb}
 use Rattle.laws.specs.Lists.{tab, tab_from}
 use Rattle.laws.proofs.Tab.{tab_from_shift, map_tab_from, tab_ext}
-use Rattle.rate_matching.specs.declared.CirclePlace.{CirclePlace}
+use Rattle.core.specs.declared.option.Option.{Option}
+use Rattle.core.specs.declared.option.Option.TheVariants.{Some, None}
 use Rattle.rate_matching.specs.declared.Unit.{Unit}
 use Rattle.rate_matching.specs.Columns.{column}
 use Rattle.rate_matching.specs.SubBlocks.{rows, dummies, rows_before}
@@ -19,8 +20,8 @@ use Rattle.rate_matching.specs.Circle.{circle_length}
 use Rattle.rate_matching.specs.Places.{circle_place, longest}
 use Rattle.rate_matching.specs.Walk.{itself}
 use Rattle.rate_matching.specs.Shape.{shape, bit_places, second, pair_places, last_place}
-use Rattle.rate_matching.specs.Matrix.{column_head, head_by, heads_of, heads_within}
-use Rattle.rate_matching.specs.Units.{column_unit, pair_unit, unit_at, no_unit, unit_within, column_within, pair_within, alone_place, alone_count, both_count, unit_places, bits_before, unit_start, Lies}
+use Rattle.rate_matching.specs.Matrix.{column_head, head_by, heads_of}
+use Rattle.rate_matching.specs.Units.{column_unit, pair_unit, unit_at, unit_within, column_within, pair_within, alone_place, alone_count, both_count, unit_places, unit_start, Lies}
 use Rattle.rate_matching.proofs.Columns.{column_rule}
 use Rattle.rate_matching.proofs.Matrix.{first_head, pair_head, head_at}
 use Rattle.rate_matching.proofs.ShapeColumns.{column_places, pair_places_lem}
@@ -28,17 +29,14 @@ use Rattle.rate_matching.proofs.Units.{some_dummies, low_start, low_next, high_s
 
 -- ---- which unit it is
 
-pub unit_there : {D F u : ℕ} → D ≤ longest → F < D → u < 64 → unit_within D F u ≡ unit_at D F u
+-- the unit that was found is the one that is there
+some_is : (b : Bool) {U V : Unit} → Some U ≡ cond b (Some V) None → U ≡ V
+some_is true e = cc
+some_is false e = cc
+
+pub unit_there : {D F u : ℕ} → D ≤ longest → F < D → u < 64 → unit_within D F u ≡ Some (unit_at D F u)
 unfolding unit_within
 unit_there {D} {F} {u} most few low = simp (le-leb D longest most, lt-ltb F D few, lt-ltb u 64 low)
-
-pub unit_none : (D F : ℕ) {u : ℕ} → 64 ≤ u → unit_within D F u ≡ no_unit
-unfolding unit_within
-unit_none D F {u} h = rw (le-ltb u 64 h) (go (leb D longest && ltb F D))
-  where
-    go : (b : Bool) → cond (b && false) (unit_at D F u) no_unit ≡ no_unit
-    go true = refl
-    go false = refl
 
 pub unit_low : (D F : ℕ) {u : ℕ} → u < 32 → unit_at D F u ≡ column_unit D F u
 unfolding unit_at
@@ -57,12 +55,12 @@ pub pair_is : (D F : ℕ) {u : ℕ} → 32 ≤ u → pair_within D F (u - 32) �
 unfolding pair_within unit_within unit_at
 pair_is D F {u} high = go (ltb u 64) refl
   where
-    past : (b : Bool) → cond (b && false) (pair_unit D F (u - 32)) no_unit ≡ cond (b && false) (cond (ltb u 32) (column_unit D F u) (pair_unit D F (u - 32))) no_unit
-    past true = refl
-    past false = refl
+    past : (b : Bool) (x y : Option Unit) → cond (b && false) x None ≡ cond (b && false) y None
+    past true x y = refl
+    past false x y = refl
 
-    go : (t : Bool) → ltb u 64 ≡ t → cond (leb D longest && ltb F D && ltb (u - 32) 32) (pair_unit D F (u - 32)) no_unit
-        ≡ cond (leb D longest && ltb F D && ltb u 64) (cond (ltb u 32) (column_unit D F u) (pair_unit D F (u - 32))) no_unit
+    go : (t : Bool) → ltb u 64 ≡ t → cond (leb D longest && ltb F D && ltb (u - 32) 32) (Some (pair_unit D F (u - 32))) None
+        ≡ cond (leb D longest && ltb F D && ltb u 64) (Some (cond (ltb u 32) (column_unit D F u) (pair_unit D F (u - 32)))) None
     go true t =
         let low = ltb-true u 64 t in
         let few : u - 32 < 32 = omega arith in
@@ -70,23 +68,42 @@ pair_is D F {u} high = go (ltb u 64) refl
     go false t =
         let low = ltb-false u 64 t in
         let many : 32 ≤ u - 32 = omega arith in
-        rw (le-ltb (u - 32) 32 many, le-ltb u 64 low) (past (leb D longest && ltb F D))
+        rw (le-ltb (u - 32) 32 many, le-ltb u 64 low) (past (leb D longest && ltb F D) _ _)
+
+-- a column of a block that is there
+module _ {D F c : ℕ} (most : D ≤ longest) (few : F < D) (low : c < 32) where
+  pub column_there : column_within D F c ≡ Some (column_unit D F c)
+  unfolding column_within
+  column_there = simp (le-leb D longest most, lt-ltb F D few, lt-ltb c 32 low)
+
+  pub pair_there : pair_within D F c ≡ Some (pair_unit D F c)
+  unfolding pair_within
+  pair_there = simp (le-leb D longest most, lt-ltb F D few, lt-ltb c 32 low)
+
+-- what a call gave where it gave a unit: it is one of the 64, and this one
+pub unit_found : (D F u : ℕ) {U : Unit} {o : Option Unit} → o ≡ unit_within D F u → o ≡ Some U → U ≡ unit_at D F u
+unfolding unit_within
+unit_found D F u told is = some_is _ (sym is ∙ told)
+
+pub column_found : (D F : ℕ) {u : ℕ} {U : Unit} {o : Option Unit} → o ≡ column_within D F u → o ≡ Some U → u < 32 → U ≡ unit_at D F u
+unfolding column_within
+column_found D F {u} told is low = some_is _ (sym is ∙ told) ∙ sym (unit_low D F low)
+
+pub pair_found : (D F : ℕ) {u : ℕ} {U : Unit} {o : Option Unit} → o ≡ pair_within D F (u - 32) → o ≡ Some U → 32 ≤ u → U ≡ unit_at D F u
+unfolding pair_within
+pair_found D F {u} told is high = some_is _ (sym is ∙ told) ∙ sym (unit_high D F high)
 
 -- ---- where stream 0's units begin and end
 
 -- a unit begins where its column's first place is
-pub column_first : (D p : ℕ) → p < 32 → (column_within D 0 (column p)).begin ≡ get_or (heads_within D 0) p (circle_place 0)
-unfolding column_within heads_within column_unit no_unit head_by
-column_first D p h = rw (lt-ltb (column p) 32 (column_rule p h).0) (go (leb D longest && ltb 0 D))
-  where
-    go : (t : Bool) → (cond (t && true) (column_unit D 0 (column p)) no_unit).begin ≡ get_or (cond (t && true) (heads_of (rows D) 0) (replicate 32 (circle_place 0))) p (circle_place 0)
-    go true = sym (head_at (rows D) 0 p h)
-    go false = sym (get_or-replicate 32 p (circle_place 0) (circle_place 0) h)
+pub column_first : (D p : ℕ) → p < 32 → (column_unit D 0 (column p)).begin ≡ get_or (heads_of (rows D) 0) p (circle_place 0)
+unfolding column_unit head_by
+column_first D p h = sym (head_at (rows D) 0 p h)
 
 -- and the last one ends where stream 0 does
-pub stream_ends : {D : ℕ} → D ≤ longest → 0 < D → (column_within D 0 31).end.0 ≡ 32 * rows D
-unfolding column_within column_unit
-stream_ends {D} most some = rw (le-leb D longest most, lt-ltb 0 D some) (omega (arith, first_head (rows D) 31))
+pub stream_ends : (D : ℕ) → (column_unit D 0 31).end.0 ≡ 32 * rows D
+unfolding column_unit
+stream_ends D = omega (arith, first_head (rows D) 31)
 
 -- ---- the rows of a column
 
@@ -221,67 +238,43 @@ module _ {D F c : ℕ} (most : D ≤ longest) (few : F < D) (h : c < 32) where
             ∙ sym (tab_from_shift j (2 * f) (last_place R p - 2 * f) itself)
             ∙ ap₂ (λ (i n : ℕ). tab_from (i + 2 * f) n itself) head left
 
--- ---- its bits before a place, as they are counted
-
-module _ (U : Unit) (cut : CirclePlace) where
-  pub before_all : U.both.0 < cut.0 → U.end.0 < cut.0 → (U.both.0 + 1 - U.alone.0) / 2 + (U.end.0 - U.both.0) ≡ bits_before U cut
-  unfolding bits_before alone_count
-  before_all h l = let least : min U.end.0 cut.0 ≡ U.end.0 = omega arith in rw (lt-ltb U.both.0 cut.0 h, least)
-
-  pub before_some : U.both.0 < cut.0 → cut.0 ≤ U.end.0 → (U.both.0 + 1 - U.alone.0) / 2 + (cut.0 - U.both.0) ≡ bits_before U cut
-  unfolding bits_before alone_count
-  before_some h l = let least : min U.end.0 cut.0 ≡ cut.0 = omega arith in rw (lt-ltb U.both.0 cut.0 h, least)
-
-  pub before_alone : cut.0 ≤ U.both.0 → (cut.0 + 1 - U.alone.0) / 2 ≡ bits_before U cut
-  unfolding bits_before
-  before_alone h = rw (le-ltb U.both.0 cut.0 h)
-
-  pub before_none : cut.0 ≤ U.both.0 → cut.0 ≤ U.alone.0 → 0 ≡ bits_before U cut
-  before_none h l = let none : 0 ≡ (cut.0 + 1 - U.alone.0) / 2 = omega arith in none ∙ before_alone h
-
-pub none_lies : Lies no_unit
-unfolding no_unit
-none_lies = record { alone = omega arith; both = omega arith; end = omega arith }
-
 -- ---- of unit u
 
-module _ {D F : ℕ} (u : ℕ) (most : D ≤ longest) (few : F < D) {U : Unit} (is : U ≡ unit_within D F u) where
+module _ {D F : ℕ} (u : ℕ) (most : D ≤ longest) (few : F < D) {U : Unit} (is : U ≡ unit_at D F u) where
   pub told_low : u < 32 → U ≡ column_unit D F u
-  told_low h = is ∙ unit_there most few (omega arith) ∙ unit_low D F h
+  told_low h = is ∙ unit_low D F h
 
   -- a column of stream 0 has its bits from there on
   pub column_begins : u < 32 → U.both.0 ≡ u * rows D + rows_before (dummies D + F) (column u)
   unfolding column_unit
   column_begins h = ap (λ (x : Unit). x.both.0) (told_low h) ∙ rw (first_head (rows D) u)
 
-  pub told_high : 32 ≤ u → u < 64 → U ≡ pair_unit D F (u - 32)
-  told_high h l = is ∙ unit_there most few l ∙ unit_high D F h
+  pub told_high : 32 ≤ u → U ≡ pair_unit D F (u - 32)
+  told_high h = is ∙ unit_high D F h
 
   -- the units lie one after another
-  pub unit_begins : u < 64 → U.begin.0 ≡ unit_start (rows D) u
+  pub unit_begins : U.begin.0 ≡ unit_start (rows D) u
   unfolding column_unit pair_unit
-  unit_begins l = go (ltb u 32) refl
+  unit_begins = go (ltb u 32) refl
     where
       go : (a : Bool) → ltb u 32 ≡ a → U.begin.0 ≡ unit_start (rows D) u
       go true s = let h : u < 32 = ltb-true u 32 s in ap (λ (x : Unit). x.begin.0) (told_low h) ∙ first_head (rows D) u ∙ sym (low_start (rows D) u h)
-      go false s = let h : 32 ≤ u = ltb-false u 32 s in ap (λ (x : Unit). x.begin.0) (told_high h l) ∙ pair_head (rows D) (u - 32) ∙ sym (high_start (rows D) u h)
+      go false s = let h : 32 ≤ u = ltb-false u 32 s in ap (λ (x : Unit). x.begin.0) (told_high h) ∙ pair_head (rows D) (u - 32) ∙ sym (high_start (rows D) u h)
 
-  -- what holds of the columns, of the pairs and of a unit that has no place holds of it
-  pub by_kind : (P : Unit → Type 0) → (u < 32 → P (column_unit D F u)) → (u - 32 < 32 → P (pair_unit D F (u - 32))) → P no_unit → P U
-  by_kind P low high none = go (ltb u 32) refl (ltb u 64) refl
+  -- what holds of the columns and of the pairs holds of it
+  pub by_kind : (P : Unit → Type 0) → u < 64 → (u < 32 → P (column_unit D F u)) → (u - 32 < 32 → P (pair_unit D F (u - 32))) → P U
+  by_kind P l low high = go (ltb u 32) refl
     where
-      go : (a : Bool) → ltb u 32 ≡ a → (b : Bool) → ltb u 64 ≡ b → P U
-      go true s b t = let h : u < 32 = ltb-true u 32 s in subst P (sym (told_low h)) (low h)
-      go false s true t = let h : 32 ≤ u = ltb-false u 32 s in let l : u < 64 = ltb-true u 64 t in subst P (sym (told_high h l)) (high (omega arith))
-      go false s false t = subst P (sym (is ∙ unit_none D F (ltb-false u 64 t))) none
+      go : (a : Bool) → ltb u 32 ≡ a → P U
+      go true s = let h : u < 32 = ltb-true u 32 s in subst P (sym (told_low h)) (low h)
+      go false s = let h : 32 ≤ u = ltb-false u 32 s in subst P (sym (told_high h)) (high (omega arith))
 
   -- its places lie in order, and it ends on the circle
-  pub unit_lies : Lies U
-  unit_lies = by_kind Lies (column_lies most few) (pair_lies most few) none_lies
+  pub unit_lies : u < 64 → Lies U
+  unit_lies l = by_kind Lies l (column_lies most few) (pair_lies most few)
 
-  pub unit_ends : U.end.0 ≤ circle_length (rows D)
-  unfolding no_unit
-  unit_ends = by_kind (λ (x : Unit). x.end.0 ≤ circle_length (rows D)) (column_ends most few) (pair_ends most few) (omega arith)
+  pub unit_ends : u < 64 → U.end.0 ≤ circle_length (rows D)
+  unit_ends l = by_kind (λ (x : Unit). x.end.0 ≤ circle_length (rows D)) l (column_ends most few) (pair_ends most few)
 
   -- the places that it names are those of the unit that hold a bit
   pub unit_named : D % 8 ≡ 4 → u < 64 → unit_places U ≡ bit_places (shape D F) (unit_start (rows D) u) (unit_start (rows D) (u + 1))
@@ -293,4 +286,4 @@ module _ {D F : ℕ} (u : ℕ) (most : D ≤ longest) (few : F < D) {U : Unit} (
           ap unit_places (told_low h) ∙ rw (low_next (rows D) u h, low_start (rows D) u h) (column_named most few h)
       go false s =
           let h : 32 ≤ u = ltb-false u 32 s in
-          ap unit_places (told_high h l) ∙ rw (high_next (rows D) u h, high_start (rows D) u h) (pair_named most few (omega arith) some)
+          ap unit_places (told_high h) ∙ rw (high_next (rows D) u h, high_start (rows D) u h) (pair_named most few (omega arith) some)

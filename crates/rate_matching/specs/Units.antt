@@ -1,6 +1,6 @@
 -- The circle of clause 5.1.4.1.2 by units: its 32 columns of d(0), then its 32 columns of d(1) and d(2) by turns, and the places of each that hold a bit, which begin at a known row.
 -- Assumes nothing.
-use Rattle.std.specs.Prelude.{◌≡◌, cond, ◌&&◌, List, ◌++◌, ℕ, ◌+◌, ◌-◌, ◌*◌, ◌/◌, ◌%◌, ◌≤◌, ◌<◌, min, leb, ltb}
+use Rattle.std.specs.Prelude.{◌≡◌, cond, ◌&&◌, List, ◌++◌, ℕ, ◌+◌, ◌-◌, ◌*◌, ◌/◌, ◌%◌, ◌≤◌, ◌<◌, min, leb, ltb, Option, Some, None}
 use Rattle.laws.specs.Lists.{tab, tab_from}
 use Rattle.rate_matching.specs.declared.CirclePlace.{CirclePlace}
 use Rattle.rate_matching.specs.declared.Unit.{Unit}
@@ -38,20 +38,16 @@ pair_unit D F c = record {
 unfoldable pub unit_at : ℕ → ℕ → ℕ → Unit
 unit_at D F u = cond (ltb u 32) (column_unit D F u) (pair_unit D F (u - 32))
 
--- a unit that has no place
-unfoldable pub no_unit : Unit
-no_unit = record { begin = circle_place 0; alone = circle_place 0; both = circle_place 0; end = circle_place 0; early = (0, 0); first = (0, 0) }
-
 -- unit u, where streams of D places with F filler bits have it
-unfoldable pub unit_within : ℕ → ℕ → ℕ → Unit
-unit_within D F u = cond (leb D longest && ltb F D && ltb u 64) (unit_at D F u) no_unit
+unfoldable pub unit_within : ℕ → ℕ → ℕ → Option Unit
+unit_within D F u = cond (leb D longest && ltb F D && ltb u 64) (Some (unit_at D F u)) None
 
 -- the same of column c of stream 0, and of column c of streams 1 and 2
-unfoldable pub column_within : ℕ → ℕ → ℕ → Unit
-column_within D F c = cond (leb D longest && ltb F D && ltb c 32) (column_unit D F c) no_unit
+unfoldable pub column_within : ℕ → ℕ → ℕ → Option Unit
+column_within D F c = cond (leb D longest && ltb F D && ltb c 32) (Some (column_unit D F c)) None
 
-unfoldable pub pair_within : ℕ → ℕ → ℕ → Unit
-pair_within D F c = cond (leb D longest && ltb F D && ltb c 32) (pair_unit D F c) no_unit
+unfoldable pub pair_within : ℕ → ℕ → ℕ → Option Unit
+pair_within D F c = cond (leb D longest && ltb F D && ltb c 32) (Some (pair_unit D F c)) None
 
 -- place k of those where stream 2 stands alone
 unfoldable pub alone_place : Unit → ℕ → ℕ

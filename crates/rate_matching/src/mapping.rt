@@ -4,7 +4,7 @@ ghost use Rattle.std.specs.Prelude.{◌≡◌, ◌*◌, ◌≤◌, ◌<◌};
 ghost use Rattle.rate_matching.specs.SubBlocks.{rows, rows_before};
 ghost use Rattle.rate_matching.specs.Places.{circle_place};
 ghost use Rattle.rate_matching.specs.Matrix.{length_within, column_head, heads_of, heads_within, matrix_within};
-ghost use Rattle.rate_matching.specs.Units.{column_unit, pair_unit, no_unit, unit_within, column_within, pair_within};
+ghost use Rattle.rate_matching.specs.Units.{column_unit, pair_unit, unit_within, column_within, pair_within};
 
 use crate::table::column_at;
 use crate::{CirclePlace, MatrixPlace, StreamPlace, Unit};
@@ -16,24 +16,24 @@ pub const LONGEST: usize = 6148;
 pub fn rows_of(d: usize) -> usize
     ensures { result ≡ rows d }
 {
-    d / 32 + (d % 32 + 31) / 32
+    d.div_ceil(32)
 }
 
-// The places of the circle of streams of d places, 96·R; 0 where no code block has such streams.
-pub fn circle_length(d: usize) -> usize
+// The places of the circle of streams of d places, 96·R, where a code block can have such streams.
+pub fn circle_length(d: usize) -> Option<usize>
     ensures { result ≡ length_within d }
 {
     if d > LONGEST {
-        return 0;
+        return None;
     }
-    96 * rows_of(d)
+    Some(96 * rows_of(d))
 }
 
 // How many of the places p, p + 32, p + 64, .. lie before place i: the rows of a column that are above it.
 fn rows_before(i: usize, p: usize) -> usize
     ensures { result ≡ rows_before i p }
 {
-    if i <= p { 0 } else { (i - p - 1) / 32 + 1 }
+    i.saturating_sub(p).div_ceil(32)
 }
 
 // Column c of stream 0: its bits begin behind the dummies and the filler.
@@ -59,7 +59,7 @@ fn column_unit(d: usize, filler: usize, c: usize) -> Unit
 }
 
 // Column c of streams 1 and 2. Stream 2 has no filler and is read one further, so that its bits begin earlier; the last place of column 31 wraps to a dummy.
-fn pair_unit(d: usize, filler: usize, c: usize) -> Unit
+pub(crate) fn pair_unit(d: usize, filler: usize, c: usize) -> Unit
     requires { (d ≤ 6148) × (filler < d) × (c < 32) }
     ensures { result ≡ pair_unit d filler c }
 {
@@ -79,24 +79,8 @@ fn pair_unit(d: usize, filler: usize, c: usize) -> Unit
     }
 }
 
-// A unit that has no place.
-fn no_unit() -> Unit
-    ensures { result ≡ no_unit }
-{
-    let place = CirclePlace(0);
-    let none = StreamPlace(0, 0);
-    Unit {
-        begin: place,
-        alone: place,
-        both: place,
-        end: place,
-        early: none,
-        first: none,
-    }
-}
-
-// Unit u of the circle of streams of d places, the first `filler` of streams 0 and 1 absent; all at place 0 where there is no such unit.
-pub fn unit_at(d: usize, filler: usize, u: usize) -> Unit
+// Unit u of the circle of streams of d places, the first `filler` of streams 0 and 1 absent, where there is such a unit.
+pub fn unit_at(d: usize, filler: usize, u: usize) -> Option<Unit>
     ensures { result ≡ unit_within d filler u }
 {
     if u < 32 {
@@ -107,37 +91,36 @@ pub fn unit_at(d: usize, filler: usize, u: usize) -> Unit
 
 // The unit of column c of stream 0, unit c, and that of column c of streams 1 and 2, unit 32 + c. A loop over one kind of unit asks for these: they are
 // small enough that the compiler takes them into the loop and works out once what all units share.
-pub fn column_unit_at(d: usize, filler: usize, c: usize) -> Unit
+pub fn column_unit_at(d: usize, filler: usize, c: usize) -> Option<Unit>
     ensures { result ≡ column_within d filler c }
 {
     let there = (d <= LONGEST) & (filler < d) & (c < 32);
     if !there {
-        return no_unit();
+        return None;
     }
-    column_unit(d, filler, c)
+    Some(column_unit(d, filler, c))
 }
 
-pub fn pair_unit_at(d: usize, filler: usize, c: usize) -> Unit
+pub fn pair_unit_at(d: usize, filler: usize, c: usize) -> Option<Unit>
     ensures { result ≡ pair_within d filler c }
 {
     let there = (d <= LONGEST) & (filler < d) & (c < 32);
     if !there {
-        return no_unit();
+        return None;
     }
-    pair_unit(d, filler, c)
+    Some(pair_unit(d, filler, c))
 }
 
-// Where the columns of a stream's matrix lie on the circle, the first place of each, in the order in which the matrix is written; all at place 0 where there is
-// no such stream. A row is one place further in stream 0, and two in streams 1 and 2, which stand by turns.
-pub fn column_heads(d: usize, stream: usize) -> [CirclePlace; 32]
+// Where the columns of a stream's matrix lie on the circle, the first place of each, in the order in which the matrix is written, where
+// there is such a stream. A row is one place further in stream 0, and two in streams 1 and 2, which stand by turns.
+pub fn column_heads(d: usize, stream: usize) -> Option<[CirclePlace; 32]>
     ensures { result ≡ heads_within d stream }
 {
     let there = (d <= LONGEST) & (0 < d) & (stream <= 2);
     if !there {
-        let none = CirclePlace(0);
-        return [none; 32];
+        return None;
     }
-    heads_of(d, stream)
+    Some(heads_of(d, stream))
 }
 
 // The same, of a stream that is there. Its 32 units lie side by side and are as long as one another, so that the first two tell where all begin.
@@ -148,10 +131,8 @@ fn heads_of(d: usize, stream: usize) -> [CirclePlace; 32]
     let first = head_in(d, stream, 0);
     let width = head_in(d, stream, 1).0 - first.0;
     let mut heads = [first; 32];
-    let mut p = 0;
-    while p < 32 {
+    for p in 0..32 {
         heads[p] = CirclePlace(first.0 + column_at(p) * width);
-        p += 1;
     }
     heads
 }
@@ -168,17 +149,17 @@ fn head_in(d: usize, stream: usize, c: usize) -> CirclePlace
 }
 
 // The row and the column of the matrix where a stream place stands, as the matrix is written; of stream 2, which is read one further, where the place before it
-// does. Both are 0 where there is no such place, or no dummy before it.
-pub fn matrix_place(d: usize, place: StreamPlace) -> MatrixPlace
+// does. None where there is no such place, or no dummy before it.
+pub fn matrix_place(d: usize, place: StreamPlace) -> Option<MatrixPlace>
     ensures { result ≡ matrix_within d place }
 {
     let there = (d <= LONGEST) & (d % 32 != 0) & (place.0 <= 2) & (place.1 < d);
     if !there {
-        return MatrixPlace { row: 0, column: 0 };
+        return None;
     }
     let y = 32 * rows_of(d) - d + place.1 - place.0 / 2;
-    MatrixPlace {
+    Some(MatrixPlace {
         row: y / 32,
         column: y % 32,
-    }
+    })
 }

@@ -7,7 +7,7 @@ ghost use Rattle.rate_matching.specs.Shape.{shape, bit_places};
 ghost use Rattle.rate_matching.specs.Units.{unit_start, unit_of, start_unit, bits_before, Lies, Fitting};
 ghost use Rattle.rate_matching.specs.Turns.{matchable, units_of, turn_of, turn_length};
 
-use crate::mapping::{LONGEST, pair_unit_at, rows_of, unit_at};
+use crate::mapping::{LONGEST, pair_unit, rows_of};
 use crate::{CirclePlace, Turn, Unit};
 
 // The unit that begins at place R·(2·m + 2) of a circle of R rows.
@@ -36,15 +36,9 @@ fn bits_before(unit: Unit, cut: CirclePlace) -> usize
 {
     if unit.both.0 < cut.0 {
         let alone = (unit.both.0 + 1 - unit.alone.0) / 2;
-        if unit.end.0 < cut.0 {
-            return alone + (unit.end.0 - unit.both.0);
-        }
-        return alone + (cut.0 - unit.both.0);
+        return alone + (unit.end.0.min(cut.0) - unit.both.0);
     }
-    if unit.alone.0 < cut.0 {
-        return (cut.0 + 1 - unit.alone.0) / 2;
-    }
-    0
+    (cut.0 + 1).saturating_sub(unit.alone.0) / 2
 }
 
 // Whether these are the lengths and the filler of a code block's streams, a length of its circle that is accepted, and one of the four versions.
@@ -65,12 +59,12 @@ pub fn matchable(d: usize, d1: usize, d2: usize, filler: usize, ncb: usize, vers
         & (version <= 3)
 }
 
-// N_cb of a code block whose streams have d places, with a share `soft` of the soft buffer. The circle's length is asked for only where the share is no shorter.
+// N_cb of a code block whose streams have d places, with a share `soft` of the soft buffer: no longer than the circle. No code block has streams so long that
+// the product stops short.
 pub fn cut_at(soft: usize, d: usize) -> usize
     ensures { result ≡ cut_at soft (rows d) }
 {
-    let rows = rows_of(d);
-    if soft / 96 < rows { soft } else { 96 * rows }
+    soft.min(rows_of(d).saturating_mul(96))
 }
 
 // The turn of redundancy version `version` on a circle that is cut at `ncb`, of a code block with streams of d places, `filler` of them filler. A circle that
@@ -89,23 +83,19 @@ fn turn_in(d: usize, filler: usize, ncb: usize, version: usize) -> Turn
     }
     let start = start_unit(ncb, rows, version);
     let whole = 32 + (ncb - 32 * rows) / (2 * rows);
-    let rest = bits_before(unit_at(d, filler, whole), CirclePlace(ncb));
+    let rest = bits_before(pair_unit(d, filler, whole - 32), CirclePlace(ncb));
     Turn { start, whole, rest }
 }
 
-// The turn of a code block that has such a share; all 0 where there is no such code block or version, or its N_cb is below 32·R.
-pub fn turn_of(d: usize, filler: usize, soft: usize, version: usize) -> Turn
+// The turn of a code block that has such a share; none where there is no such code block or version, or its N_cb is below 32·R.
+pub fn turn_of(d: usize, filler: usize, soft: usize, version: usize) -> Option<Turn>
     ensures { result ≡ turn_of d filler soft version }
 {
     let ncb = cut_at(soft, d);
     if !matchable(d, d, d, filler, ncb, version) {
-        return Turn {
-            start: 0,
-            whole: 0,
-            rest: 0,
-        };
+        return None;
     }
-    turn_in(d, filler, ncb, version)
+    Some(turn_in(d, filler, ncb, version))
 }
 
 // How many bits the units before unit `to` have, which is one of streams 1 and 2: stream 0 has a bit for each of its places past the filler.
@@ -114,11 +104,9 @@ fn bits_to(d: usize, filler: usize, to: usize) -> usize
     ensures { result ≡ length (bit_places (shape d filler) 0 (unit_start (rows d) to)) }
 {
     let mut n = d - filler;
-    let mut u = 32;
-    while u < to {
-        let unit = pair_unit_at(d, filler, u - 32);
+    for u in 32..to {
+        let unit = pair_unit(d, filler, u - 32);
         n += bits_before(unit, unit.end);
-        u += 1;
     }
     n
 }

@@ -14,17 +14,20 @@ pub fn columns() -> [u8; 32]
     ensures { result ≡ column_table }
 {
     let mut p = [0u8; 32];
-    let mut c: u8 = 0;
-    while c < 32 {
+    for c in 0..32u8 {
         p[c as usize] = turned(c);
-        c += 1;
     }
     p
 }
 
 // P(c), the original position of column c; 0 past the 32 columns.
+// kept: no Option, since `column` of the clause's table is total, and the theorems of other crates on the places cite it so.
 pub fn column_at(c: usize) -> usize
     ensures { result ≡ column c }
 {
-    if c < 32 { turned(c as u8) as usize } else { 0 }
+    if c < 32 {
+        usize::from(turned(c as u8))
+    } else {
+        0
+    }
 }

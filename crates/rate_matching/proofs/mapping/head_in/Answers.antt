@@ -18,17 +18,11 @@ begun : (c : After-pair_unit) → let e = c.args in c.pair_unit.result.begin.0 �
 unfolding pair_unit
 begun c = ap (λ (x : Unit). x.begin.0) c.pair_unit.ensures
 
-pub column_unit-requires : goal.column_unit-requires
-column_unit-requires c = (c.requires.1, c.requires.0, c.requires.3)
-
 pub returns-then-stream-eq0 : goal.returns-then-stream-eq0
 unfolding column_unit
 returns-then-stream-eq0 c =
     let e = c.args in
     ap (λ (x : Unit). x.begin) c.column_unit.ensures ∙ ap (λ (s : ℕ). circle_place (column_head (rows e.d) s e.c)) (sym c.if-stream-eq0.true)
-
-pub pair_unit-requires : goal.pair_unit-requires
-pair_unit-requires c = (c.requires.1, c.requires.0, c.requires.3)
 
 pub overflow_add-result : goal.overflow_add-result
 unfolding rows

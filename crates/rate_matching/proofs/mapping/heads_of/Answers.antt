@@ -24,9 +24,6 @@ few_by d s h k = first_few (rows d) s (omega (arith, h)) k
 few : (c : After-head_in) → let e = c.args in (column_head (rows e.d) e.stream 0 ≤ 6177) × (head_width (rows e.d) e.stream ≤ 386)
 few c = few_by c.args.d c.args.stream c.requires.1 c.requires.2
 
-wide : (c : After-head_in) → let e = c.args in c.head_in.result.0 - c.head_in-first.result.0 ≡ head_width (rows e.d) e.stream
-wide c = let e = c.args in ap₂ (λ (a b : ℕ). b - a) (begins c).0 (begins c).1 ∙ first_wide (rows e.d) e.stream
-
 -- and the unit of the column
 far : (c : After-column_at) → c.column_at.result * (c.head_in.result.0 - c.head_in-first.result.0) ≤ 12352
 far c =
@@ -41,12 +38,6 @@ unit c =
     ap₂ (λ (a b : ℕ). a + c.column_at.result * (b - a)) (ap (λ (x : CirclePlace). x.0) c.head_in-first.ensures) (ap (λ (x : CirclePlace). x.0) c.head_in.ensures)
     ∙ side_by_side (rows e.d) e.stream c.column_at.result
     ∙ ap (column_head (rows e.d) e.stream) c.column_at.ensures
-
-pub head_in-first-requires : goal.head_in-first-requires
-head_in-first-requires c = (c.requires.0, c.requires.1, c.requires.2, omega arith)
-
-pub head_in-requires : goal.head_in-requires
-head_in-requires c = (c.requires.0, c.requires.1, c.requires.2, omega arith)
 
 pub overflow_sub-width : goal.overflow_sub-width
 overflow_sub-width c = let e = c.args in omega (arith, begins (goal.at.overflow_sub-width c).After-head_in, heads_rise (rows e.d) e.stream)

@@ -4,10 +4,6 @@ use native.Mathlib.Omega.{arith}
 use Rattle.rate_matching.specs.SubBlocks.{rows_before}
 use Rattle.rate_matching.proofs.mapping.rows_before.Goals as goal
 
-pub returns-then-i-p : goal.returns-then-i-p
+pub returns : goal.returns
 unfolding rows_before
-returns-then-i-p c = omega arith
-
-pub returns-else-i-p : goal.returns-else-i-p
-unfolding rows_before
-returns-else-i-p c = omega arith
+returns c = omega arith

@@ -15,18 +15,9 @@ few c =
     let n = eighths c.args.ncb c.args.rows in
     omega (arith, (eighths_told c.requires.0).high, mul-le-mul_left n c.requires.2)
 
-pub overflow_sub-rows : goal.overflow_sub-rows
-overflow_sub-rows c = omega (arith, c.requires.0.some)
-
 pub overflow_add-ncb : goal.overflow_add-ncb
 unfolding circle_length
 overflow_add-ncb c = omega (arith, c.requires.0.most, c.requires.1)
-
-pub nonzero_div-ncb : goal.nonzero_div-ncb
-nonzero_div-ncb c = omega (arith, c.requires.0.some)
-
-pub overflow_mul-ncb : goal.overflow_mul-ncb
-overflow_mul-ncb c = omega (arith, few (goal.at.overflow_mul-ncb c).Start)
 
 pub unit_of-requires : goal.unit_of-requires
 unit_of-requires c = few (goal.at.unit_of-requires c).Start

@@ -1,17 +1,18 @@
 -- `shortened::turn_in` meets its contract: the numbers are the definition's, and where the circle is not cut they are known (`Turns`).
 -- Assumes nothing.
 use mathlib.Core.Path.{sym, ◌∙◌, ap}
-use Prim.Native.Nat.{ℕ, ◌*◌, ◌≤◌}
+use Prim.Native.Nat.{ℕ, ◌-◌, ◌*◌, ◌≤◌, ◌<◌}
 use native.Mathlib.Omega.{arith}
 use Rattle.rate_matching.specs.declared.Turn.{Turn}
+use Rattle.rate_matching.specs.SubBlocks.{rows}
 use Rattle.rate_matching.specs.Circle.{circle_length}
 use Rattle.rate_matching.specs.Units.{whole_units}
 use Rattle.rate_matching.specs.Turns.{units_of}
-use Rattle.rate_matching.proofs.Cut.{whole_most}
-use Rattle.rate_matching.proofs.UnitPlaces.{unit_lies}
+use Rattle.rate_matching.proofs.Cut.{whole_least, whole_left}
+use Rattle.rate_matching.proofs.UnitPlaces.{unit_high, pair_lies}
 use Rattle.rate_matching.proofs.MatchableBlocks.{Matchable, matchable_told, rows_few}
 use Rattle.rate_matching.proofs.Turns.{units_uncut}
-use Rattle.rate_matching.proofs.shortened.turn_in.Goals.{After-rows_of-rows, Start}
+use Rattle.rate_matching.proofs.shortened.turn_in.Goals.{After-rows_of-rows, Else-ncb-rows, Start}
 use Rattle.rate_matching.proofs.shortened.turn_in.Goals as goal
 
 -- a turn round all 64 units
@@ -59,14 +60,27 @@ overflow_mul-whole-2 c = omega (arith, few (goal.at.overflow_mul-whole-2 c).Afte
 pub nonzero_div-whole : goal.nonzero_div-whole
 nonzero_div-whole c = omega (arith, least (goal.at.nonzero_div-whole c).After-rows_of-rows, few (goal.at.nonzero_div-whole c).After-rows_of-rows)
 
-pub overflow_add-whole : goal.overflow_add-whole
+-- the unit that is cut is one of the last 32
+cut_low : (c : Else-ncb-rows) → whole_units c.args.ncb (rows c.args.d) - 32 < 32
+unfolding circle_length
+cut_low c =
+    let m = matchable_told c.requires in
+    omega (arith, whole_left m.cut (λ e. c.if-ncb-rows.false (rw c.rows_of-rows.ensures e)), whole_least m.cut)
+
+pub pair_unit-requires : goal.pair_unit-requires
 unfolding whole_units
-overflow_add-whole c = let m = told (goal.at.overflow_add-whole c).Start in rw c.rows_of-rows.ensures (omega (arith, whole_most m.cut))
+pair_unit-requires c =
+    let m = told (goal.at.pair_unit-requires c).Start in
+    (m.fits.most, m.fits.filler, rw c.rows_of-rows.ensures (cut_low (goal.at.pair_unit-requires c).Else-ncb-rows))
 
 pub bits_before-rest-requires : goal.bits_before-rest-requires
-bits_before-rest-requires c = let m = told (goal.at.bits_before-rest-requires c).Start in unit_lies _ m.fits.most m.fits.filler c.unit_at.ensures
+unfolding whole_units
+bits_before-rest-requires c =
+    let m = told (goal.at.bits_before-rest-requires c).Start in
+    rw (c.pair_unit.ensures, c.rows_of-rows.ensures) (pair_lies m.fits.most m.fits.filler (cut_low (goal.at.bits_before-rest-requires c).Else-ncb-rows))
 
 pub returns : goal.returns
 unfolding units_of whole_units
 returns c =
-    simp (c.bits_before-rest.ensures, c.unit_at.ensures, c.start_unit-start.ensures, c.rows_of-rows.ensures)
+    let m = told (goal.at.returns c).Start in
+    simp (unit_high c.args.d c.args.filler (whole_least m.cut), c.bits_before-rest.ensures, c.pair_unit.ensures, c.start_unit-start.ensures, c.rows_of-rows.ensures)

@@ -63,9 +63,6 @@ returns-then-ncb-rows_of c =
     (sym (whole_circle f.most f.filler f.some)
     ∙ ap (λ (n : ℕ). length (bit_places (shape e.d e.filler) 0 n)) (omega (arith, c.if-ncb-rows_of.true, c.rows_of.ensures)))
 
-pub turn_in-turn-requires : goal.turn_in-turn-requires
-turn_in-turn-requires c = passed (goal.at.turn_in-turn-requires c).Else-not-matchable
-
 pub bits_to-requires : goal.bits_to-requires
 bits_to-requires c = let m = told (goal.at.bits_to-requires c).Else-not-matchable in (m.fits, omega (arith, whole (goal.at.bits_to-requires c).After-turn_in-turn, whole_least m.cut), omega (arith, whole (goal.at.bits_to-requires c).After-turn_in-turn, whole_most m.cut))
 

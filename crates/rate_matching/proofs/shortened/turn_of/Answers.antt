@@ -1,7 +1,8 @@
 -- `shortened::turn_of` meets its contract: the share gives N_cb, and the test decides.
 -- Assumes nothing.
-use mathlib.Core.Path.{◌≡◌, sym, ◌∙◌}
+use mathlib.Core.Path.{◌≡◌, sym, ◌∙◌, ap}
 use mathlib.Core.Bool.{true}
+use Rattle.core.specs.declared.option.Option.TheVariants.{Some}
 use Rattle.rate_matching.specs.Turns.{matchable}
 use Rattle.rate_matching.proofs.Turns.{turn_none, turn_told}
 use Rattle.rate_matching.proofs.shortened.turn_of.Goals.{Else-not-matchable}
@@ -14,8 +15,5 @@ told c = sym c.matchable.ensures ∙ c.if-not-matchable.false
 pub returns-then-not-matchable : goal.returns-then-not-matchable
 returns-then-not-matchable c = turn_none _ _ _ _ c.cut_at-ncb.ensures (sym c.matchable.ensures ∙ c.if-not-matchable.true)
 
-pub turn_in-requires : goal.turn_in-requires
-turn_in-requires c = told (goal.at.turn_in-requires c).Else-not-matchable
-
 pub returns : goal.returns
-returns c = c.turn_in.ensures ∙ turn_told _ _ _ _ c.cut_at-ncb.ensures (told (goal.at.returns c).Else-not-matchable)
+returns c = ap Some c.turn_in.ensures ∙ turn_told _ _ _ _ c.cut_at-ncb.ensures (told (goal.at.returns c).Else-not-matchable)

@@ -10,6 +10,3 @@ use Rattle.rate_matching.proofs.table.columns.Given as goal
 
 abbrev pub invariant-loop-c : goal.invariant-loop-c
 invariant-loop-c l = (l.c ≤ 32) × (length l.p ≡ 32) × Writing l.initial.p l.p l.c (tab_from l.c (32 - l.c) column) column_table
-
-abbrev pub decreases-loop-c : goal.decreases-loop-c
-decreases-loop-c l = 32 - l.c
