@@ -3,12 +3,13 @@
 use mathlib.Core.Path.{◌≡◌, refl, sym, ◌∙◌, ap, subst}
 use mathlib.Core.Bool.{Bool, true, false, cond}
 use mathlib.Core.List.{List, [], ◌∷◌, ◌++◌, map}
-use Prim.Native.Nat.{ℕ, ◌+◌, ◌-◌, ◌*◌, ◌≤◌, ◌<◌}
-use native.Mathlib.Decide.{dec_lt}
+use Prim.Native.Nat.{ℕ, ◌+◌, ◌-◌, ◌*◌, ◌/◌, ◌≤◌, ◌<◌, min}
 use native.Mathlib.Omega.{arith}
 use lib.Dec.{ltb}
 use lib.ListN.{length, take, length-map}
+use borrow.Author.Tests.{ltb-true, ltb-false}
 use Rattle.laws.specs.Lists.{tab, tab_from}
+use Rattle.core.specs.declared.option.Option.TheVariants.{Some}
 use Rattle.rate_matching.specs.declared.Turn.{Turn}
 use Rattle.rate_matching.specs.declared.Unit.{Unit}
 use Rattle.rate_matching.specs.SubBlocks.{rows}
@@ -16,13 +17,13 @@ use Rattle.rate_matching.specs.Circle.{circle, circle_length, Cut, start_in}
 use Rattle.rate_matching.specs.Places.{longest}
 use Rattle.rate_matching.specs.Walk.{on_circle, turn, turn_after_turn, sent_places, selected}
 use Rattle.rate_matching.specs.Shape.{shape}
-use Rattle.rate_matching.specs.Units.{unit_within, pair_within, alone_count, both_count, unit_start, start_unit, whole_units, rest_places, Fitting}
+use Rattle.rate_matching.specs.Units.{unit_at, pair_unit, pair_within, alone_count, both_count, unit_start, start_unit, whole_units, rest_places}
 use Rattle.rate_matching.specs.Turns.{matchable, units_of, turn_of}
 use Rattle.rate_matching.proofs.SoftBuffer.{cut_share}
 use Rattle.rate_matching.proofs.Walk.{sent_map}
 use Rattle.rate_matching.proofs.Alike.{Filled, shape_filled, same_cut}
 use Rattle.rate_matching.proofs.Units.{low_start, high_next, starts_rise, unit_last}
-use Rattle.rate_matching.proofs.UnitPlaces.{pair_is}
+use Rattle.rate_matching.proofs.UnitPlaces.{pair_there}
 use Rattle.rate_matching.proofs.Cut.{cut_place, whole_least, whole_most, rest_before, start_whole, rest_bits, shortened_few, turn_some, sent_whole}
 use Rattle.rate_matching.proofs.MatchableBlocks.{Matchable, matchable_told, matchable_is}
 use Rattle.rate_matching.proofs.Turns.{turn_told}
@@ -60,10 +61,18 @@ room_holds R E {m} h = record { fits = go (ltb (E + 2 * R) (circle_length R)) re
     go true t a l = absurd (omega arith)
     go false t a l = a
 
--- or with those of the largest circle
-pub longest_holds : (D E : ℕ) → D ≤ longest → Holds (rows D) E (circle_length (rows D)) 18528
-unfolding rows circle_length
-longest_holds D E h = record { fits = λ l. omega arith }
+pub ring_least : (R E : ℕ) → min (E + 2 * R) (96 * R) ≡ ring_length R E
+unfolding ring_length circle_length
+ring_least R E = go (ltb (E + 2 * R) (96 * R)) refl
+  where
+    go : (t : Bool) → ltb (E + 2 * R) (96 * R) ≡ t → min (E + 2 * R) (96 * R) ≡ cond t (E + 2 * R) (96 * R)
+    go true t = omega (arith, ltb-true (E + 2 * R) (96 * R) t)
+    go false t = omega (arith, ltb-false (E + 2 * R) (96 * R) t)
+
+-- no more than those of the largest circle
+pub ring_most : (D E : ℕ) → D ≤ longest → ring_length (rows D) E ≤ 18528
+unfolding rows
+ring_most D E h = omega (arith, ring_least ((D + 31) / 32) E)
 
 -- the whole units from the start on, the one that is cut and the units up to the start have room
 module _ {Ncb R v s : ℕ} (cut : Cut Ncb R) (h : v ≤ 3) (e : s ≡ start_unit Ncb R v) where
@@ -90,10 +99,25 @@ module _ {Ncb R v s : ℕ} (cut : Cut Ncb R) (h : v ≤ 3) (e : s ≡ start_unit
 
 -- ---- the stages put together
 
+-- streams that pass the test have a turn
+pub turn_there : (D D1 D2 F Ncb v : ℕ) → matchable D D1 D2 F Ncb v ≡ true → Some (units_of D F Ncb v) ≡ turn_of D F Ncb v
+turn_there D D1 D2 F Ncb v test = turn_told D F Ncb v (sym (cut_share Ncb (rows D) m.cut.most)) (matchable_is one_length)
+  where
+    m : Matchable D D1 D2 F Ncb v
+    m = matchable_told test
+
+    one_length : Matchable D D D F Ncb v
+    one_length = record {
+      fits = record { first = refl; second = refl; some = m.fits.some; most = m.fits.most; filler = m.fits.filler };
+      least = m.least;
+      cut = m.cut;
+      version = m.version;
+    }
+
 -- a turn that was found for streams that pass the test
 pub record Turned (d0 d1 d2 : List ℕ) (F Ncb v : ℕ) (T : Turn) : Type 0 where
   pub test : matchable (length d0) (length d1) (length d2) F Ncb v ≡ true
-  pub found : T ≡ turn_of (length d0) F Ncb v
+  pub found : Some T ≡ turn_of (length d0) F Ncb v
 
 module _ {d0 d1 d2 : List ℕ} {F Ncb v : ℕ} {T : Turn} (z : Turned d0 d1 d2 F Ncb v T) where
   abbrev m : Matchable (length d0) (length d1) (length d2) F Ncb v
@@ -104,15 +128,7 @@ module _ {d0 d1 d2 : List ℕ} {F Ncb v : ℕ} {T : Turn} (z : Turned d0 d1 d2 F
 
   -- the streams are of one length, and no circle is shorter than an N_cb
   turn_units : T ≡ units_of (length d0) F Ncb v
-  turn_units = z.found ∙ sym (turn_told (length d0) F Ncb v (sym (cut_share Ncb R m.cut.most)) (matchable_is one_length))
-    where
-      one_length : Matchable (length d0) (length d0) (length d0) F Ncb v
-      one_length = record {
-        fits = record { first = refl; second = refl; some = m.fits.some; most = m.fits.most; filler = m.fits.filler };
-        least = m.least;
-        cut = m.cut;
-        version = m.version;
-      }
+  turn_units = let e = z.found ∙ sym (turn_there _ _ _ _ _ _ z.test) in cc
 
   -- the turn's three numbers
   start_is : T.start ≡ start_unit Ncb R v
@@ -143,34 +159,32 @@ module _ {d0 d1 d2 : List ℕ} {F Ncb v : ℕ} {T : Turn} (z : Turned d0 d1 d2 F
   rest_places_lem : T.rest ≤ rest_places Ncb R
   rest_places_lem = rw rest_is (shortened_few (length d0) F m.fits.some m.fits.filler m.fits.most m.cut)
 
-  cut_there : 0 < T.rest → T.whole < 64
+  pub cut_there : 0 < T.rest → T.whole < 64
   cut_there some = rw whole_is (rest_before m.cut (omega (arith, rest_places_lem)))
 
-  module _ {U : Unit} (found : U ≡ pair_within (length d0) F (T.whole - 32)) where
-    cut_is : U ≡ unit_within (length d0) F T.whole
-    cut_is = found ∙ pair_is (length d0) F whole_high
+  -- the unit that is cut is found
+  pub cut_found : 0 < T.rest → pair_within (length d0) F (T.whole - 32) ≡ Some (pair_unit (length d0) F (T.whole - 32))
+  cut_found some = pair_there m.fits.most m.fits.filler (omega (arith, cut_there some, whole_high))
 
-    cut_pair : 0 < T.rest → U.first.0 ≡ 0 → ⊥
-    cut_pair some = pair_stream T.whole m.fits.most m.fits.filler cut_is whole_high (cut_there some)
+  module _ {U : Unit} (found : U ≡ unit_at (length d0) F T.whole) where
+    cut_pair : U.first.0 ≡ 0 → ⊥
+    cut_pair = pair_stream T.whole m.fits.most m.fits.filler found whole_high
 
     -- its bits
-    cut_bits : 0 < T.rest → pair_bits d1 d2 U ≡ unit_bits (length d0) d0 d1 d2 F (whole_units Ncb R)
+    cut_bits : pair_bits d1 d2 U ≡ unit_bits (length d0) d0 d1 d2 F (whole_units Ncb R)
     unfolding unit_bits
-    cut_bits some = bits_pair d0 d1 d2 U (cut_pair some) ∙ ap (bits_of d0 d1 d2) (cut_is ∙ ap (unit_within (length d0) F) whole_is)
+    cut_bits = bits_pair d0 d1 d2 U cut_pair ∙ ap (bits_of d0 d1 d2) (found ∙ ap (unit_at (length d0) F) whole_is)
 
-    rest_inside : 0 < T.rest → T.rest ≤ length (pair_bits d1 d2 U)
-    rest_inside some = rw (cut_bits some, rest_is) (rest_within (length d0) F d0 d1 d2 refl m.fits.first m.fits.second m.fits.some m.fits.filler m.fits.most m.cut)
+    rest_inside : T.rest ≤ length (pair_bits d1 d2 U)
+    rest_inside = rw (cut_bits, rest_is) (rest_within (length d0) F d0 d1 d2 refl m.fits.first m.fits.second m.fits.some m.fits.filler m.fits.most m.cut)
 
     rest_are : take T.rest (pair_bits d1 d2 U) ≡ take rest (unit_bits (length d0) d0 d1 d2 F (whole_units Ncb R))
-    rest_are = elim (dec_lt 0 T.rest) [
-      | yes some ↦ rw (cut_bits some, rest_is)
-      | no none ↦ let zero : T.rest ≡ 0 = omega arith in ap (λ (k : ℕ). take k (pair_bits d1 d2 U)) zero ∙ sym (ap (λ (k : ℕ). take k (unit_bits (length d0) d0 d1 d2 F (whole_units Ncb R))) (sym rest_is ∙ zero))
-    ]
+    rest_are = rw (cut_bits, rest_is)
 
   -- what is asked of the first whole units
-  pub first_needs : {E room : ℕ} → Holds R E (circle_length R) room → Fitting (length d0) (length d1) (length d2) F × (T.start ≤ T.whole) × (T.whole ≤ 64) × (0 ≤ room)
+  pub first_needs : {E room : ℕ} → Holds R E (circle_length R) room → (T.start ≤ T.whole) × (T.whole ≤ 64) × (0 ≤ room)
       × Holds R E (0 + (unit_start R T.whole - unit_start R T.start)) room
-  first_needs h = (m.fits, below, few, omega arith, rw whole_is (first_room m.cut m.version start_is h))
+  first_needs h = (below, few, omega arith, rw whole_is (first_room m.cut m.version start_is h))
 
   -- n bits of them are put into a ring that is as long as it was, `long` places
   module _ {E room long n : ℕ} (h : Holds R E (circle_length R) room) (l : long ≡ room) (p : n ≤ 0 + (unit_start R T.whole - unit_start R T.start)) where
@@ -178,24 +192,24 @@ module _ {d0 d1 d2 : List ℕ} {F Ncb v : ℕ} {T : Turn} (z : Turned d0 d1 d2 F
     put_whole = rw whole_is at p
 
     -- of the one that is cut
-    pub rest_needs : {U : Unit} → 0 < T.rest → n ≤ long → U ≡ pair_within (length d0) F (T.whole - 32)
-        → (length d2 ≡ length d1) × Reads (length d1) U × (U.first.0 ≡ 0 → ⊥) × (T.rest ≤ length (pair_bits d1 d2 U)) × (n ≤ long)
+    pub rest_needs : {U : Unit} → 0 < T.rest → n ≤ long → U ≡ unit_at (length d0) F T.whole
+        → Reads (length d0) U × (U.first.0 ≡ 0 → ⊥) × (T.rest ≤ length (pair_bits d1 d2 U)) × (n ≤ long)
         × (n < E → n + (alone_count U + both_count U) ≤ long)
-    rest_needs {U} some inside found = (m.fits.second ∙ sym m.fits.first, rw m.fits.first (unit_reads T.whole m.fits.most m.fits.filler (cut_is found)), cut_pair found some, rest_inside found some, inside, fills)
+    rest_needs {U} some inside found = (unit_reads T.whole m.fits.most m.fits.filler found (cut_there some), cut_pair found, rest_inside found, inside, fills)
       where
         fills : n < E → n + (alone_count U + both_count U) ≤ long
         fills g =
             omega (
               arith,
               rest_room m.cut m.version start_is h put_whole l (omega (arith, rest_places_lem)) g,
-              unit_few T.whole m.fits.most m.fits.filler (cut_is found) (cut_there some),
+              unit_few T.whole m.fits.most m.fits.filler found (cut_there some),
               high_next R T.whole whole_high,
             )
 
     -- of the units up to the start
     pub last_needs : {k long₂ : ℕ} → k ≤ n + T.rest → k ≤ long₂ → long₂ ≡ long
-        → Fitting (length d0) (length d1) (length d2) F × (0 ≤ T.start) × (T.start ≤ 64) × (k ≤ long₂) × Holds R E (k + (unit_start R T.start - unit_start R 0)) long₂
-    last_needs q inside g = (m.fits, omega arith, omega (arith, below, few), inside, second_room m.cut m.version start_is h put_whole rest_places_lem q (g ∙ l))
+        → (0 ≤ T.start) × (T.start ≤ 64) × (k ≤ long₂) × Holds R E (k + (unit_start R T.start - unit_start R 0)) long₂
+    last_needs q inside g = (omega arith, omega (arith, below, few), inside, second_room m.cut m.version start_is h put_whole rest_places_lem q (g ∙ l))
 
   some : 0 < length (turn (take Ncb (shape (length d0) F)) (start_in Ncb R v))
   some = turn_some m.least m.fits.filler m.cut m.version
@@ -205,7 +219,7 @@ module _ {d0 d1 d2 : List ℕ} {F Ncb v : ℕ} {T : Turn} (z : Turned d0 d1 d2 F
   turned = units_turn (length d0) F d0 d1 d2 refl m.fits.first m.fits.second m.fits.some m.fits.filler m.fits.most m.cut v m.version start_is
 
   -- all of them are one turn
-  pub turn_in : {E size₁ size₃ : ℕ} {ring₀ ring₁ ring₂ ring₃ : List ℕ} {n k r : ℕ} {U : Unit} → 0 < E → U ≡ pair_within (length d0) F (T.whole - 32)
+  pub turn_in : {E size₁ size₃ : ℕ} {ring₀ ring₁ ring₂ ring₃ : List ℕ} {n k r : ℕ} {U : Unit} → 0 < E → U ≡ unit_at (length d0) F T.whole
       → PutTo E (units_from (length d0) d0 d1 d2 F T.start (T.whole - T.start)) size₁ ring₀ 0 ring₁ n → PutTo E (take T.rest (pair_bits d1 d2 U)) T.rest ring₁ n ring₂ k
       → PutTo E (units_from (length d0) d0 d1 d2 F 0 (T.start - 0)) size₃ ring₂ k ring₃ r → TurnIn d0 d1 d2 F Ncb v E ring₃ r
   unfolding sent_of sent_places
@@ -227,7 +241,7 @@ module _ {d0 d1 d2 : List ℕ} {F Ncb v : ℕ} {T : Turn} (z : Turned d0 d1 d2 F
   pub turn_uncut : {E size₁ size₃ : ℕ} {ring₀ ring₁ ring₃ : List ℕ} {n r : ℕ} → 0 < E → T.rest ≡ 0
       → PutTo E (units_from (length d0) d0 d1 d2 F T.start (T.whole - T.start)) size₁ ring₀ 0 ring₁ n
       → PutTo E (units_from (length d0) d0 d1 d2 F 0 (T.start - 0)) size₃ ring₁ n ring₃ r → TurnIn d0 d1 d2 F Ncb v E ring₃ r
-  turn_uncut h z p o = turn_in h refl p (rest_none (pair_bits d1 d2 (pair_within (length d0) F (T.whole - 32))) p.inside z) o
+  turn_uncut h z p o = turn_in h refl p (rest_none (pair_bits d1 d2 (unit_at (length d0) F T.whole)) p.inside z) o
 
 -- the ring repeated
 pub matched_is : (d0 d1 d2 : List ℕ) (F Ncb v : ℕ) (out : List ℕ) → matchable (length d0) (length d1) (length d2) F Ncb v ≡ true

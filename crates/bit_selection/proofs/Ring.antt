@@ -1,7 +1,7 @@
 -- Laws of the matcher's loops and of its ring: the bits of columns and of units put into it one after another, until there are as many as are sent.
 -- Assumes nothing.
 use mathlib.Core.Path.{◌≡◌, refl, sym, ◌∙◌, ap, ap₂, subst}
-use mathlib.Core.Bool.{Bool, true, false, cond, ◌&&◌, and-eq-true_iff}
+use mathlib.Core.Bool.{Bool, true, false, cond}
 use mathlib.Core.Logic.{⊎_elim}
 use mathlib.Core.List.{List, ◌∷◌, ◌++◌, append-nil, append_assoc}
 use Prim.Native.Nat.{ℕ, zero, suc, ◌+◌, ◌-◌, ◌*◌, ◌/◌, ◌%◌, ◌≤◌, ◌<◌}
@@ -21,7 +21,7 @@ use Rattle.rate_matching.specs.Walk.{turn_after_turn}
 use Rattle.rate_matching.specs.declared.Unit.{Unit}
 use Rattle.rate_matching.specs.SubBlocks.{rows}
 use Rattle.rate_matching.specs.Places.{longest}
-use Rattle.rate_matching.specs.Units.{unit_within, alone_count, both_count, unit_start, Lies}
+use Rattle.rate_matching.specs.Units.{unit_at, alone_count, both_count, unit_start, Lies}
 use Rattle.bit_selection.specs.inner.Bits.{every_row, pair_row, column_bits, pair_bits, bits_of, unit_bits, units_from, Reads}
 use Rattle.bit_selection.specs.inner.Ring.{Holds, Put, PutTo}
 use Rattle.rate_matching.proofs.Units.{low_next, high_next, starts_rise}
@@ -29,58 +29,47 @@ use Rattle.bit_selection.proofs.UnitBits.{unit_few}
 
 -- ---- a column: row q is so far below the first
 
-pub column_next : (y : List ℕ) (from : ℕ) {part₀ part : List ℕ} {below q : ℕ} → below ≡ 32 * q → q < length part → length part ≡ length part₀
+pub column_next : (y : List ℕ) (from : ℕ) {part₀ part : List ℕ} {q : ℕ} → q < length part → length part ≡ length part₀
     → Writing part₀ part q (tab_from q (length part₀ - q) (every_row y from)) (tab (length part₀) (every_row y from))
-    → Writing part₀ (set part q (get_or y (from + below) 0)) (q + 1) (tab_from (q + 1) (length part₀ - (q + 1)) (every_row y from)) (tab (length part₀) (every_row y from))
+    → Writing part₀ (set part q (get_or y (from + 32 * q) 0)) (q + 1) (tab_from (q + 1) (length part₀ - (q + 1)) (every_row y from)) (tab (length part₀) (every_row y from))
 unfolding every_row
-column_next y from {part₀} {part} {below} {q} e h l w =
-    push h (same (rest_more q (length part₀) (every_row y from) (omega arith) ∙ ap (λ (a : ℕ). get_or y (from + a) 0 ∷ tab_from (q + 1) (length part₀ - (q + 1)) (every_row y from)) (sym e)) w)
+column_next y from {part₀} {part} {q} h l w = push h (same (rest_more q (length part₀) (every_row y from) (omega arith)) w)
 
--- ---- two columns by turns: k entries are written, k even
+-- ---- two columns by turns
 
-pair_first : (d1 d2 : List ℕ) (from k : ℕ) → k % 2 ≡ 0 → pair_row d1 d2 from k ≡ get_or d1 (from + 16 * k) 0
+pair_first : (d1 d2 : List ℕ) (from q : ℕ) → pair_row d1 d2 from (2 * q) ≡ get_or d1 (from + 32 * q) 0
 unfolding pair_row every_row
-pair_first d1 d2 from k e =
-    let i : from + 32 * (k / 2) ≡ from + 16 * k = omega arith in
-    simp (eq-eqb (k % 2) 0 e) (ap (λ (n : ℕ). get_or d1 n 0) i)
+pair_first d1 d2 from q =
+    let i : from + 32 * (2 * q / 2) ≡ from + 32 * q = omega arith in
+    simp (eq-eqb (2 * q % 2) 0 (omega arith)) (ap (λ (n : ℕ). get_or d1 n 0) i)
 
-pair_second : (d1 d2 : List ℕ) (from k : ℕ) → k % 2 ≡ 0 → pair_row d1 d2 from (k + 1) ≡ get_or d2 (from + 16 * k + 1) 0
+pair_second : (d1 d2 : List ℕ) (from q : ℕ) → pair_row d1 d2 from (2 * q + 1) ≡ get_or d2 (from + 32 * q + 1) 0
 unfolding pair_row every_row
-pair_second d1 d2 from k e =
-    let i : from + 1 + 32 * ((k + 1) / 2) ≡ from + 16 * k + 1 = omega arith in
-    simp (ne_eqb ((k + 1) % 2) 0 (λ z. omega arith)) (ap (λ (n : ℕ). get_or d2 n 0) i)
+pair_second d1 d2 from q =
+    let i : from + 1 + 32 * ((2 * q + 1) / 2) ≡ from + 32 * q + 1 = omega arith in
+    simp (ne_eqb ((2 * q + 1) % 2) 0 (λ z. omega arith)) (ap (λ (n : ℕ). get_or d2 n 0) i)
 
-pub record Pairing (d1 d2 : List ℕ) (from : ℕ) (part₀ part : List ℕ) (below k : ℕ) : Type 0 where
-  pub even : k % 2 ≡ 0
-  pub place : below ≡ 16 * k
-  pub within : k ≤ length part₀
-  pub wrote : Writing part₀ part k (tab_from k (length part₀ - k) (pair_row d1 d2 from)) (tab (length part₀) (pair_row d1 d2 from))
+-- q rows of both are written
+pub record Pairing (d1 d2 : List ℕ) (from : ℕ) (part₀ part : List ℕ) (q : ℕ) : Type 0 where
+  pub wrote : Writing part₀ part (2 * q) (tab_from (2 * q) (length part₀ - 2 * q) (pair_row d1 d2 from)) (tab (length part₀) (pair_row d1 d2 from))
 
-pub pairing_start : {d1 d2 : List ℕ} {from : ℕ} {part : List ℕ} → Pairing d1 d2 from part part 0 0
-pairing_start {d1} {d2} {from} {part} = record { even = refl; place = omega arith; within = omega arith; wrote = same (sym (tab_rest (length part) (pair_row d1 d2 from))) start }
+pub pairing_start : {d1 d2 : List ℕ} {from : ℕ} {part : List ℕ} → Pairing d1 d2 from part part 0
+pairing_start {d1} {d2} {from} {part} = record { wrote = same (sym (tab_rest (length part) (pair_row d1 d2 from))) start }
 
-module _ {d1 d2 : List ℕ} {from : ℕ} {part₀ part : List ℕ} {below k : ℕ} (p : Pairing d1 d2 from part₀ part below k) where
-  -- `part[k] = d1[from.1 + below]`
-  pub pair_one : k < length part → Writing part₀ (set part k (get_or d1 (from + below) 0)) (k + 1) (tab_from (k + 1) (length part₀ - (k + 1)) (pair_row d1 d2 from)) (tab (length part₀) (pair_row d1 d2 from))
-  pair_one h = push h (same (rest_more k (length part₀) (pair_row d1 d2 from) (omega (arith, p.wrote.long)) ∙ ap (λ (x : ℕ). x ∷ tab_from (k + 1) (length part₀ - (k + 1)) (pair_row d1 d2 from)) entry) p.wrote)
-    where
-      entry : pair_row d1 d2 from k ≡ get_or d1 (from + below) 0
-      entry = pair_first d1 d2 from k p.even ∙ ap (λ (n : ℕ). get_or d1 (from + n) 0) (sym p.place)
+module _ {d1 d2 : List ℕ} {from : ℕ} {part₀ part : List ℕ} {q : ℕ} (p : Pairing d1 d2 from part₀ part q) where
+  -- `part[2 * q] = d1[from.1 + 32 * q]`
+  pub pair_one : 2 * q < length part
+      → Writing part₀ (set part (2 * q) (get_or d1 (from + 32 * q) 0)) (2 * q + 1) (tab_from (2 * q + 1) (length part₀ - (2 * q + 1)) (pair_row d1 d2 from)) (tab (length part₀) (pair_row d1 d2 from))
+  pair_one h = push h (same (rest_more (2 * q) (length part₀) (pair_row d1 d2 from) (omega (arith, p.wrote.long)) ∙ ap (λ (x : ℕ). x ∷ tab_from (2 * q + 1) (length part₀ - (2 * q + 1)) (pair_row d1 d2 from)) (pair_first d1 d2 from q)) p.wrote)
 
-  -- `part[k + 1] = d2[from.1 + below + 1]; below += 32; k += 2` after it
-  pub pair_next : k + 1 < length part → Pairing d1 d2 from part₀ (set (set part k (get_or d1 (from + below) 0)) (k + 1) (get_or d2 (from + below + 1) 0)) (below + 32) (k + 2)
+  -- `part[2 * q + 1] = d2[from.1 + 32 * q + 1]` after it
+  pub pair_next : 2 * q + 1 < length part → Pairing d1 d2 from part₀ (set (set part (2 * q) (get_or d1 (from + 32 * q) 0)) (2 * q + 1) (get_or d2 (from + 32 * q + 1) 0)) (q + 1)
   pair_next h = record {
-    even = omega (arith, p.even);
-    place = omega (arith, p.place);
-    within = omega (arith, p.wrote.long);
-    wrote = rw two (push (rw length-set h) (same (rest_more (k + 1) (length part₀) (pair_row d1 d2 from) (omega (arith, p.wrote.long)) ∙ ap (λ (x : ℕ). x ∷ tab_from (k + 1 + 1) (length part₀ - (k + 1 + 1)) (pair_row d1 d2 from)) entry) (pair_one (omega arith))));
+    wrote = rw two (push (rw length-set h) (same (rest_more (2 * q + 1) (length part₀) (pair_row d1 d2 from) (omega (arith, p.wrote.long)) ∙ ap (λ (x : ℕ). x ∷ tab_from (2 * q + 1 + 1) (length part₀ - (2 * q + 1 + 1)) (pair_row d1 d2 from)) (pair_second d1 d2 from q)) (pair_one (omega arith))));
   }
     where
-      two : k + 2 ≡ k + 1 + 1
+      two : 2 * (q + 1) ≡ 2 * q + 1 + 1
       two = omega arith
-
-      entry : pair_row d1 d2 from (k + 1) ≡ get_or d2 (from + below + 1) 0
-      entry = pair_second d1 d2 from k p.even ∙ ap (λ (n : ℕ). get_or d2 (from + n + 1) 0) (sym p.place)
 
 -- ---- a part of the ring
 
@@ -186,19 +175,19 @@ length_bits d0 d1 d2 U = go (eqb U.first.0 0)
 
 pub unit_long : {D F : ℕ} (d0 d1 d2 : List ℕ) (u : ℕ) → D ≤ longest → F < D → u < 64 → length (unit_bits D d0 d1 d2 F u) ≤ unit_start (rows D) (u + 1) - unit_start (rows D) u
 unfolding unit_bits
-unit_long {D} {F} d0 d1 d2 u most few l = omega (arith, length_bits d0 d1 d2 (unit_within D F u), unit_few {D = D} {F = F} u most few refl l)
+unit_long {D} {F} d0 d1 d2 u most few l = omega (arith, length_bits d0 d1 d2 (unit_at D F u), unit_few {D = D} {F = F} u most few refl l)
 
 -- as the unit that was found
-unit_put : (D F u : ℕ) (d0 d1 d2 : List ℕ) {U : Unit} {ring : List ℕ} {n : ℕ} {ring' : List ℕ} {r : ℕ} → U ≡ unit_within D F u → Put (bits_of d0 d1 d2 U) ring n ring' r
+unit_put : (D F u : ℕ) (d0 d1 d2 : List ℕ) {U : Unit} {ring : List ℕ} {n : ℕ} {ring' : List ℕ} {r : ℕ} → U ≡ unit_at D F u → Put (bits_of d0 d1 d2 U) ring n ring' r
     → Put (unit_bits D d0 d1 d2 F u) ring n ring' r
 unfolding unit_bits
 unit_put D F u d0 d1 d2 {U} {ring} {n} {ring'} {r} is p = subst (λ (x : Unit). Put (bits_of d0 d1 d2 x) ring n ring' r) is p
 
-pub column_unit_put : (D F u : ℕ) (d0 d1 d2 : List ℕ) {U : Unit} {ring : List ℕ} {n : ℕ} {ring' : List ℕ} {r : ℕ} → U ≡ unit_within D F u → U.first.0 ≡ 0
+pub column_unit_put : (D F u : ℕ) (d0 d1 d2 : List ℕ) {U : Unit} {ring : List ℕ} {n : ℕ} {ring' : List ℕ} {r : ℕ} → U ≡ unit_at D F u → U.first.0 ≡ 0
     → Put (column_bits d0 U) ring n ring' r → Put (unit_bits D d0 d1 d2 F u) ring n ring' r
 column_unit_put D F u d0 d1 d2 {U} {ring} {n} {ring'} {r} is z p = unit_put D F u d0 d1 d2 is (subst (λ (l : List ℕ). Put l ring n ring' r) (bits_column d0 d1 d2 U z) p)
 
-pub pair_unit_put : (D F u : ℕ) (d0 d1 d2 : List ℕ) {U : Unit} {ring : List ℕ} {n : ℕ} {ring' : List ℕ} {r : ℕ} → U ≡ unit_within D F u → (U.first.0 ≡ 0 → ⊥)
+pub pair_unit_put : (D F u : ℕ) (d0 d1 d2 : List ℕ) {U : Unit} {ring : List ℕ} {n : ℕ} {ring' : List ℕ} {r : ℕ} → U ≡ unit_at D F u → (U.first.0 ≡ 0 → ⊥)
     → Put (pair_bits d1 d2 U) ring n ring' r → Put (unit_bits D d0 d1 d2 F u) ring n ring' r
 pair_unit_put D F u d0 d1 d2 {U} {ring} {n} {ring'} {r} is z p = unit_put D F u d0 d1 d2 is (subst (λ (l : List ℕ). Put l ring n ring' r) (bits_pair d0 d1 d2 U z) p)
 
@@ -265,7 +254,7 @@ module _ {D : ℕ} {d0 d1 d2 : List ℕ} {F from to : ℕ} {ring₀ : List ℕ} 
     reached = omega (arith, f.within, starts_rise (rows D) u to f.passed.1, starts_rise (rows D) from u f.passed.0)
 
     -- all units are put, or enough of them
-    filling_all : (most : ℕ) → to ≤ u
+    pub filling_all : (most : ℕ) → to ≤ u
         → PutTo most (units_from D d0 d1 d2 F from (to - from)) (unit_start (rows D) to - unit_start (rows D) from) ring₀ n ring end
     unfolding units_from
     filling_all most h = record {
@@ -277,27 +266,13 @@ module _ {D : ℕ} {d0 d1 d2 : List ℕ} {F from to : ℕ} {ring₀ : List ℕ} 
         none : 0 ≡ to - u
         none = omega arith
 
-    filling_enough : (most : ℕ) → most ≤ end
+    pub filling_enough : (most : ℕ) → most ≤ end
         → PutTo most (units_from D d0 d1 d2 F from (to - from)) (unit_start (rows D) to - unit_start (rows D) from) ring₀ n ring end
     filling_enough most h = record {
       within = reached;
       inside = f.inside;
       told = sym (take-append-le most (take end ring) (units_from D d0 d1 d2 F u (to - u)) (omega (arith, length-take-le end ring f.inside))) ∙ ap (take most) f.told;
     }
-
-    -- by the loop's test
-    pub filling_goes : (most : ℕ) → (ltb u to && ltb end most) ≡ true → (u < to) × (end < most)
-    filling_goes most t = let both = (and-eq-true_iff (ltb u to) (ltb end most)).0 t in (ltb-true u to both.0, ltb-true end most both.1)
-
-    pub filling_ends : (most : ℕ) → (ltb u to && ltb end most) ≡ false
-        → PutTo most (units_from D d0 d1 d2 F from (to - from)) (unit_start (rows D) to - unit_start (rows D) from) ring₀ n ring end
-    filling_ends most t = go (ltb u to) refl (ltb end most) refl t
-      where
-        go : (a : Bool) → ltb u to ≡ a → (b : Bool) → ltb end most ≡ b → (a && b) ≡ false
-            → PutTo most (units_from D d0 d1 d2 F from (to - from)) (unit_start (rows D) to - unit_start (rows D) from) ring₀ n ring end
-        go false e b g t = filling_all most (ltb-false u to e)
-        go true e false g t = filling_enough most (ltb-false end most g)
-        go true e true g t = let z : ◌≡◌ {A = ℕ} 0 1 = cc in absurd (omega arith)
 
 -- ---- as many as are sent
 

@@ -18,11 +18,11 @@ use Rattle.rate_matching.specs.Circle.{circle}
 use Rattle.rate_matching.specs.Places.{longest}
 use Rattle.rate_matching.specs.Walk.{on_circle}
 use Rattle.rate_matching.specs.Shape.{shape, bit_places}
-use Rattle.rate_matching.specs.Units.{column_unit, pair_unit, no_unit, unit_within, alone_count, both_count, unit_start}
+use Rattle.rate_matching.specs.Units.{column_unit, pair_unit, unit_at, alone_count, both_count, unit_start}
 use Rattle.rate_matching.proofs.ShapeColumns.{bit_places_split}
 use Rattle.rate_matching.proofs.ShapeTurn.{bit_places_none}
 use Rattle.rate_matching.proofs.Units.{low_start, low_next, high_start, high_next, starts_rise}
-use Rattle.rate_matching.proofs.UnitPlaces.{column_rowed, column_lies, pair_lies, alone_none, alone_count_lem, column_count, pair_count, none_lies, told_low, told_high, by_kind}
+use Rattle.rate_matching.proofs.UnitPlaces.{column_rowed, column_lies, pair_lies, alone_none, alone_count_lem, column_count, pair_count, told_low, told_high, by_kind}
 use Rattle.bit_selection.specs.inner.Bits.{every_row, pair_row, bits_of, unit_bits, units_from, Reads}
 use Rattle.bit_selection.proofs.ColumnBits.{column_bits_lem, pair_bits_lem}
 
@@ -71,31 +71,21 @@ module _ {D F c : ℕ} (most : D ≤ longest) (few : F < D) (h : c < 32) where
     second = λ z. rw (pair_count most few h) (omega (arith, column_rowed most few h));
   }
 
-none_reads : (D : ℕ) → Reads D no_unit
-unfolding no_unit alone_count both_count
-none_reads D = record {
-  lies = none_lies;
-  column = λ z. omega arith;
-  alone = λ z. absurd (z refl);
-  first = λ z. absurd (z refl);
-  second = λ z. absurd (z refl);
-}
-
 -- ---- of unit u
 
-module _ {D F : ℕ} (u : ℕ) (most : D ≤ longest) (few : F < D) {U : Unit} (is : U ≡ unit_within D F u) where
+module _ {D F : ℕ} (u : ℕ) (most : D ≤ longest) (few : F < D) {U : Unit} (is : U ≡ unit_at D F u) where
   -- which stream its first place is of
   pub column_stream : u < 32 → U.first.0 ≡ 0
   unfolding column_unit
   column_stream h = ap (λ (x : Unit). x.first.0) (told_low u most few is h)
 
-  pub pair_stream : 32 ≤ u → u < 64 → U.first.0 ≡ 0 → ⊥
+  pub pair_stream : 32 ≤ u → U.first.0 ≡ 0 → ⊥
   unfolding pair_unit
-  pair_stream h l z = let one : U.first.0 ≡ 1 = ap (λ (x : Unit). x.first.0) (told_high u most few is h l) in omega arith
+  pair_stream h z = let one : U.first.0 ≡ 1 = ap (λ (x : Unit). x.first.0) (told_high u most few is h) in omega arith
 
   -- what it reads lies in the streams
-  pub unit_reads : Reads D U
-  unit_reads = by_kind u most few is (Reads D) (column_reads most few) (pair_reads most few) (none_reads D)
+  pub unit_reads : u < 64 → Reads D U
+  unit_reads l = by_kind u most few is (Reads D) l (column_reads most few) (pair_reads most few)
 
   -- it has no more bits than places
   pub unit_few : u < 64 → alone_count U + both_count U ≤ unit_start (rows D) (u + 1) - unit_start (rows D) u
@@ -103,7 +93,7 @@ module _ {D F : ℕ} (u : ℕ) (most : D ≤ longest) (few : F < D) {U : Unit} (
     where
       go : (a : Bool) → ltb u 32 ≡ a → alone_count U + both_count U ≤ unit_start (rows D) (u + 1) - unit_start (rows D) u
       go true s = let h : u < 32 = ltb-true u 32 s in rw (told_low u most few is h) (omega (arith, low_next (rows D) u h, column_size most few h))
-      go false s = let h : 32 ≤ u = ltb-false u 32 s in rw (told_high u most few is h l) (let c : u - 32 < 32 = omega arith in omega (arith, high_next (rows D) u h, pair_size most few c))
+      go false s = let h : 32 ≤ u = ltb-false u 32 s in rw (told_high u most few is h) (let c : u - 32 < 32 = omega arith in omega (arith, high_next (rows D) u h, pair_size most few c))
 
 -- ---- they stand at its places
 
@@ -124,7 +114,7 @@ module _ (D F : ℕ) (d0 d1 d2 : List ℕ) (l0 : length d0 ≡ D) (l1 : length d
           (alone_count_lem most few h) (pair_count most few h)
 
       go : (t : Bool) → ltb u 32 ≡ t
-          → map (on_circle (circle d0 d1 d2)) (bit_places (shape D F) (unit_start (rows D) u) (unit_start (rows D) (u + 1))) ≡ bits_of d0 d1 d2 (unit_within D F u)
+          → map (on_circle (circle d0 d1 d2)) (bit_places (shape D F) (unit_start (rows D) u) (unit_start (rows D) (u + 1))) ≡ bits_of d0 d1 d2 (unit_at D F u)
       go true t =
           let h : u < 32 = ltb-true u 32 t in
           rw (low_next (rows D) u h, low_start (rows D) u h) (column_bits_lem D F d0 d1 d2 l0 l1 l2 some few u h)
@@ -133,7 +123,7 @@ module _ (D F : ℕ) (d0 d1 d2 : List ℕ) (l0 : length d0 ≡ D) (l1 : length d
           let h : 32 ≤ u = ltb-false u 32 t in
           let c : u - 32 < 32 = omega arith in
           rw (high_next (rows D) u h, high_start (rows D) u h) (pair_bits_lem D F d0 d1 d2 l0 l1 l2 some few (u - 32) c)
-          ∙ sym (ap (bits_of d0 d1 d2) (told_high u most few refl h l) ∙ high c)
+          ∙ sym (ap (bits_of d0 d1 d2) (told_high u most few refl h) ∙ high c)
 
   pub units_are : (n u : ℕ) → u + n ≤ 64
       → units_from D d0 d1 d2 F u n ≡ map (on_circle (circle d0 d1 d2)) (bit_places (shape D F) (unit_start (rows D) u) (unit_start (rows D) (u + n)))

@@ -26,17 +26,23 @@ const MANY: usize = 2048;
 
 const FEW: usize = 512;
 
+// The streams of a code block, where the first `filler` places of d(0) and d(1) are <NULL>.
+#[derive(Clone, Copy)]
+struct Streams<'a> {
+    d0: &'a [u8],
+    d1: &'a [u8],
+    d2: &'a [u8],
+    filler: usize,
+    ghost fits: { Fitting (length d0.now) (length d1.now) (length d2.now) filler },
+}
+
 // One column of a stream: every 32nd entry from a place on.
 fn read_column(d: &[u8], from: StreamPlace, part: &mut [u8])
     requires { from.1 + 32 * length part.old ≤ length d.now + 31 }
     ensures { part.new ≡ tab (length part.old) (every_row d.now from.1) }
 {
-    let mut below = 0;
-    let mut q = 0;
-    while q < part.len() {
-        part[q] = d[from.1 + below];
-        below += 32;
-        q += 1;
+    for q in 0..part.len() {
+        part[q] = d[from.1 + 32 * q];
     }
 }
 
@@ -45,161 +51,125 @@ fn read_pairs(d1: &[u8], d2: &[u8], from: StreamPlace, part: &mut [u8])
     requires { (from.1 + 32 * ((length part.old + 1) / 2) ≤ length d1.now + 31) × (from.1 + 32 * (length part.old / 2) ≤ length d2.now + 30) }
     ensures { part.new ≡ tab (length part.old) (pair_row d1.now d2.now from.1) }
 {
-    let mut below = 0;
-    let mut k = 0;
-    while k + 1 < part.len() {
-        part[k] = d1[from.1 + below];
-        part[k + 1] = d2[from.1 + below + 1];
-        below += 32;
-        k += 2;
+    let pairs = part.len() / 2;
+    for q in 0..pairs {
+        part[2 * q] = d1[from.1 + 32 * q];
+        part[2 * q + 1] = d2[from.1 + 32 * q + 1];
     }
-    if k < part.len() {
-        part[k] = d1[from.1 + below];
+    if part.len() % 2 == 1 {
+        part[2 * pairs] = d1[from.1 + 32 * pairs];
     }
 }
 
 // Puts the bits of a column of d(0) into the ring from its place n on, and tells where they end.
-fn put_column(d0: &[u8], unit: Unit, ring: &mut [u8], n: usize) -> usize
-    requires { Reads (length d0.now) unit × (unit.first.0 ≡ 0) × (n + (alone_count unit + both_count unit) ≤ length ring.old) }
-    ensures { Put (column_bits d0.now unit) ring.old n ring.new result }
+fn put_column(of: Streams, unit: Unit, ring: &mut [u8], n: usize) -> usize
+    requires { Reads (length of.d0.now) unit × (unit.first.0 ≡ 0) × (n + (alone_count unit + both_count unit) ≤ length ring.old) }
+    ensures { Put (column_bits of.entry.d0.now unit) ring.old n ring.new result }
 {
     let end = n + (unit.end.0 - unit.both.0);
-    read_column(d0, unit.first, &mut ring[n..end]);
+    read_column(of.d0, unit.first, &mut ring[n..end]);
     end
 }
 
 // The same of a column of d(1) and d(2): those of d(2) alone, and then of both by turns.
-fn put_pair(d1: &[u8], d2: &[u8], unit: Unit, ring: &mut [u8], n: usize) -> usize
-    requires { (length d2.now ≡ length d1.now) × Reads (length d1.now) unit × (unit.first.0 ≡ 0 → ⊥)
-        × (n + (alone_count unit + both_count unit) ≤ length ring.old) }
-    ensures { Put (pair_bits d1.now d2.now unit) ring.old n ring.new result }
+fn put_pair(of: Streams, unit: Unit, ring: &mut [u8], n: usize) -> usize
+    requires { Reads (length of.d0.now) unit × (unit.first.0 ≡ 0 → ⊥) × (n + (alone_count unit + both_count unit) ≤ length ring.old) }
+    ensures { Put (pair_bits of.entry.d1.now of.entry.d2.now unit) ring.old n ring.new result }
 {
     let mid = n + (unit.both.0 + 1 - unit.alone.0) / 2;
-    read_column(d2, unit.early, &mut ring[n..mid]);
+    read_column(of.d2, unit.early, &mut ring[n..mid]);
     let end = mid + (unit.end.0 - unit.both.0);
-    read_pairs(d1, d2, unit.first, &mut ring[mid..end]);
+    read_pairs(of.d1, of.d2, unit.first, &mut ring[mid..end]);
     end
 }
 
-// Puts the bits of the columns of d(0) from `from` to `to` into the ring from its place n on until it holds `most`, and tells where they end. Columns and
-// pairs have loops of their own: in each the compiler knows the kind of unit, and works out once what all of them share.
-fn put_columns(
-    d0: &[u8],
-    filler: usize,
-    from: usize,
-    to: usize,
-    ring: &mut [u8],
-    n: usize,
-    most: usize,
-) -> usize
-    requires { (length d0.now ≤ 6148) × (filler < length d0.now) × (from ≤ to) × (to ≤ 32) × (n ≤ length ring.old)
-        × Holds (rows (length d0.now)) most (n + (unit_start (rows (length d0.now)) to - unit_start (rows (length d0.now)) from)) (length ring.old) }
-    ensures { (d1 d2 : List ℕ) → PutTo most (units_from (length d0.now) d0.now d1 d2 filler from (to - from))
-        (unit_start (rows (length d0.now)) to - unit_start (rows (length d0.now)) from)
+// Puts the bits of the columns of d(0) from `from` to `to` into the ring from its place n on until it holds `most`, and tells where they end.
+// kept: columns and pairs have loops of their own, as in each the compiler knows the kind of unit, and works out once what all of them share.
+fn put_columns(of: Streams, from: usize, to: usize, ring: &mut [u8], n: usize, most: usize) -> usize
+    requires { (from ≤ to) × (to ≤ 32) × (n ≤ length ring.old)
+        × Holds (rows (length of.d0.now)) most (n + (unit_start (rows (length of.d0.now)) to - unit_start (rows (length of.d0.now)) from)) (length ring.old) }
+    ensures { PutTo most (units_from (length of.entry.d0.now) of.entry.d0.now of.entry.d1.now of.entry.d2.now of.entry.filler from (to - from))
+        (unit_start (rows (length of.entry.d0.now)) to - unit_start (rows (length of.entry.d0.now)) from)
         ring.old n ring.new result }
 {
     let mut end = n;
-    let mut u = from;
-    while (u < to) & (end < most) {
-        end = put_column(d0, column_unit_at(d0.len(), filler, u), ring, end);
-        u += 1;
+    for u in from..to {
+        if most <= end {
+            return end;
+        }
+        let unit = column_unit_at(of.d0.len(), of.filler, u).unwrap();
+        end = put_column(of, unit, ring, end);
     }
     end
 }
 
 // The same of the columns of d(1) and d(2), which are the units from 32 on.
-fn put_pairs(
-    d1: &[u8],
-    d2: &[u8],
-    filler: usize,
-    from: usize,
-    to: usize,
-    ring: &mut [u8],
-    n: usize,
-    most: usize,
-) -> usize
-    requires { (length d2.now ≡ length d1.now) × (length d1.now ≤ 6148) × (filler < length d1.now) × (32 ≤ from) × (from ≤ to) × (to ≤ 64)
-        × (n ≤ length ring.old)
-        × Holds (rows (length d1.now)) most (n + (unit_start (rows (length d1.now)) to - unit_start (rows (length d1.now)) from)) (length ring.old) }
-    ensures { (d0 : List ℕ) → PutTo most (units_from (length d1.now) d0 d1.now d2.now filler from (to - from))
-        (unit_start (rows (length d1.now)) to - unit_start (rows (length d1.now)) from)
+fn put_pairs(of: Streams, from: usize, to: usize, ring: &mut [u8], n: usize, most: usize) -> usize
+    requires { (32 ≤ from) × (from ≤ to) × (to ≤ 64) × (n ≤ length ring.old)
+        × Holds (rows (length of.d0.now)) most (n + (unit_start (rows (length of.d0.now)) to - unit_start (rows (length of.d0.now)) from)) (length ring.old) }
+    ensures { PutTo most (units_from (length of.entry.d0.now) of.entry.d0.now of.entry.d1.now of.entry.d2.now of.entry.filler from (to - from))
+        (unit_start (rows (length of.entry.d0.now)) to - unit_start (rows (length of.entry.d0.now)) from)
         ring.old n ring.new result }
 {
     let mut end = n;
-    let mut u = from;
-    while (u < to) & (end < most) {
-        end = put_pair(d1, d2, pair_unit_at(d1.len(), filler, u - 32), ring, end);
-        u += 1;
+    for u in from..to {
+        if most <= end {
+            return end;
+        }
+        let unit = pair_unit_at(of.d0.len(), of.filler, u - 32).unwrap();
+        end = put_pair(of, unit, ring, end);
     }
     end
 }
 
 // Puts the bits of the units from `from` to `to` in the same way.
-fn put_units(
-    d0: &[u8],
-    d1: &[u8],
-    d2: &[u8],
-    filler: usize,
-    from: usize,
-    to: usize,
-    ring: &mut [u8],
-    n: usize,
-    most: usize,
-) -> usize
-    requires { Fitting (length d0.now) (length d1.now) (length d2.now) filler × (from ≤ to) × (to ≤ 64)
-        × (n ≤ length ring.old)
-        × Holds (rows (length d0.now)) most (n + (unit_start (rows (length d0.now)) to - unit_start (rows (length d0.now)) from)) (length ring.old) }
-    ensures { PutTo most (units_from (length d0.now) d0.now d1.now d2.now filler from (to - from))
-        (unit_start (rows (length d0.now)) to - unit_start (rows (length d0.now)) from)
+fn put_units(of: Streams, from: usize, to: usize, ring: &mut [u8], n: usize, most: usize) -> usize
+    requires { (from ≤ to) × (to ≤ 64) × (n ≤ length ring.old)
+        × Holds (rows (length of.d0.now)) most (n + (unit_start (rows (length of.d0.now)) to - unit_start (rows (length of.d0.now)) from)) (length ring.old) }
+    ensures { PutTo most (units_from (length of.entry.d0.now) of.entry.d0.now of.entry.d1.now of.entry.d2.now of.entry.filler from (to - from))
+        (unit_start (rows (length of.entry.d0.now)) to - unit_start (rows (length of.entry.d0.now)) from)
         ring.old n ring.new result }
 {
     if to <= 32 {
-        return put_columns(d0, filler, from, to, ring, n, most);
+        return put_columns(of, from, to, ring, n, most);
     }
     if 32 <= from {
-        return put_pairs(d1, d2, filler, from, to, ring, n, most);
+        return put_pairs(of, from, to, ring, n, most);
     }
-    let mid = put_columns(d0, filler, from, 32, ring, n, most);
-    put_pairs(d1, d2, filler, 32, to, ring, mid, most)
+    let mid = put_columns(of, from, 32, ring, n, most);
+    put_pairs(of, 32, to, ring, mid, most)
 }
 
 // Puts the first `rest` bits of the columns of d(1) and d(2) that the cut shortens into the ring from its place n on, unless it holds `most`, and tells where
 // they end. All bits of the unit are put, and those behind the cut left out of account.
-fn put_rest(
-    d1: &[u8],
-    d2: &[u8],
-    unit: Unit,
-    rest: usize,
-    ring: &mut [u8],
-    n: usize,
-    most: usize,
-) -> usize
-    requires { (length d2.now ≡ length d1.now) × Reads (length d1.now) unit × (unit.first.0 ≡ 0 → ⊥) × (rest ≤ length (pair_bits d1.now d2.now unit))
+fn put_rest(of: Streams, unit: Unit, rest: usize, ring: &mut [u8], n: usize, most: usize) -> usize
+    requires { Reads (length of.d0.now) unit × (unit.first.0 ≡ 0 → ⊥) × (rest ≤ length (pair_bits of.d1.now of.d2.now unit))
         × (n ≤ length ring.old) × (n < most → n + (alone_count unit + both_count unit) ≤ length ring.old) }
-    ensures { PutTo most (take rest (pair_bits d1.now d2.now unit)) rest ring.old n ring.new result }
+    ensures { PutTo most (take rest (pair_bits of.entry.d1.now of.entry.d2.now unit)) rest ring.old n ring.new result }
 {
     if most <= n {
         return n;
     }
-    put_pair(d1, d2, unit, ring, n);
+    put_pair(of, unit, ring, n);
     n + rest
 }
 
 // Fills `out` with the ring turn after turn; the last turn may be cut short.
+// kept: no `chunks_mut`, since a proof knows of the chunks' slice afterwards only how long it is.
 fn repeat(ring: &[u8], out: &mut [u8])
     requires { 0 < length ring.now }
     ensures { out.new ≡ tab (length out.old) (turn_after_turn ring.now) }
 {
     let n = ring.len();
-    let mut i = 0;
-    let mut left = out.len();
-    while n <= left {
-        let end = i + n;
-        octets::copy(ring, &mut out[i..end]);
-        i = end;
-        left -= n;
+    let whole = out.len() / n;
+    for turn in 0..whole {
+        let at = turn * n;
+        let end = at + n;
+        out[at..end].copy_from_slice(ring);
     }
-    octets::copy(&ring[..left], &mut out[i..]);
+    let last = whole * n;
+    let left = out.len() - last;
+    out[last..].copy_from_slice(&ring[..left]);
 }
 
 // The same of a ring that is short beside `out`, by copies of many turns at once.
@@ -236,28 +206,19 @@ pub fn turn_after_turn(ring: &[u8], out: &mut [u8])
 }
 
 // Puts the bits of a turn into the ring, or as many of them as are sent, and tells where they end. The cut shortens one pair of columns and nothing else.
-fn put_turn(
-    d0: &[u8],
-    d1: &[u8],
-    d2: &[u8],
-    filler: usize,
-    ncb: usize,
-    version: usize,
-    ring: &mut [u8],
-    most: usize,
-) -> usize
-    requires { (matchable (length d0.now) (length d1.now) (length d2.now) filler ncb version ≡ true)
-        × Holds (rows (length d0.now)) most (circle_length (rows (length d0.now))) (length ring.old) × (0 < most) }
-    ensures { TurnIn d0.now d1.now d2.now filler ncb version most ring.new result }
+fn put_turn(of: Streams, ncb: usize, version: usize, ring: &mut [u8], most: usize) -> usize
+    requires { (matchable (length of.d0.now) (length of.d1.now) (length of.d2.now) of.filler ncb version ≡ true)
+        × Holds (rows (length of.d0.now)) most (circle_length (rows (length of.d0.now))) (length ring.old) × (0 < most) }
+    ensures { TurnIn of.entry.d0.now of.entry.d1.now of.entry.d2.now of.entry.filler ncb version most ring.new result }
 {
-    let turn = turn_of(d0.len(), filler, ncb, version);
-    let n = put_units(d0, d1, d2, filler, turn.start, turn.whole, ring, 0, most);
+    let turn = turn_of(of.d0.len(), of.filler, ncb, version).unwrap();
+    let n = put_units(of, turn.start, turn.whole, ring, 0, most);
     if turn.rest == 0 {
-        return put_units(d0, d1, d2, filler, 0, turn.start, ring, n, most);
+        return put_units(of, 0, turn.start, ring, n, most);
     }
-    let cut = pair_unit_at(d0.len(), filler, turn.whole - 32);
-    let m = put_rest(d1, d2, cut, turn.rest, ring, n, most);
-    put_units(d0, d1, d2, filler, 0, turn.start, ring, m, most)
+    let cut = pair_unit_at(of.d0.len(), of.filler, turn.whole - 32).unwrap();
+    let m = put_rest(of, cut, turn.rest, ring, n, most);
+    put_units(of, 0, turn.start, ring, m, most)
 }
 
 // The places that a ring of streams of `d` places needs for `e` bits: those of the circle, or fewer where the bits end before.
@@ -266,64 +227,35 @@ fn ring_length(d: usize, e: usize) -> usize
     ensures { result ≡ ring_length (rows d) e }
 {
     let rows = rows_of(d);
-    let some = e + 2 * rows;
-    let all = 96 * rows;
-    if some < all { some } else { all }
+    (e + 2 * rows).min(96 * rows)
 }
 
-// Rate matching of one code block with the short ring. It is repeated where it was made: there the compiler knows that `out` lies elsewhere, and
+// Rate matching of one code block with a ring of so many places. It is repeated where it was made: there the compiler knows that `out` lies elsewhere, and
 // copies many bytes at once.
-fn match_short(
-    d0: &[u8],
-    d1: &[u8],
-    d2: &[u8],
-    filler: usize,
-    ncb: usize,
-    version: usize,
-    out: &mut [u8],
-)
-    requires { (matchable (length d0.now) (length d1.now) (length d2.now) filler ncb version ≡ true) × (ring_length (rows (length d0.now)) (length out.old) ≤ 480) × (0 < length out.old) }
-    ensures { out.new ≡ matched_into d0.now d1.now d2.now filler ncb version out.old }
+fn match_in<const RING: usize>(of: Streams, ncb: usize, version: usize, out: &mut [u8])
+    requires { (matchable (length of.d0.now) (length of.d1.now) (length of.d2.now) of.filler ncb version ≡ true)
+        × (ring_length (rows (length of.d0.now)) (length out.old) ≤ RING) × (RING ≤ 18528) × (0 < length out.old) }
+    ensures { out.new ≡ matched_into of.entry.d0.now of.entry.d1.now of.entry.d2.now of.entry.filler ncb version out.old }
 {
-    let mut ring = [0u8; SHORT_RING];
-    let end = put_turn(d0, d1, d2, filler, ncb, version, &mut ring, out.len());
+    let mut ring = [0u8; RING];
+    let end = put_turn(of, ncb, version, &mut ring, out.len());
     fill(&ring[..end], out);
 }
 
-// The same with the middle ring.
-fn match_middle(
-    d0: &[u8],
-    d1: &[u8],
-    d2: &[u8],
-    filler: usize,
-    ncb: usize,
-    version: usize,
-    out: &mut [u8],
-)
-    requires { (matchable (length d0.now) (length d1.now) (length d2.now) filler ncb version ≡ true) × (ring_length (rows (length d0.now)) (length out.old) ≤ 3168) × (0 < length out.old) }
-    ensures { out.new ≡ matched_into d0.now d1.now d2.now filler ncb version out.old }
+// The same with the shortest ring that is long enough.
+fn match_block(of: Streams, ncb: usize, version: usize, out: &mut [u8])
+    requires { (matchable (length of.d0.now) (length of.d1.now) (length of.d2.now) of.filler ncb version ≡ true)
+        × (0 < length out.old) }
+    ensures { out.new ≡ matched_into of.entry.d0.now of.entry.d1.now of.entry.d2.now of.entry.filler ncb version out.old }
 {
-    let mut ring = [0u8; MIDDLE_RING];
-    let end = put_turn(d0, d1, d2, filler, ncb, version, &mut ring, out.len());
-    fill(&ring[..end], out);
-}
-
-// The same with the longest ring.
-fn match_long(
-    d0: &[u8],
-    d1: &[u8],
-    d2: &[u8],
-    filler: usize,
-    ncb: usize,
-    version: usize,
-    out: &mut [u8],
-)
-    requires { (matchable (length d0.now) (length d1.now) (length d2.now) filler ncb version ≡ true) × (0 < length out.old) }
-    ensures { out.new ≡ matched_into d0.now d1.now d2.now filler ncb version out.old }
-{
-    let mut ring = [0u8; LONG_RING];
-    let end = put_turn(d0, d1, d2, filler, ncb, version, &mut ring, out.len());
-    fill(&ring[..end], out);
+    let places = ring_length(of.d0.len(), out.len());
+    if places <= SHORT_RING {
+        return match_in::<SHORT_RING>(of, ncb, version, out);
+    }
+    if places <= MIDDLE_RING {
+        return match_in::<MIDDLE_RING>(of, ncb, version, out);
+    }
+    match_in::<LONG_RING>(of, ncb, version, out);
 }
 
 // Rate matching of one code block: fills `out` with the bits that redundancy version `version` sends of the streams d(0), d(1) and d(2),
@@ -346,14 +278,5 @@ pub fn rate_match(
     if !matchable(d0.len(), d1.len(), d2.len(), filler, ncb, version) {
         return;
     }
-    let places = ring_length(d0.len(), out.len());
-    if places <= SHORT_RING {
-        match_short(d0, d1, d2, filler, ncb, version, out);
-        return;
-    }
-    if places <= MIDDLE_RING {
-        match_middle(d0, d1, d2, filler, ncb, version, out);
-        return;
-    }
-    match_long(d0, d1, d2, filler, ncb, version, out);
+    match_block(Streams { d0, d1, d2, filler }, ncb, version, out);
 }

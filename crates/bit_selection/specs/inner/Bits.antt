@@ -3,7 +3,7 @@
 use Rattle.std.specs.Prelude.{◌≡◌, cond, List, [], ◌++◌, ℕ, zero, suc, ◌+◌, ◌*◌, ◌/◌, ◌%◌, ◌≤◌, eqb, get_or}
 use Rattle.laws.specs.Lists.{tab}
 use Rattle.rate_matching.specs.declared.Unit.{Unit}
-use Rattle.rate_matching.specs.Units.{unit_within, alone_count, both_count, Lies}
+use Rattle.rate_matching.specs.Units.{unit_at, alone_count, both_count, Lies}
 
 -- row q of a column that begins at a place
 unfoldable pub every_row : List ℕ → ℕ → ℕ → ℕ
@@ -26,7 +26,7 @@ bits_of d0 d1 d2 U = cond (eqb U.first.0 0) (column_bits d0 U) (pair_bits d1 d2 
 
 -- the bits of unit u of streams of D places with F filler bits
 unfoldable pub unit_bits : ℕ → List ℕ → List ℕ → List ℕ → ℕ → ℕ → List ℕ
-unit_bits D d0 d1 d2 F u = bits_of d0 d1 d2 (unit_within D F u)
+unit_bits D d0 d1 d2 F u = bits_of d0 d1 d2 (unit_at D F u)
 
 -- the bits of n units from u on
 unfoldable pub units_from : ℕ → List ℕ → List ℕ → List ℕ → ℕ → ℕ → ℕ → List ℕ

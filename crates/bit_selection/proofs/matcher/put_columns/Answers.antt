@@ -1,49 +1,50 @@
-use mathlib.Core.Path.{◌≡◌, ◌∙◌}
-use mathlib.Core.List.{[]}
-use Prim.Native.Nat.{◌<◌}
+use mathlib.Core.Path.{◌≡◌, refl, ◌∙◌}
+use Prim.Native.Nat.{◌+◌, ◌-◌, ◌≤◌, ◌<◌}
 use native.Mathlib.Omega.{arith}
 use lib.ListN.{length}
-use Rattle.rate_matching.specs.Units.{unit_within}
-use Rattle.rate_matching.proofs.UnitPlaces.{column_is}
+use Rattle.rate_matching.specs.SubBlocks.{rows}
+use Rattle.rate_matching.specs.Units.{unit_at, unit_start}
+use Rattle.rate_matching.proofs.UnitPlaces.{column_there, column_found}
 use Rattle.bit_selection.proofs.UnitBits.{column_stream, unit_reads, unit_few}
-use Rattle.bit_selection.proofs.Ring.{unit_long, column_unit_put, filling_start, filling_goes, filling_room, filling_next, filling_ends}
-use Rattle.bit_selection.proofs.matcher.put_columns.Goals.{After-column_unit_at, In-loop-u}
+use Rattle.bit_selection.proofs.Ring.{unit_long, column_unit_put, filling_room, filling_next, filling_all, filling_enough}
+use Rattle.bit_selection.proofs.matcher.put_columns.Goals.{After-unwrap-unit, Else-most-end}
 use Rattle.bit_selection.proofs.matcher.put_columns.Goals as goal
 
-goes : (c : In-loop-u) → (c.loop-u.u < c.args.to) × (c.loop-u.end < c.args.most)
-goes c = filling_goes (c.loop-u.invariant [] []) _ c.loop-u-test.true
+low : (c : Else-most-end) → c.loop-u.u < 32
+low c = omega (arith, c.loop-u-test.true, c.requires.1)
 
-below : (c : In-loop-u) → c.loop-u.u < 32
-below c = omega (arith, (goes c).0, c.requires.3)
+-- there is room for the unit
+room : (c : Else-most-end) → let R = rows (length c.args.of.d0.now) in
+    c.loop-u.end + (unit_start R (c.loop-u.u + 1) - unit_start R c.loop-u.u) ≤ length c.loop-u.ring
+room c = filling_room c.loop-u.invariant c.loop-u-test.true c.if-most-end.false c.requires.3
 
--- with the unit: it is the column's
-found : (c : After-column_unit_at) → let e = c.args in c.column_unit_at.result ≡ unit_within (length e.d0.now) e.filler c.loop-u.u
-found c =
-    let below : c.loop-u.u < 32 = omega (arith, (filling_goes (c.loop-u.invariant [] []) _ c.loop-u-test.true).0, c.requires.3) in
-    c.column_unit_at.ensures ∙ column_is _ _ below
+-- it is the column's
+found : (c : After-unwrap-unit) → let of = c.args.of in c.unwrap-unit.result ≡ unit_at (length of.d0.now) of.filler c.loop-u.u
+found c = column_found _ _ c.column_unit_at.ensures c.unwrap-unit.ensures (omega (arith, c.loop-u-test.true, c.requires.1))
 
-pub loop-u-init : goal.loop-u-init
-loop-u-init c = λ d1 d2. filling_start c.requires.2 c.requires.4
+pub returns-then-most-end : goal.returns-then-most-end
+returns-then-most-end c = filling_enough c.loop-u.invariant _ c.if-most-end.true
+
+pub unwrap-unit-requires : goal.unwrap-unit-requires
+unwrap-unit-requires c =
+    let f = c.args.of.fits in
+    rw (c.column_unit_at.ensures ∙ column_there f.most f.filler (low (goal.at.unwrap-unit-requires c).Else-most-end)) refl
 
 pub put_column-end-requires : goal.put_column-end-requires
 put_column-end-requires c =
-    let low : c.loop-u.u < 64 = omega (arith, below (goal.at.put_column-end-requires c).In-loop-u) in
-    (unit_reads _ c.requires.0 c.requires.1 (found (goal.at.put_column-end-requires c).After-column_unit_at), column_stream _ c.requires.0 c.requires.1 (found (goal.at.put_column-end-requires c).After-column_unit_at) (below (goal.at.put_column-end-requires c).In-loop-u), omega (arith, unit_few _ c.requires.0 c.requires.1 (found (goal.at.put_column-end-requires c).After-column_unit_at) low, filling_room (c.loop-u.invariant [] []) (goes (goal.at.put_column-end-requires c).In-loop-u).0 (goes (goal.at.put_column-end-requires c).In-loop-u).1 c.requires.5))
-
-pub overflow_add-u : goal.overflow_add-u
-overflow_add-u c = omega (arith, below (goal.at.overflow_add-u c).In-loop-u)
-
-pub loop-u-smaller : goal.loop-u-smaller
-loop-u-smaller c = omega (arith, (goes (goal.at.loop-u-smaller c).In-loop-u).0)
+    let f = c.args.of.fits in
+    let at = (goal.at.put_column-end-requires c).Else-most-end in
+    let is = found (goal.at.put_column-end-requires c).After-unwrap-unit in
+    let below : c.loop-u.u < 64 = omega (arith, low at) in
+    (unit_reads _ f.most f.filler is below, column_stream _ f.most f.filler is (low at), omega (arith, unit_few _ f.most f.filler is below, room at))
 
 pub loop-u-preserved : goal.loop-u-preserved
 loop-u-preserved c =
-    let low : c.loop-u.u < 64 = omega (arith, below (goal.at.loop-u-preserved c).In-loop-u) in
-    λ d1 d2. filling_next (c.loop-u.invariant d1 d2) (goes (goal.at.loop-u-preserved c).In-loop-u).0 (unit_long _ d1 d2 _ c.requires.0 c.requires.1 low) (filling_room (c.loop-u.invariant d1 d2) (goes (goal.at.loop-u-preserved c).In-loop-u).0 (goes (goal.at.loop-u-preserved c).In-loop-u).1 c.requires.5)
-    c.put_column-end.auto.ring (column_unit_put _ _ _ _ d1 d2 (found (goal.at.loop-u-preserved c).After-column_unit_at) (column_stream _ c.requires.0 c.requires.1 (found (goal.at.loop-u-preserved c).After-column_unit_at) (below (goal.at.loop-u-preserved c).In-loop-u)) c.put_column-end.ensures)
-
-pub shape_of-ring : goal.shape_of-ring
-shape_of-ring c = (c.loop-u.invariant [] []).long
+    let f = c.args.of.fits in
+    let at = (goal.at.loop-u-preserved c).Else-most-end in
+    let is = found (goal.at.loop-u-preserved c).After-unwrap-unit in
+    filling_next c.loop-u.invariant c.loop-u-test.true (unit_long _ _ _ _ f.most f.filler (omega (arith, low at))) (room at)
+    c.put_column-end.auto.ring (column_unit_put _ _ _ _ _ _ is (column_stream _ f.most f.filler is (low at)) c.put_column-end.ensures)
 
 pub returns : goal.returns
-returns c = λ d1 d2. filling_ends (c.loop-u.invariant d1 d2) _ c.loop-u-test.false
+returns c = filling_all c.loop-u.invariant _ (omega arith)

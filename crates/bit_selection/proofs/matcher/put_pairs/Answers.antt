@@ -1,51 +1,52 @@
-use mathlib.Core.Path.{◌≡◌, ◌∙◌}
-use mathlib.Core.List.{[]}
-use Prim.Native.Nat.{◌≤◌, ◌<◌}
+use mathlib.Core.Path.{◌≡◌, refl, ◌∙◌}
+use Prim.Native.Nat.{◌+◌, ◌-◌, ◌≤◌, ◌<◌}
 use native.Mathlib.Omega.{arith}
 use lib.ListN.{length}
-use Rattle.rate_matching.specs.Units.{unit_within}
-use Rattle.rate_matching.proofs.UnitPlaces.{pair_is}
+use Rattle.rate_matching.specs.SubBlocks.{rows}
+use Rattle.rate_matching.specs.Units.{unit_at, unit_start}
+use Rattle.rate_matching.proofs.UnitPlaces.{pair_there, pair_found}
 use Rattle.bit_selection.proofs.UnitBits.{pair_stream, unit_reads, unit_few}
-use Rattle.bit_selection.proofs.Ring.{unit_long, pair_unit_put, filling_start, filling_goes, filling_room, filling_next, filling_ends}
-use Rattle.bit_selection.proofs.matcher.put_pairs.Goals.{After-pair_unit_at, In-loop-u}
+use Rattle.bit_selection.proofs.Ring.{unit_long, pair_unit_put, filling_room, filling_next, filling_all, filling_enough}
+use Rattle.bit_selection.proofs.matcher.put_pairs.Goals.{After-unwrap-unit, Else-most-end}
 use Rattle.bit_selection.proofs.matcher.put_pairs.Goals as goal
 
-goes : (c : In-loop-u) → (c.loop-u.u < c.args.to) × (c.loop-u.end < c.args.most)
-goes c = filling_goes (c.loop-u.invariant []) _ c.loop-u-test.true
+high : (c : Else-most-end) → (32 ≤ c.loop-u.u) × (c.loop-u.u < 64)
+high c = (omega (arith, c.requires.0, c.loop-u.invariant.passed.0), omega (arith, c.loop-u-test.true, c.requires.2))
 
-high : (c : In-loop-u) → 32 ≤ c.loop-u.u
-high c = omega (arith, (c.loop-u.invariant []).passed.0, c.requires.3)
+-- there is room for the unit
+room : (c : Else-most-end) → let R = rows (length c.args.of.d0.now) in
+    c.loop-u.end + (unit_start R (c.loop-u.u + 1) - unit_start R c.loop-u.u) ≤ length c.loop-u.ring
+room c = filling_room c.loop-u.invariant c.loop-u-test.true c.if-most-end.false c.requires.4
 
-below : (c : In-loop-u) → c.loop-u.u < 64
-below c = omega (arith, (goes c).0, c.requires.5)
+-- it is the pair's
+found : (c : After-unwrap-unit) → let of = c.args.of in c.unwrap-unit.result ≡ unit_at (length of.d0.now) of.filler c.loop-u.u
+found c = pair_found _ _ c.pair_unit_at.ensures c.unwrap-unit.ensures (omega (arith, c.requires.0, c.loop-u.invariant.passed.0))
 
--- with the unit: it is the pair's
-found : (c : After-pair_unit_at) → let e = c.args in c.pair_unit_at.result ≡ unit_within (length e.d1.now) e.filler c.loop-u.u
-found c = c.pair_unit_at.ensures ∙ pair_is _ _ ((omega (arith, (c.loop-u.invariant []).passed.0, c.requires.3)))
+pub returns-then-most-end : goal.returns-then-most-end
+returns-then-most-end c = filling_enough c.loop-u.invariant _ c.if-most-end.true
 
-pub loop-u-init : goal.loop-u-init
-loop-u-init c = λ d0. filling_start c.requires.4 c.requires.6
-
-pub overflow_sub-u : goal.overflow_sub-u
-overflow_sub-u c = high (goal.at.overflow_sub-u c).In-loop-u
+pub unwrap-unit-requires : goal.unwrap-unit-requires
+unwrap-unit-requires c =
+    let f = c.args.of.fits in
+    rw (c.pair_unit_at.ensures ∙ pair_there f.most f.filler (omega (arith, high (goal.at.unwrap-unit-requires c).Else-most-end))) refl
 
 pub put_pair-end-requires : goal.put_pair-end-requires
 put_pair-end-requires c =
-    (c.requires.0, unit_reads _ c.requires.1 c.requires.2 (found (goal.at.put_pair-end-requires c).After-pair_unit_at), pair_stream _ c.requires.1 c.requires.2 (found (goal.at.put_pair-end-requires c).After-pair_unit_at) (high (goal.at.put_pair-end-requires c).In-loop-u) (below (goal.at.put_pair-end-requires c).In-loop-u), omega (arith, unit_few _ c.requires.1 c.requires.2 (found (goal.at.put_pair-end-requires c).After-pair_unit_at) (below (goal.at.put_pair-end-requires c).In-loop-u), filling_room (c.loop-u.invariant []) (goes (goal.at.put_pair-end-requires c).In-loop-u).0 (goes (goal.at.put_pair-end-requires c).In-loop-u).1 c.requires.7))
-
-pub overflow_add-u : goal.overflow_add-u
-overflow_add-u c = omega (arith, below (goal.at.overflow_add-u c).In-loop-u)
-
-pub loop-u-smaller : goal.loop-u-smaller
-loop-u-smaller c = omega (arith, (goes (goal.at.loop-u-smaller c).In-loop-u).0)
+    let f = c.args.of.fits in
+    let at = (goal.at.put_pair-end-requires c).Else-most-end in
+    let is = found (goal.at.put_pair-end-requires c).After-unwrap-unit in (
+      unit_reads _ f.most f.filler is (high at).1,
+      pair_stream _ f.most f.filler is (high at).0,
+      omega (arith, unit_few _ f.most f.filler is (high at).1, room at),
+    )
 
 pub loop-u-preserved : goal.loop-u-preserved
 loop-u-preserved c =
-    λ d0. filling_next (c.loop-u.invariant d0) (goes (goal.at.loop-u-preserved c).In-loop-u).0 (unit_long d0 _ _ _ c.requires.1 c.requires.2 (below (goal.at.loop-u-preserved c).In-loop-u)) (filling_room (c.loop-u.invariant d0) (goes (goal.at.loop-u-preserved c).In-loop-u).0 (goes (goal.at.loop-u-preserved c).In-loop-u).1 c.requires.7)
-    c.put_pair-end.auto.ring (pair_unit_put _ _ _ d0 _ _ (found (goal.at.loop-u-preserved c).After-pair_unit_at) (pair_stream _ c.requires.1 c.requires.2 (found (goal.at.loop-u-preserved c).After-pair_unit_at) (high (goal.at.loop-u-preserved c).In-loop-u) (below (goal.at.loop-u-preserved c).In-loop-u)) c.put_pair-end.ensures)
-
-pub shape_of-ring : goal.shape_of-ring
-shape_of-ring c = (c.loop-u.invariant []).long
+    let f = c.args.of.fits in
+    let at = (goal.at.loop-u-preserved c).Else-most-end in
+    let is = found (goal.at.loop-u-preserved c).After-unwrap-unit in
+    filling_next c.loop-u.invariant c.loop-u-test.true (unit_long _ _ _ _ f.most f.filler (high at).1) (room at)
+    c.put_pair-end.auto.ring (pair_unit_put _ _ _ _ _ _ is (pair_stream _ f.most f.filler is (high at).0) c.put_pair-end.ensures)
 
 pub returns : goal.returns
-returns c = λ d0. filling_ends (c.loop-u.invariant d0) _ c.loop-u-test.false
+returns c = filling_all c.loop-u.invariant _ (omega arith)

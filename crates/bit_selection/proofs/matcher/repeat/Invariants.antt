@@ -3,8 +3,5 @@
 use Rattle.bit_selection.proofs.Turns.{Turning}
 use Rattle.bit_selection.proofs.matcher.repeat.Given as goal
 
-abbrev pub invariant-loop-left : goal.invariant-loop-left
-invariant-loop-left l = Turning l.ring l.initial.out l.out l.i l.left
-
-abbrev pub decreases-loop-left : goal.decreases-loop-left
-decreases-loop-left l = l.left
+abbrev pub invariant-loop-turn : goal.invariant-loop-turn
+invariant-loop-turn l = Turning l.ring l.initial.out l.out l.turn
