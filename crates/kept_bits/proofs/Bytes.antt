@@ -2,7 +2,7 @@
 -- Assumes nothing.
 use mathlib.Core.Path.{◌≡◌}
 use mathlib.Core.Bool.{Bool, true, false, cond}
-use Prim.Native.Nat.{ℕ, ◌≤◌, ◌<◌}
+use Prim.Native.Nat.{ℕ, ◌≤◌, ◌<◌, min}
 use native.Mathlib.Omega.{arith}
 use native.Mathlib.Decide.{dec_lt}
 use mir.Val.{bool_byte}
@@ -26,10 +26,9 @@ missing_is x = elim (dec_lt 1 x) [
   | no h ↦ let low : x < 2 = omega arith in rw (le-ltb 1 x (omega arith), lt-ltb x 2 low)
 ]
 
-pub shown_decided : (x : ℕ) → x < 2 → x ≡ shown x
+pub shown_is : (x : ℕ) → min x 2 ≡ shown x
 unfolding shown is_decided
-shown_decided x h = rw (lt-ltb x 2 h)
-
-pub shown_lacking : (x : ℕ) → 2 ≤ x → 2 ≡ shown x
-unfolding shown is_decided
-shown_lacking x h = rw (le-ltb x 2 h)
+shown_is x = elim (dec_lt x 2) [
+  | yes h ↦ rw (lt-ltb x 2 h) (omega arith)
+  | no h ↦ let low : 2 ≤ x = omega arith in rw (le-ltb x 2 low) (omega arith)
+]

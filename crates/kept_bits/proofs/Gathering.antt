@@ -75,62 +75,47 @@ module _ (heads : List CirclePlace) (step r : ℕ) where
 
 -- ---- row by row
 
--- the rows before place `at` are gathered, and the next is so far below the first
-pub record Rowing (circle : List ℕ) (heads : List CirclePlace) (step row : ℕ) (out₀ out : List ℕ) (below at : ℕ) : Type 0 where
-  pub whole : at % 32 ≡ 0
-  pub passed : at ≤ length out₀
-  pub rows : below ≡ step * (row + at / 32)
-  pub wrote : Writing out₀ out at (tab_from (32 * row + at) (length out₀ - at) (kept_by circle heads step)) (tab_from (32 * row) (length out₀) (kept_by circle heads step))
+-- so many rows from row `row` on are gathered
+pub record Rowing (circle : List ℕ) (heads : List CirclePlace) (step row : ℕ) (out₀ out : List ℕ) (r : ℕ) : Type 0 where
+  pub wrote : Writing out₀ out (32 * r) (tab_from (32 * row + 32 * r) (length out₀ - 32 * r) (kept_by circle heads step)) (tab_from (32 * row) (length out₀) (kept_by circle heads step))
 
 module _ {circle : List ℕ} {heads : List CirclePlace} {step row : ℕ} {out₀ : List ℕ} where
-  pub rowing_start : Rowing circle heads step row out₀ out₀ (step * row) 0
-  rowing_start = record {
-    whole = refl;
-    passed = omega arith;
-    rows = ap (λ (n : ℕ). step * n) (sym (add-zero row));
-    wrote = same (rw (add-zero (32 * row), sub-zero (length out₀))) start;
-  }
+  pub rowing_start : Rowing circle heads step row out₀ out₀ 0
+  rowing_start = record { wrote = same (rw (add-zero (32 * row), sub-zero (length out₀))) start }
 
-  module _ {out : List ℕ} {below at : ℕ} (w : Rowing circle heads step row out₀ out below at) where
+  module _ {out : List ℕ} {r : ℕ} (w : Rowing circle heads step row out₀ out r) where
+    abbrev at : ℕ
+    at = 32 * r
+
     -- the place of the next row
-    here : 32 * (row + at / 32) + 0 ≡ 32 * row + at
-    here = omega (arith, w.whole)
+    here : 32 * (row + r) + 0 ≡ 32 * row + 32 * r
+    here = omega arith
 
     -- m places of it, as they are gathered
-    next_kept : (m : ℕ) → m ≤ 32 → tab_from 0 m (kept_below circle heads below) ≡ tab_from (32 * row + at) m (kept_by circle heads step)
-    next_kept m h =
-        ap (λ (b : ℕ). tab_from 0 m (kept_below circle heads b)) w.rows
-        ∙ row_kept heads step (row + at / 32) circle 0 m (omega arith)
-        ∙ ap (λ (i : ℕ). tab_from i m (kept_by circle heads step)) here
+    next_kept : (m : ℕ) → m ≤ 32 → tab_from 0 m (kept_below circle heads (step * (row + r))) ≡ tab_from (32 * row + at) m (kept_by circle heads step)
+    next_kept m h = row_kept heads step (row + r) circle 0 m (omega arith) ∙ ap (λ (i : ℕ). tab_from i m (kept_by circle heads step)) here
 
-    pub next_along : {long : ℕ} (m : ℕ) → m ≤ 32 → at + m ≤ length out₀ → Along long heads step (32 * row) (length out₀) → AlongRow long heads below 0 m
-    next_along {long} m h l a =
-        rw w.rows (row_along heads step (row + at / 32) 0 m (omega (arith, here)) (omega (arith, here)) (omega arith) a)
+    pub next_along : {long : ℕ} (m : ℕ) → m ≤ 32 → at + m ≤ length out₀ → Along long heads step (32 * row) (length out₀) → AlongRow long heads (step * (row + r)) 0 m
+    next_along {long} m h l a = row_along heads step (row + r) 0 m (omega arith) (omega arith) (omega arith) a
 
     -- the parts that are lent
     pub row_lent : at + 32 ≤ length out → length (mid_of at (at + 32 - at) out) ≡ 32
     row_lent h = length_mid at (at + 32) out h ∙ add-sub_cancel_left at 32
 
-    pub last_lent : length (mid_of at (length out - at) out) ≡ length out₀ - at
-    last_lent = length_mid at (length out) out (omega arith) ∙ omega (arith, w.wrote.long)
+    pub last_lent : at ≤ length out → length (mid_of at (length out - at) out) ≡ length out₀ - at
+    last_lent h = length_mid at (length out) out (omega arith) ∙ omega (arith, w.wrote.long)
 
-    pub last_back : (part : List ℕ) → length part ≡ length (mid_of at (length out - at) out) → length (put_mid at (length out - at) out part) ≡ length out₀
-    last_back part e = length_put at (length out) out part (omega arith) (e ∙ length_mid at (length out) out (omega arith)) ∙ w.wrote.long
-
-    pub rowing_next : {part : List ℕ} → at + 32 ≤ length out → part ≡ tab_from 0 (length (mid_of at (at + 32 - at) out)) (kept_below circle heads below)
-        → Rowing circle heads step row out₀ (put_mid at (at + 32 - at) out part) (below + step) (at + 32)
+    pub rowing_next : {part : List ℕ} → at + 32 ≤ length out → part ≡ tab_from 0 (length (mid_of at (at + 32 - at) out)) (kept_below circle heads (step * (row + r)))
+        → Rowing circle heads step row out₀ (put_mid at (at + 32 - at) out part) (r + 1)
     rowing_next {part} h e = record {
-      whole = omega (arith, w.whole);
-      passed = omega (arith, w.wrote.long);
-      rows = rw more (omega (arith, w.rows));
-      wrote = push_part said (omega arith) h (ap length said ∙ length_tab_from (32 * row + at) 32 (kept_by circle heads step) ∙ sym (add-sub_cancel_left at 32)) (same future w.wrote);
+      wrote = rw more (push_part said (omega arith) h (ap length said ∙ length_tab_from (32 * row + at) 32 (kept_by circle heads step) ∙ sym (add-sub_cancel_left at 32)) (same future w.wrote));
     }
       where
-        more : (at + 32) / 32 ≡ at / 32 + 1
+        more : 32 * (r + 1) ≡ at + 32
         more = omega arith
 
         said : part ≡ tab_from (32 * row + at) 32 (kept_by circle heads step)
-        said = e ∙ ap (λ (m : ℕ). tab_from 0 m (kept_below circle heads below)) (row_lent h) ∙ next_kept 32 (omega arith)
+        said = e ∙ ap (λ (m : ℕ). tab_from 0 m (kept_below circle heads (step * (row + r)))) (row_lent h) ∙ next_kept 32 (omega arith)
 
         turns : length out₀ - at ≡ 32 + (length out₀ - (at + 32))
         turns = omega (arith, w.wrote.long)
@@ -143,12 +128,12 @@ module _ {circle : List ℕ} {heads : List CirclePlace} {step row : ℕ} {out₀
             ∙ ap (λ (i : ℕ). tab_from (32 * row + at) 32 (kept_by circle heads step) ++ tab_from i (length out₀ - (at + 32)) (kept_by circle heads step)) (add_assoc (32 * row) at 32)
 
     -- the last row came back
-    pub rowing_last : {part : List ℕ} → length out - at < 32 → part ≡ tab_from 0 (length (mid_of at (length out - at) out)) (kept_below circle heads below)
+    pub rowing_last : {part : List ℕ} → at ≤ length out → length out - at < 32 → part ≡ tab_from 0 (length (mid_of at (length out - at) out)) (kept_below circle heads (step * (row + r)))
         → put_mid at (length out - at) out part ≡ tab_from (32 * row) (length out₀) (kept_by circle heads step)
-    rowing_last {part} h e = finish_all (omega (arith, as_long)) refl (push_part said (omega (arith, w.wrote.long, w.passed)) (omega arith) part_long (same future w.wrote))
+    rowing_last {part} h few e = finish_all (omega (arith, as_long)) refl (push_part said h (omega arith) part_long (same future w.wrote))
       where
         said : part ≡ tab_from (32 * row + at) (length out₀ - at) (kept_by circle heads step)
-        said = e ∙ ap (λ (m : ℕ). tab_from 0 m (kept_below circle heads below)) last_lent ∙ next_kept (length out₀ - at) (omega (arith, w.wrote.long))
+        said = e ∙ ap (λ (m : ℕ). tab_from 0 m (kept_below circle heads (step * (row + r)))) (last_lent h) ∙ next_kept (length out₀ - at) (omega (arith, w.wrote.long))
 
         part_long : length part ≡ length out - at
         part_long = ap length said ∙ length_tab_from (32 * row + at) (length out₀ - at) (kept_by circle heads step) ∙ omega (arith, w.wrote.long)

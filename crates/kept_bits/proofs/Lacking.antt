@@ -2,18 +2,17 @@
 -- Assumes nothing.
 use mathlib.Core.Path.{◌≡◌, refl, sym, ◌∙◌, ap, ap₂}
 use mathlib.Core.Bool.{true, ◌&&◌, and-eq-true_iff}
-use mathlib.Core.List.{List}
+use mathlib.Core.List.{List, ◌++◌}
 use Prim.Native.Nat.{ℕ, ◌+◌, ◌-◌, ◌*◌, ◌/◌, ◌%◌, ◌≤◌, ◌<◌}
 use native.Mathlib.Nat.{add-zero, zero-add}
 use native.Mathlib.Omega.{arith}
 use lib.Dec.{eqb, leb}
-use lib.ListN.{length, get_or, take}
-use lib.Seq.{get_or-take, length-take-le}
+use lib.ListN.{length, get_or, take, length-append, get_or-append}
+use lib.Seq.{get_or-take, get_or-append-add, length-take-le}
 use borrow.Author.Tests.{eqb-true, leb-true, eq-eqb, le-leb}
-use borrow.Rule.Slice.PartMut.{mid_of}
 use Rattle.laws.specs.Bits.{bits_of}
-use Rattle.laws.proofs.Parts.{length_mid, get_or_mid}
 use Rattle.laws.proofs.Tab.{length_tab_from, get_or_tab_from}
+use Rattle.core.specs.declared.option.Option.TheVariants.{Some}
 use Rattle.rate_matching.specs.declared.CirclePlace.{CirclePlace}
 use Rattle.rate_matching.specs.declared.MatrixPlace.{MatrixPlace}
 use Rattle.rate_matching.specs.Columns.{number_of, turned_round, column}
@@ -40,34 +39,36 @@ missing_few : (bytes : List ℕ) (i n : ℕ) → sum_from (missing_at bytes) i n
 unfolding missing_at
 missing_few bytes i n = sum_from_most (missing_at bytes) i n (λ k. missing_le (get_or bytes k 0))
 
--- the count of a part that is lent
-pub part_count : (bytes : List ℕ) (i e : ℕ) → e ≤ length bytes → sum_from (missing_at (mid_of i (e - i) bytes)) 0 (length (mid_of i (e - i) bytes)) ≡ sum_from (missing_at bytes) i (e - i)
+-- the count of bytes, and of two runs of them
+abbrev pub count_of : List ℕ → ℕ
+count_of bytes = sum_from (missing_at bytes) 0 (length bytes)
+
+pub count_few : (bytes : List ℕ) → count_of bytes ≤ length bytes
+count_few bytes = missing_few bytes 0 (length bytes)
+
+pub count_append : (xs ys : List ℕ) → count_of (xs ++ ys) ≡ count_of xs + count_of ys
 unfolding missing_at
-part_count bytes i e h =
-    ap (sum_from (missing_at (mid_of i (e - i) bytes)) 0) (length_mid i e bytes h)
-    ∙ sum_from_ext (missing_at (mid_of i (e - i) bytes)) (λ (k : ℕ). missing_at bytes (i + k)) 0 (e - i) (λ k a b. ap missing (get_or_mid i (e - i) bytes k 0 (omega arith)))
-    ∙ sym (sum_from_shift i 0 (e - i) (missing_at bytes))
-    ∙ ap (λ (j : ℕ). sum_from (missing_at bytes) j (e - i)) (add-zero i)
+count_append xs ys =
+    ap (sum_from (missing_at (xs ++ ys)) 0) (length-append xs ys)
+    ∙ sum_from_split (missing_at (xs ++ ys)) 0 (length xs) (length ys)
+    ∙ ap₂ ◌+◌ (sum_from_ext (missing_at (xs ++ ys)) (missing_at xs) 0 (length xs) (λ k a b. ap missing (get_or-append xs ys 0 k (omega arith)))) behind
+  where
+    behind : sum_from (missing_at (xs ++ ys)) (0 + length xs) (length ys) ≡ count_of ys
+    behind =
+        ap (λ (i : ℕ). sum_from (missing_at (xs ++ ys)) i (length ys)) (omega arith)
+        ∙ sum_from_shift (length xs) 0 (length ys) (missing_at (xs ++ ys))
+        ∙ sum_from_ext (λ (k : ℕ). missing_at (xs ++ ys) (length xs + k)) (missing_at ys) 0 (length ys) (λ k a b. ap missing (get_or-append-add xs ys k 0))
 
--- the bytes before i are counted
-pub record Counted (bytes : List ℕ) (n i : ℕ) : Type 0 where
-  pub passed : i ≤ length bytes
-  pub told : n ≡ sum_from (missing_at bytes) 0 i
+-- the bytes before those that are left are counted
+pub record Counted (bytes : List ℕ) (n : ℕ) (left : List ℕ) : Type 0 where
+  pub told : n + count_of left ≡ count_of bytes
 
-module _ {bytes : List ℕ} where
-  pub counted_start : Counted bytes 0 0
-  unfolding sum_from
-  counted_start = record { passed = omega arith; told = refl }
+module _ {bytes : List ℕ} {n : ℕ} {left : List ℕ} (w : Counted bytes n left) (part rest : List ℕ) (e : left ≡ part ++ rest) {x : ℕ} (s : x ≡ count_of part) where
+  pub counted_next : Counted bytes (n + x) rest
+  counted_next = record { told = omega (arith, w.told, ap count_of e, count_append part rest, s) }
 
-  module _ {n i : ℕ} (w : Counted bytes n i) {e x : ℕ} (low : i ≤ e) (h : e ≤ length bytes) (s : x ≡ sum_from (missing_at (mid_of i (e - i) bytes)) 0 (length (mid_of i (e - i) bytes))) where
-    pub part_few : n + x ≤ length bytes
-    part_few = omega (arith, w.told, w.passed, missing_few bytes 0 i, s ∙ part_count bytes i e h, missing_few bytes i (e - i))
-
-    pub counted_next : Counted bytes (n + x) e
-    counted_next = record { passed = h; told = ap₂ ◌+◌ w.told (s ∙ part_count bytes i e h ∙ ap (λ (j : ℕ). sum_from (missing_at bytes) j (e - i)) (sym (zero-add i))) ∙ sym (sum_from_split (missing_at bytes) 0 i (e - i)) ∙ ap (sum_from (missing_at bytes) 0) whole }
-      where
-        whole : i + (e - i) ≡ e
-        whole = omega arith
+  pub counted_few : n + x ≤ length bytes
+  counted_few = omega (arith, counted_next.told, count_few bytes)
 
 -- ---- the data places of a circle
 
@@ -276,39 +277,40 @@ front_counted bytes n h =
 
 -- ---- the count of a circle
 
--- where the tail bits and the data places begin in the matrix
-module _ (circle : List ℕ) {k f : ℕ} (low : f ≤ k) (w : Stretch (length circle) (k + 4) 0 f (k - f)) {tail bits : MatrixPlace}
-    (t : tail ≡ matrix_within (k + 4) (0, k)) (d : bits ≡ matrix_within (k + 4) (0, f)) where
+module _ (circle : List ℕ) {k f : ℕ} (low : f ≤ k) (w : Stretch (length circle) (k + 4) 0 f (k - f)) where
   abbrev D : ℕ
   D = k + 4
-
-  -- the tail bits end the last row
-  pub tail_last : (tail.column ≡ 28) × (32 * (tail.row + 1) ≡ 32 * rows D) × (32 * tail.row + 28 ≡ dummies D + k)
-  tail_last =
-      let m = matrix_there w.sized 0 k (omega arith) (omega arith) t in
-      let y : 32 * tail.row + tail.column ≡ dummies D + k = omega (arith, m.1, written_is D 0 k) in
-      let all = dummies_add D in
-      (omega (arith, m.0, y, all), omega (arith, m.0, y, all), omega (arith, m.0, y, all))
-
-  pub bits_first : (bits.column < 32) × (32 * bits.row + bits.column ≡ dummies D + f)
-  bits_first = let m = matrix_there w.sized 0 f (omega arith) (omega arith) d in (m.0, omega (arith, m.1, written_is D 0 f))
 
   pub stream_fits : (32 * rows D ≤ length circle) × (32 * rows D ≤ 6176)
   unfolding reach_of rows
   stream_fits = (w.room, omega (arith, w.sized.most))
 
-  pub front_needs : Along (length circle) (heads D 0) 1 0 (32 * bits.row + bits.column)
-  front_needs = matrix_along 0 _ w.sized.most stream_fits.0 (omega (arith, bits_first.1, dummies_add D))
+  -- where the tail bits begin in the matrix: they end its last row
+  module _ {tail : MatrixPlace} (t : Some tail ≡ matrix_within (k + 4) (0, k)) where
+    pub tail_last : (tail.column ≡ 28) × (32 * (tail.row + 1) ≡ 32 * rows D) × (32 * tail.row + 28 ≡ dummies D + k)
+    tail_last =
+        let m = matrix_there w.sized 0 k (omega arith) (omega arith) t in
+        let y : 32 * tail.row + tail.column ≡ dummies D + k = omega (arith, m.1, written_is D 0 k) in
+        let all = dummies_add D in
+        (omega (arith, m.0, y, all), omega (arith, m.0, y, all), omega (arith, m.0, y, all))
 
-  pub back_needs : AlongRow (length circle) (heads D 0) tail.row tail.column (32 - tail.column)
-  back_needs =
-      rw (one, tail_last.0)
-      (row_along (heads D 0) 1 tail.row 28 4 (omega arith) (omega arith) (omega arith) (matrix_along (32 * tail.row + 28) 4 w.sized.most stream_fits.0 (omega (arith, tail_last.1))))
-    where
-      one : tail.row ≡ 1 * tail.row
-      one = omega arith
+    pub back_needs : AlongRow (length circle) (heads D 0) tail.row tail.column (32 - tail.column)
+    back_needs =
+        rw (one, tail_last.0)
+        (row_along (heads D 0) 1 tail.row 28 4 (omega arith) (omega arith) (omega arith) (matrix_along (32 * tail.row + 28) 4 w.sized.most stream_fits.0 (omega (arith, tail_last.1))))
+      where
+        one : tail.row ≡ 1 * tail.row
+        one = omega arith
 
-  module _ {end all front back : ℕ} (e : end ≡ 32 * rows D) (a : all ≡ sum_from (missing_at (take end circle)) 0 (length (take end circle)))
+  -- and where the data places do
+  module _ {bits : MatrixPlace} (d : Some bits ≡ matrix_within (k + 4) (0, f)) where
+    pub bits_first : (bits.column < 32) × (32 * bits.row + bits.column ≡ dummies D + f)
+    bits_first = let m = matrix_there w.sized 0 f (omega arith) (omega arith) d in (m.0, omega (arith, m.1, written_is D 0 f))
+
+    pub front_needs : Along (length circle) (heads D 0) 1 0 (32 * bits.row + bits.column)
+    front_needs = matrix_along 0 _ w.sized.most stream_fits.0 (omega (arith, bits_first.1, dummies_add D))
+
+  module _ {tail bits : MatrixPlace} (t : Some tail ≡ matrix_within (k + 4) (0, k)) (d : Some bits ≡ matrix_within (k + 4) (0, f)) {end all front back : ℕ} (e : end ≡ 32 * rows D) (a : all ≡ sum_from (missing_at (take end circle)) 0 (length (take end circle)))
       (b : front ≡ sum_from (missing_by circle (heads D 0)) 0 (32 * bits.row + bits.column))
       (c : back ≡ sum_from (missing_below circle (heads D 0) tail.row) tail.column (32 - tail.column)) where
     pub all_parts : all ≡ front + (lacking_on circle k f + back)
@@ -318,10 +320,10 @@ module _ (circle : List ℕ) {k f : ℕ} (low : f ≤ k) (w : Stretch (length ci
         ∙ ap (sum_from (missing_at circle) 0) e
         ∙ lacking_entries circle k f low
         ∙ ap₂ (λ (x y : ℕ). x + (lacking_on circle k f + y))
-        (ap (sum_from (missing_by circle (heads D 0)) 0) (sym bits_first.1) ∙ sym b)
-        (ap (λ (y : ℕ). sum_from (missing_by circle (heads D 0)) y 4) (sym tail_last.2)
+        (ap (sum_from (missing_by circle (heads D 0)) 0) (sym (bits_first d).1) ∙ sym b)
+        (ap (λ (y : ℕ). sum_from (missing_by circle (heads D 0)) y 4) (sym (tail_last t).2)
         ∙ sym (row_entries circle (heads D 0) tail.row 28 4 (omega arith))
-        ∙ sym (rw tail_last.0 at c))
+        ∙ sym (rw (tail_last t).0 at c))
 
 -- ---- a circle by itself
 

@@ -1,7 +1,7 @@
 -- Where a stream's places lie on the circle row by row, clause 5.1.4.1.1: as many rows below the heads of their columns as the matrix says. Stream 2's shift
 -- never wraps, since the streams of a code block always have dummies before them.
 -- Assumes nothing.
-use mathlib.Core.Path.{◌≡◌, sym, ◌∙◌, ap}
+use mathlib.Core.Path.{◌≡◌, refl, sym, ◌∙◌, ap}
 use mathlib.Core.Bool.{Bool, true, false, cond, ◌&&◌, and-eq-true_iff}
 use mathlib.Core.List.{List, ◌++◌}
 use Prim.Native.Nat.{ℕ, zero, suc, ◌+◌, ◌-◌, ◌*◌, ◌/◌, ◌%◌, ◌≤◌, ◌<◌}
@@ -11,18 +11,41 @@ use lib.ListN.{length, get_or, drop}
 use borrow.Author.Tests.{le-leb, lt-ltb, eq-eqb, ne_eqb, leb-true, ltb-true, eqb-true}
 use Rattle.laws.specs.Lists.{tab_from}
 use Rattle.laws.proofs.Tab.{tab_from_ext, tab_from_shift}
+use Rattle.core.specs.declared.option.Option.{Option}
+use Rattle.core.specs.declared.option.Option.TheVariants.{Some, None}
 use Rattle.rate_matching.specs.declared.CirclePlace.{CirclePlace}
 use Rattle.rate_matching.specs.declared.MatrixPlace.{MatrixPlace}
 use Rattle.rate_matching.specs.SubBlocks.{rows, dummies}
 use Rattle.rate_matching.specs.Circle.{circle_length}
 use Rattle.rate_matching.specs.Places.{place_number, place_of, longest}
-use Rattle.rate_matching.specs.Matrix.{heads_of, heads_within, row_step, written_at, matrix_within}
+use Rattle.rate_matching.specs.Matrix.{length_within, heads_of, heads_within, row_step, written_at, matrix_within}
 use Rattle.rate_matching.proofs.Places.{dummies_add, place_lt, place_on_circle}
 use Rattle.rate_matching.proofs.Matrix.{dummies_some, written_is, place_by_lem, head_at}
 use Rattle.slots.specs.State.{per_block}
 use Rattle.slots.specs.Circle.{kept_on, streams_on}
 use Rattle.kept_bits.specs.Circle.{reach_of, readable, showable}
 use Rattle.kept_bits.specs.inner.Rows.{place_by, kept_by, Along, Streams, Stretch}
+
+-- what was found is what is there
+pub found_is : {A : Type 0} (o : Option A) {x y : A} → o ≡ Some x → o ≡ Some y → x ≡ y
+found_is o e f = cc
+
+-- whether there is such a circle, and how long it is
+pub circle_none : (D : ℕ) → length_within D ≡ None → leb D longest ≡ false
+unfolding length_within
+circle_none D e = go (leb D longest) refl e
+  where
+    go : (t : Bool) → leb D longest ≡ t → cond {A = Option ℕ} t (Some (circle_length (rows D))) None ≡ None → leb D longest ≡ false
+    go true z f = cc
+    go false z f = z
+
+pub circle_some : (D : ℕ) {n : ℕ} → length_within D ≡ Some n → (D ≤ longest) × (n ≡ circle_length (rows D))
+unfolding length_within
+circle_some D {n} e = go (leb D longest) refl e
+  where
+    go : (t : Bool) → leb D longest ≡ t → cond t (Some (circle_length (rows D))) None ≡ Some n → (D ≤ longest) × (n ≡ circle_length (rows D))
+    go true z f = (leb-true D longest z, cc)
+    go false z f = absurd cc
 
 -- where the columns of stream s begin
 abbrev pub heads : ℕ → ℕ → List CirclePlace
@@ -44,12 +67,12 @@ module _ {D : ℕ} (w : Streams D) where
   entry_place s i u h = rw (head_at (rows D) s (written_at D (s, i) % 32) (omega arith)) (sym (place_by_lem D s i no_whole_row u h))
 
   -- the place of the matrix, and its entry
-  pub matrix_there : (s i : ℕ) {m : MatrixPlace} → s < 3 → i < D → m ≡ matrix_within D (s, i) → (m.column < 32) × (32 * m.row + m.column ≡ written_at D (s, i))
+  pub matrix_some : (s i : ℕ) → s < 3 → i < D → matrix_within D (s, i) ≡ Some (record { row = written_at D (s, i) / 32; column = written_at D (s, i) % 32 })
   unfolding matrix_within
-  matrix_there s i {m} u h e = rw is (omega arith, omega arith)
-    where
-      is : m ≡ record { row = written_at D (s, i) / 32; column = written_at D (s, i) % 32 }
-      is = e ∙ simp (le-leb D longest w.most, ne_eqb (D % 32) 0 no_whole_row, le-leb s 2 (omega arith), lt-ltb i D h)
+  matrix_some s i u h = simp (le-leb D longest w.most, ne_eqb (D % 32) 0 no_whole_row, le-leb s 2 (omega arith), lt-ltb i D h)
+
+  pub matrix_there : (s i : ℕ) {m : MatrixPlace} → s < 3 → i < D → Some m ≡ matrix_within D (s, i) → (m.column < 32) × (32 * m.row + m.column ≡ written_at D (s, i))
+  matrix_there s i {m} u h e = rw (found_is _ (sym e) (matrix_some s i u h)) (omega arith, omega arith)
 
   first_there : (i : ℕ) → i < D → place_number D 0 i < 32 * rows D
   unfolding place_number
@@ -102,7 +125,7 @@ kept_along {long} {D} {s} {i} {n} circle w =
     (ap (place_by (heads D s) (row_step s)) (sym (written_on w.sized s k w.stream)) ∙ entry_place w.sized s k w.stream (omega (arith, w.within))))
 
 -- the stream has them
-pub heads_there : {long D s i n : ℕ} → Stretch long D s i n → heads_within D s ≡ heads D s
+pub heads_there : {long D s i n : ℕ} → Stretch long D s i n → heads_within D s ≡ Some (heads D s)
 unfolding heads_within
 heads_there {long} {D} {s} w = simp (le-leb D longest w.sized.most, lt-ltb 0 D (omega (arith, w.sized.least)), le-leb s 2 (omega (arith, w.stream)))
 

@@ -4,7 +4,7 @@ use mathlib.Core.Path.{◌≡◌, sym, ◌∙◌, ap}
 use mathlib.Core.Bool.{cond, ◌&&◌}
 use mathlib.Core.List.{List, [], ◌++◌, append-nil}
 use Prim.Native.Nat.{ℕ, zero, suc, ◌+◌, ◌-◌, ◌*◌, ◌≤◌, ◌<◌}
-use native.Mathlib.Nat.{zero-add, add-zero, add-sub_cancel_left, mul-le-mul_right}
+use native.Mathlib.Nat.{zero-mul, zero-add, add-zero, add-sub_cancel_left, mul-le-mul_right}
 use native.Mathlib.Numerals.{add-one}
 use native.Mathlib.Decide.{dec_lt}
 use native.Mathlib.Omega.{arith}
@@ -109,32 +109,34 @@ three : (circle : List ℕ) (D F : ℕ) → runs_from (run circle D F) 0 3 ≡ s
 unfolding streams_on
 three circle D F = ap (λ (l : List ℕ). run circle D F 0 ++ (run circle D F 1 ++ l)) (append-nil (run circle D F 2))
 
--- the runs of the streams before s are written, up to place `at`
-pub record Running (circle : List ℕ) (D F : ℕ) (out₀ out : List ℕ) (at s : ℕ) : Type 0 where
-  pub passed : s ≤ 3
-  pub place : at ≡ s * D
+-- the runs of the streams before s are written
+pub record Running (circle : List ℕ) (D F : ℕ) (out₀ out : List ℕ) (s : ℕ) : Type 0 where
   pub long : 3 * D ≤ length out
-  pub wrote : Writing out₀ out at (runs_from (run circle D F) s (3 - s)) (streams_on circle D F)
+  pub wrote : Writing out₀ out (s * D) (runs_from (run circle D F) s (3 - s)) (streams_on circle D F)
 
-pub running_start : (circle : List ℕ) (D F : ℕ) (out : List ℕ) → 3 * D ≤ length out → Running circle D F out out 0 0
-running_start circle D F out h = record { passed = omega arith; place = omega arith; long = h; wrote = same (sym (three circle D F)) start }
+pub running_start : (circle : List ℕ) (D F : ℕ) (out : List ℕ) → 3 * D ≤ length out → Running circle D F out out 0
+running_start circle D F out h = record { long = h; wrote = rw (zero-mul D) (same (sym (three circle D F)) start) }
 
-module _ {circle : List ℕ} {D F : ℕ} {out₀ out : List ℕ} {at s : ℕ} (w : Running circle D F out₀ out at s) where
+module _ {circle : List ℕ} {D F : ℕ} {out₀ out : List ℕ} {s : ℕ} (w : Running circle D F out₀ out s) where
+  abbrev at : ℕ
+  at = s * D
+
   -- the next run is within
   pub run_within : s < 3 → at + D ≤ length out
-  run_within h = omega (arith, w.place, w.long, mul-le-mul_right D h)
+  run_within h = omega (arith, w.long, mul-le-mul_right D h)
 
   pub run_long : s < 3 → length (mid_of at (at + D - at) out) ≡ D
   run_long h = length_mid at (at + D) out (run_within h) ∙ add-sub_cancel_left at D
 
-  pub running_next : {part : List ℕ} → s < 3 → part ≡ tab D (stream_on circle D F s) → Running circle D F out₀ (put_mid at (at + D - at) out part) (at + D) (s + 1)
+  pub running_next : {part : List ℕ} → s < 3 → part ≡ tab D (stream_on circle D F s) → Running circle D F out₀ (put_mid at (at + D - at) out part) (s + 1)
   running_next {part} h e = record {
-    passed = omega arith;
-    place = omega (arith, w.place);
     long = rw (wrote'.long ∙ sym w.wrote.long) w.long;
-    wrote = wrote';
+    wrote = rw more_places wrote';
   }
     where
+      more_places : (s + 1) * D ≡ at + D
+      more_places = omega arith
+
       one : 3 - s ≡ suc (3 - (s + 1))
       one = omega arith
 
@@ -144,14 +146,11 @@ module _ {circle : List ℕ} {D F : ℕ} {out₀ out : List ℕ} {at s : ℕ} (w
       wrote' : Writing out₀ (put_mid at (at + D - at) out part) (at + D) (runs_from (run circle D F) (s + 1) (3 - (s + 1))) (streams_on circle D F)
       wrote' = push_part e (omega arith) (run_within h) (ap length e ∙ length_tab D (stream_on circle D F s) ∙ sym (add-sub_cancel_left at D)) (same more w.wrote)
 
-  pub running_finish : 3 ≤ s → out ≡ streams_on circle D F ++ drop (3 * D) out₀
-  running_finish h = rw ends at (finish (ap (runs_from (run circle D F) s) none) w.wrote)
+  pub running_finish : s ≡ 3 → out ≡ streams_on circle D F ++ drop (3 * D) out₀
+  running_finish all = rw ends at (finish (ap (runs_from (run circle D F) s) none) w.wrote)
     where
       none : 3 - s ≡ 0
       none = omega arith
 
-      all : s ≡ 3
-      all = omega (arith, w.passed)
-
       ends : at ≡ 3 * D
-      ends = w.place ∙ ap (λ (n : ℕ). n * D) all
+      ends = ap (λ (n : ℕ). n * D) all

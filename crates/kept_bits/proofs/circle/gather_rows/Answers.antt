@@ -1,34 +1,29 @@
-use Prim.Native.Nat.{◌+◌, ◌/◌}
-use native.Mathlib.Nat.{mul-le-mul_right}
+use mathlib.Core.Path.{◌≡◌}
+use Prim.Native.Nat.{◌/◌}
 use native.Mathlib.Omega.{arith}
-use Rattle.kept_bits.proofs.Gathering.{rowing_start, next_along, row_lent, last_lent, last_back, rowing_next, rowing_last}
+use lib.ListN.{length}
+use Rattle.kept_bits.proofs.Gathering.{next_along, row_lent, last_lent, rowing_next, rowing_last}
+use Rattle.kept_bits.proofs.circle.gather_rows.Goals.{After-loop-r}
 use Rattle.kept_bits.proofs.circle.gather_rows.Goals as goal
 
-pub overflow_mul-below : goal.overflow_mul-below
-overflow_mul-below c = omega (arith, mul-le-mul_right c.args.row c.requires.0)
-
-pub loop-out-init : goal.loop-out-init
-loop-out-init c = rowing_start
+-- all whole rows are gathered
+all : (c : After-loop-r) → length c.args.out.now / 32 ≡ c.loop-r.r
+all c = omega arith
 
 pub gather_row-requires : goal.gather_row-requires
 gather_row-requires c =
-    let l = c.loop-out in
-    rw (row_lent l.invariant (omega arith)) (next_along l.invariant 32 (omega arith) (omega (arith, l.invariant.wrote.long)) c.requires.1)
+    let w = c.loop-r.invariant in
+    rw (row_lent w (omega arith)) (next_along w 32 (omega arith) (omega (arith, w.wrote.long)) c.requires)
 
-pub overflow_add-below : goal.overflow_add-below
-overflow_add-below c =
-    omega (arith, c.loop-out.invariant.rows, mul-le-mul_right (c.args.row + c.loop-out.at / 32) c.requires.0)
-
-pub loop-out-preserved : goal.loop-out-preserved
-loop-out-preserved c = rowing_next c.loop-out.invariant (omega arith) c.gather_row.ensures
+pub loop-r-preserved : goal.loop-r-preserved
+loop-r-preserved c = rowing_next c.loop-r.invariant (omega arith) c.gather_row.ensures
 
 pub gather_row-requires-2 : goal.gather_row-requires-2
 gather_row-requires-2 c =
-    let l = c.loop-out in
-    rw (last_lent l.invariant) (next_along l.invariant _ (omega (arith, l.invariant.wrote.long)) (omega (arith, l.invariant.wrote.long)) c.requires.1)
-
-pub shape_of-out : goal.shape_of-out
-shape_of-out c = last_back c.loop-out.invariant c.gather_row-2.new.out c.gather_row-2.auto.out
+    let w = c.loop-r.invariant in
+    rw (all (goal.at.gather_row-requires-2 c).After-loop-r, last_lent w (omega arith)) (next_along w _ (omega (arith, w.wrote.long)) (omega (arith, w.wrote.long)) c.requires)
 
 pub returns : goal.returns
-returns c = rowing_last c.loop-out.invariant (omega arith) c.gather_row-2.ensures
+returns c =
+    let same = all (goal.at.returns c).After-loop-r in
+    rw same (rowing_last c.loop-r.invariant (omega arith) (omega arith) (rw same at c.gather_row-2.ensures))

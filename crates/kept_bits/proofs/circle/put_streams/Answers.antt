@@ -1,16 +1,9 @@
-use native.Mathlib.Omega.{arith}
 use Rattle.kept_bits.proofs.Rows.{any_stream}
-use Rattle.kept_bits.proofs.Runs.{running_start, run_within, run_long, running_next, running_finish}
+use Rattle.kept_bits.proofs.Runs.{running_start, run_long, running_next}
 use Rattle.kept_bits.proofs.circle.put_streams.Goals as goal
 
 pub loop-s-init : goal.loop-s-init
 loop-s-init c = running_start _ _ _ _ c.requires.1
-
-pub overflow_add-end : goal.overflow_add-end
-overflow_add-end c = omega (arith, run_within c.loop-s.invariant c.loop-s-test.true)
-
-pub slice_bounds-stream-end : goal.slice_bounds-stream-end
-slice_bounds-stream-end c = run_within c.loop-s.invariant c.loop-s-test.true
 
 pub stream-requires : goal.stream-requires
 stream-requires c =
@@ -22,9 +15,3 @@ stream-requires c =
 
 pub loop-s-preserved : goal.loop-s-preserved
 loop-s-preserved c = running_next c.loop-s.invariant c.loop-s-test.true c.stream.ensures
-
-pub shape_of-out : goal.shape_of-out
-shape_of-out c = c.loop-s.invariant.wrote.long
-
-pub returns : goal.returns
-returns c = running_finish c.loop-s.invariant c.loop-s-test.false

@@ -14,9 +14,3 @@ told c = sym c.readable.ensures ∙ c.if-readable.true
 
 pub gather_stream-requires : goal.gather_stream-requires
 gather_stream-requires c = readable_told _ _ _ _ _ (told (goal.at.gather_stream-requires c).Then-readable)
-
-pub returns-then-readable : goal.returns-then-readable
-returns-then-readable c = c.gather_stream.ensures ∙ rw (told (goal.at.returns-then-readable c).Then-readable)
-
-pub returns-else-readable : goal.returns-else-readable
-returns-else-readable c = rw (sym c.readable.ensures ∙ c.if-readable.false)
