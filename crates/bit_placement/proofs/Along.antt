@@ -3,11 +3,11 @@
 use mathlib.Core.Path.{◌≡◌, refl, sym, ◌∙◌, ap, ap₂, subst}
 use mathlib.Core.List.{List, [], ◌∷◌, ◌++◌, map}
 use Prim.Native.Nat.{ℕ, zero, suc, ◌+◌, ◌-◌, ◌≤◌, ◌<◌, min}
-use native.Mathlib.Nat.{add-zero, add-sub_cancel_left}
+use native.Mathlib.Nat.{add-zero}
 use native.Mathlib.Decide.{dec_le}
 use native.Mathlib.Omega.{arith}
 use lib.ListN.{length, get_or, take, drop, set, length-append, length-map, length-take, length-drop, drop_of_length-le}
-use lib.Seq.{get_or-take, get_or-drop, take_all, take-take, take-add, drop-drop, drop_at, take-nil, length-take-le}
+use lib.Seq.{get_or-take, get_or-drop, take_all, take-take, take-nil, length-take-le}
 use borrow.Rule.Slice.PartMut.{mid_of, put_mid}
 use Rattle.laws.specs.Lists.{tab, tab_from}
 use Rattle.laws.proofs.Parts.{length_mid}
@@ -77,103 +77,92 @@ module _ {bits run₀ : List ℕ} where
       ∙ ap (λ (js : List ℕ). put_along agreeing js bits run₀) (ap (λ (n : ℕ). tab n itself) all ∙ sym (take_all (length bits) (tab (length bits) itself) (omega (arith, length_tab (length bits) itself))))
 
 -- n bits at the front of a run, as many as there are of both
-pub run_met : (bits run : List ℕ) {at n : ℕ} {run' : List ℕ} → at ≤ length bits → n ≡ min (length bits - at) (length run)
-    → (let src = mid_of at (at + n - at) bits in run' ≡ put_first (tab (length src) itself) src run) → Put (tab (length run) itself) bits at run run' (at + n)
+pub run_met : (bits run : List ℕ) {n : ℕ} {run' : List ℕ} → n ≡ min (length bits) (length run)
+    → run' ≡ put_first (tab (length (take n bits)) itself) (take n bits) run → Put (tab (length run) itself) bits run run' n
 unfolding put_first
-run_met bits run {at} {n} {run'} h e t = record {
+run_met bits run {n} {run'} e t = record {
   told =
       t
-      ∙ ap (λ (m : ℕ). put_along agreeing (take m (tab m itself)) src run) long
-      ∙ ap (λ (js : List ℕ). put_along agreeing js src run) (take_all n (tab n itself) (omega (arith, length_tab n itself)))
-      ∙ ap (λ (m : ℕ). put_along agreeing (tab n itself) (take m (drop at bits)) run) (add-sub_cancel_left at n)
-      ∙ along_few agreeing (tab n itself) n (drop at bits) run (omega (arith, length_tab n itself))
-      ∙ ap (λ (js : List ℕ). put_along agreeing js (drop at bits) run) (sym places);
+      ∙ ap (λ (m : ℕ). put_along agreeing (take m (tab m itself)) (take n bits) run) (length-take-le n bits (omega arith))
+      ∙ ap (λ (js : List ℕ). put_along agreeing js (take n bits) run) (take_all n (tab n itself) (omega (arith, length_tab n itself)))
+      ∙ along_few agreeing (tab n itself) n bits run (omega (arith, length_tab n itself))
+      ∙ ap (λ (js : List ℕ). put_along agreeing js bits run) (sym places);
   ends = rw (length_tab (length run) itself) (omega arith);
 }
   where
-    src : List ℕ
-    src = mid_of at (at + n - at) bits
-
-    long : length src ≡ n
-    long = length_mid at (at + n) bits (omega arith) ∙ omega arith
-
-    places : take (length (drop at bits)) (tab (length run) itself) ≡ tab n itself
-    places = elim (dec_le (length bits - at) (length run)) [
-      | yes l ↦ ap (λ (m : ℕ). take m (tab (length run) itself)) (length-drop at bits) ∙ take_tab (length bits - at) (length run) itself l ∙ ap (λ (m : ℕ). tab m itself) (omega arith)
-      | no l ↦ take_all (length (drop at bits)) (tab (length run) itself) (rw (length_tab (length run) itself, length-drop at bits) (omega arith)) ∙ ap (λ (m : ℕ). tab m itself) (omega arith)
+    places : take (length bits) (tab (length run) itself) ≡ tab n itself
+    places = elim (dec_le (length bits) (length run)) [
+      | yes l ↦ take_tab (length bits) (length run) itself l ∙ ap (λ (m : ℕ). tab m itself) (omega arith)
+      | no l ↦ take_all (length bits) (tab (length run) itself) (rw (length_tab (length run) itself) (omega arith)) ∙ ap (λ (m : ℕ). tab m itself) (omega arith)
     ]
 
 -- ---- where the bits end
 
-module _ {js ks bits list₀ list₁ list₂ : List ℕ} {at i j : ℕ} where
+-- the bits that are left after so many
+abbrev pub left_of : ℕ → List ℕ → List ℕ
+left_of i bits = take (length bits - i) (drop i bits)
+
+left_is : (i : ℕ) (bits : List ℕ) → left_of i bits ≡ drop i bits
+left_is i bits = take_all (length bits - i) (drop i bits) (omega (arith, length-drop i bits))
+
+module _ {js ks bits list₀ list₁ list₂ : List ℕ} {i j : ℕ} where
   -- one list of places after another
-  pub put_append : at ≤ length bits → Put js bits at list₀ list₁ i → Put ks bits i list₁ list₂ j → Put (js ++ ks) bits at list₀ list₂ j
-  put_append h p q = record {
+  pub put_append : Put js bits list₀ list₁ i → Put ks (left_of i bits) list₁ list₂ j → Put (js ++ ks) bits list₀ list₂ (i + j)
+  put_append p q = record {
     told =
         q.told
         ∙ ap₂ (put_first ks) left p.told
-        ∙ sym (first_append js ks (drop at bits) list₀);
-    ends = q.ends ∙ rw (p.ends, length-append js ks) (omega arith);
+        ∙ sym (first_append js ks bits list₀);
+    ends = rw (length-append js ks) (omega (arith, p.ends, q.ends, length-drop i bits, ap length (left_is i bits)));
   }
     where
-      left : drop i bits ≡ drop (length js) (drop at bits)
-      left = elim (dec_le (at + length js) (length bits)) [
-        | yes l ↦ let e : i ≡ at + length js = omega (arith, p.ends) in ap (λ (n : ℕ). drop n bits) e ∙ sym (drop-drop (length js) at bits)
+      left : left_of i bits ≡ drop (length js) bits
+      left = left_is i bits ∙ elim (dec_le (length js) (length bits)) [
+        | yes l ↦ let e : i ≡ length js = omega (arith, p.ends) in ap (λ (n : ℕ). drop n bits) e
         | no l ↦
             let e : length bits ≤ i = omega (arith, p.ends) in
-            let past : length bits ≤ at + length js = omega arith in
-            drop_of_length-le bits e ∙ sym (drop-drop (length js) at bits ∙ drop_of_length-le bits past)
+            let past : length bits ≤ length js = omega arith in
+            drop_of_length-le bits e ∙ sym (drop_of_length-le bits past)
       ]
 
 -- what is put, said in another way
-pub put_as : {js ks bits list list' : List ℕ} {at i : ℕ} → js ≡ ks → Put js bits at list list' i → Put ks bits at list list' i
-put_as {bits = bits} {list = list} {list' = list'} {at = at} {i = i} e p = subst (λ (l : List ℕ). Put l bits at list list' i) e p
+pub put_as : {js ks bits list list' : List ℕ} {i : ℕ} → js ≡ ks → Put js bits list list' i → Put ks bits list list' i
+put_as {bits = bits} {list = list} {list' = list'} {i = i} e p = subst (λ (l : List ℕ). Put l bits list list' i) e p
 
-module _ {js bits list list' : List ℕ} {at i : ℕ} (p : Put js bits at list list' i) where
+module _ {js bits list list' : List ℕ} {i : ℕ} (p : Put js bits list list' i) where
   pub put_long : length list' ≡ length list
-  put_long = ap length p.told ∙ length_first js (drop at bits) list
+  put_long = ap length p.told ∙ length_first js bits list
 
   pub put_within : i ≤ length bits
   put_within = omega (arith, p.ends)
 
-pub put_none : {bits list : List ℕ} (at : ℕ) → at ≤ length bits → Put [] bits at list list at
-put_none {bits} {list} at h = record { told = sym (no_places (drop at bits) list); ends = omega arith }
+pub put_none : {bits list : List ℕ} → Put [] bits list list 0
+put_none {bits} {list} = record { told = sym (no_places bits list); ends = omega arith }
 
 -- no more bits are lent than n places take
-pub put_first_lem : (n : ℕ) {js bits list list' : List ℕ} {at m r : ℕ} → at ≤ length bits → m ≡ min (length bits - at) n
-    → Put js (take (at + m) bits) at list list' r → Put (take n js) bits at list list' r
+pub put_first_lem : (n : ℕ) {js bits list list' : List ℕ} {m r : ℕ} → m ≡ min (length bits) n → Put js (take m bits) list list' r → Put (take n js) bits list list' r
 unfolding put_first
-put_first_lem n {js} {bits} {list} {list'} {at} {m} {r} h e p = record {
+put_first_lem n {js} {bits} {list} {list'} {m} {r} e p = record {
   told =
       p.told
-      ∙ ap (λ (bs : List ℕ). put_along agreeing (take (length bs) js) bs list) left
-      ∙ ap (λ (k : ℕ). put_along agreeing (take k js) (take m (drop at bits)) list) long
-      ∙ along_few agreeing (take m js) m (drop at bits) list (omega (arith, length-take m js))
-      ∙ ap (λ (ks : List ℕ). put_along agreeing ks (drop at bits) list) places;
-  ends = p.ends ∙ ends;
+      ∙ ap (λ (k : ℕ). put_along agreeing (take k js) (take m bits) list) lent
+      ∙ along_few agreeing (take m js) m bits list (omega (arith, length-take m js))
+      ∙ ap (λ (ks : List ℕ). put_along agreeing ks bits list) places;
+  ends = p.ends ∙ rw (lent, length-take n js) (omega (arith, e));
 }
   where
-    lent : length (take (at + m) bits) ≡ at + m
-    lent = length-take-le (at + m) bits (omega (arith, e))
+    lent : length (take m bits) ≡ m
+    lent = length-take-le m bits (omega (arith, e))
 
-    left : drop at (take (at + m) bits) ≡ take m (drop at bits)
-    left = ap (drop at) (take-add at m bits) ∙ drop_at (take at bits) (take m (drop at bits)) at (length-take-le at bits h)
-
-    long : length (take m (drop at bits)) ≡ m
-    long = length-take-le m (drop at bits) (rw (length-drop at bits) (omega (arith, e)))
-
-    places : take m js ≡ take (length (drop at bits)) (take n js)
-    places = elim (dec_le n (length bits - at)) [
+    places : take m js ≡ take (length bits) (take n js)
+    places = elim (dec_le n (length bits)) [
       | yes l ↦
           let is : m ≡ n = omega (arith, e) in
-          ap (λ (k : ℕ). take k js) is ∙ sym (take_all (length (drop at bits)) (take n js) (rw (length-drop at bits) (omega (arith, length-take n js))))
+          ap (λ (k : ℕ). take k js) is ∙ sym (take_all (length bits) (take n js) (omega (arith, length-take n js)))
       | no l ↦
-          let is : m ≡ length bits - at = omega (arith, e) in
-          ap (λ (k : ℕ). take k js) is ∙ sym (take-take (length bits - at) n js (omega arith)) ∙ ap (λ (k : ℕ). take k (take n js)) (sym (length-drop at bits))
+          let is : m ≡ length bits = omega (arith, e) in
+          ap (λ (k : ℕ). take k js) is ∙ sym (take-take (length bits) n js (omega arith))
     ]
-
-    ends : min (at + length js) (length (take (at + m) bits)) ≡ min (at + length (take n js)) (length bits)
-    ends = rw (lent, length-take n js) (omega (arith, e))
 
 -- ---- a part that is lent
 
@@ -182,29 +171,29 @@ map_take f zero js = refl
 map_take f (suc n) [] = refl
 map_take f (suc n) (j ∷ js) = ap (λ (l : List ℕ). f j ∷ l) (map_take f n js)
 
-module _ {bits part : List ℕ} {at r : ℕ} (list : List ℕ) (s e : ℕ) (low : s ≤ e) (within : e ≤ length list) where
+module _ {bits part : List ℕ} {r : ℕ} (list : List ℕ) (s e : ℕ) (low : s ≤ e) (within : e ≤ length list) where
   -- bits for places of the part
-  put_lent : (js : List ℕ) → ((i : ℕ) → i < length js → get_or js i 0 < e - s) → Put js bits at (mid_of s (e - s) list) part r
-      → Put (map (λ (j : ℕ). s + j) js) bits at list (put_mid s (e - s) list part) r
+  put_lent : (js : List ℕ) → ((i : ℕ) → i < length js → get_or js i 0 < e - s) → Put js bits (mid_of s (e - s) list) part r
+      → Put (map (λ (j : ℕ). s + j) js) bits list (put_mid s (e - s) list part) r
   unfolding put_first
   put_lent js inside p = record {
     told =
         ap (put_mid s (e - s) list) p.told
-        ∙ along_in agreeing s (e - s) list (take (length (drop at bits)) js) (drop at bits) few (omega arith)
-        ∙ ap (λ (ks : List ℕ). put_along agreeing ks (drop at bits) list) (map_take (λ (j : ℕ). s + j) (length (drop at bits)) js);
-    ends = p.ends ∙ ap (λ (n : ℕ). min (at + n) (length bits)) (sym (length-map js (λ (j : ℕ). s + j)));
+        ∙ along_in agreeing s (e - s) list (take (length bits) js) bits few (omega arith)
+        ∙ ap (λ (ks : List ℕ). put_along agreeing ks bits list) (map_take (λ (j : ℕ). s + j) (length bits) js);
+    ends = p.ends ∙ ap (λ (n : ℕ). min n (length bits)) (sym (length-map js (λ (j : ℕ). s + j)));
   }
     where
-      few : (i : ℕ) → i < length (take (length (drop at bits)) js) → get_or (take (length (drop at bits)) js) i 0 < length (mid_of s (e - s) list)
+      few : (i : ℕ) → i < length (take (length bits) js) → get_or (take (length bits) js) i 0 < length (mid_of s (e - s) list)
       few i h =
-          let l : i < min (length (drop at bits)) (length js) = rw length-take at h in
-          rw (get_or-take (length (drop at bits)) js i 0 (omega arith), length_mid s e list within) (omega (arith, inside i (omega arith)))
+          let l : i < min (length bits) (length js) = rw length-take at h in
+          rw (get_or-take (length bits) js i 0 (omega arith), length_mid s e list within) (omega (arith, inside i (omega arith)))
 
   -- a run that is the whole of it
-  pub run_lent : Put (tab (length (mid_of s (e - s) list)) itself) bits at (mid_of s (e - s) list) part r → Put (tab_from s (e - s) itself) bits at list (put_mid s (e - s) list part) r
+  pub run_lent : Put (tab (length (mid_of s (e - s) list)) itself) bits (mid_of s (e - s) list) part r → Put (tab_from s (e - s) itself) bits list (put_mid s (e - s) list part) r
   unfolding tab itself
   run_lent p =
-      subst (λ (js : List ℕ). Put js bits at list (put_mid s (e - s) list part) r) run
+      subst (λ (js : List ℕ). Put js bits list (put_mid s (e - s) list part) r) run
       (put_lent (tab (length (mid_of s (e - s) list)) itself) (λ i h. let l : i < length (mid_of s (e - s) list) = rw length_tab at h in rw (get_or_tab (length (mid_of s (e - s) list)) itself i 0 l) (omega (arith, length_mid s e list within))) p)
     where
       run : map (λ (j : ℕ). s + j) (tab (length (mid_of s (e - s) list)) itself) ≡ tab_from s (e - s) itself

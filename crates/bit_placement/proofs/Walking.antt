@@ -2,36 +2,40 @@
 -- Assumes nothing.
 use mathlib.Core.Path.{◌≡◌, refl, sym, ◌∙◌, ap, ap₂}
 use mathlib.Core.List.{List, [], ◌∷◌, ◌++◌, append-nil}
-use Prim.Native.Nat.{ℕ, ◌+◌, ◌-◌, ◌*◌, ◌/◌, ◌%◌, ◌≤◌, ◌<◌}
+use Prim.Native.Nat.{ℕ, ◌+◌, ◌-◌, ◌*◌, ◌/◌, ◌≤◌, ◌<◌}
 use native.Mathlib.Decide.{dec_lt}
 use native.Mathlib.Omega.{arith}
 use lib.ListN.{length, take}
 use Rattle.laws.specs.Lists.{tab, tab_from}
 use Rattle.laws.proofs.Tab.{tab_split}
+use Rattle.core.specs.declared.option.Option.TheVariants.{Some}
 use Rattle.rate_matching.specs.declared.Turn.{Turn}
 use Rattle.rate_matching.specs.declared.Unit.{Unit}
 use Rattle.rate_matching.specs.SubBlocks.{rows}
-use Rattle.rate_matching.specs.Circle.{cut_at, start_in}
+use Rattle.rate_matching.specs.Circle.{circle_length, cut_at, start_in}
 use Rattle.rate_matching.specs.Walk.{itself}
 use Rattle.rate_matching.specs.Shape.{shape, bit_places}
-use Rattle.rate_matching.specs.Places.{longest}
-use Rattle.rate_matching.specs.Units.{column_unit, unit_within, column_within, alone_place, alone_count, both_count, unit_places, unit_start, start_unit, whole_units, Lies}
+use Rattle.rate_matching.specs.Units.{column_unit, unit_at, alone_place, alone_count, both_count, unit_places, unit_start, start_unit, whole_units, Lies}
 use Rattle.rate_matching.specs.Turns.{units_of, turn_of}
 use Rattle.rate_matching.proofs.Circle.{start_below}
 use Rattle.rate_matching.proofs.ShapeTurn.{bit_places_none, length_shape}
 use Rattle.rate_matching.proofs.ShapeColumns.{bit_places_split}
 use Rattle.rate_matching.proofs.Units.{low_start, starts_rise}
-use Rattle.rate_matching.proofs.UnitPlaces.{unit_there, unit_low, column_is, unit_lies, unit_ends, unit_named}
-use Rattle.rate_matching.proofs.Cut.{cut_place, whole_most, start_head, start_whole, rest_bits, no_rest, none_cut, turn_cut}
+use Rattle.rate_matching.proofs.UnitPlaces.{unit_low, unit_lies, unit_ends, unit_named}
+use Rattle.rate_matching.proofs.Cut.{cut_place, whole_most, rest_before, shortened_few, start_head, start_whole, rest_bits, no_rest, none_cut, turn_cut}
 use Rattle.rate_matching.proofs.MatchableBlocks.{Matchable, matchable_is}
 use Rattle.rate_matching.proofs.Turns.{turn_told, rest_taken}
 use Rattle.bit_placement.specs.Placement.{turn_in}
-use Rattle.bit_placement.specs.inner.Along.{Put, every_second, Walked, Sends}
-use Rattle.bit_placement.proofs.Along.{put_append, put_as, put_none}
+use Rattle.bit_placement.specs.inner.Along.{Put, every_second, Sized, Walked, Sends}
+use Rattle.bit_placement.proofs.Along.{left_of, put_append, put_as, put_none}
 
 -- a list that is as long has the circle's places too
 pub walked_still : {D F n m : ℕ} → Walked D F n → m ≡ n → Walked D F m
 walked_still w e = record { least = w.least; most = w.most; some = w.some; filler = w.filler; fits = omega (arith, w.fits) }
+
+-- so has a code block's
+pub walked_of : {D F long : ℕ} → Sized D F → circle_length (rows D) ≤ long → Walked D F long
+walked_of w h = record { least = w.least; most = w.most; some = w.some; filler = w.filler; fits = h }
 
 -- what the test of such a code block and version tells
 pub sends_matchable : {D F soft v long : ℕ} → Sends D F soft v long → Matchable D D D F (cut_at soft (rows D)) v
@@ -44,116 +48,97 @@ sends_matchable w = record {
 
 -- ---- every second place
 
--- the places from `from` to q are put
-pub record Alone (from to : ℕ) (bits : List ℕ) (at : ℕ) (part₀ part : List ℕ) (i q : ℕ) : Type 0 where
-  pub passed : (from ≤ q) × (q ≤ to + 1)
-  pub even : (q - from) % 2 ≡ 0
-  pub put : Put (tab ((q - from) / 2) (every_second from)) bits at part₀ part i
+-- k places are put
+pub record Alone (from : ℕ) (bits part₀ part : List ℕ) (n k : ℕ) : Type 0 where
+  pub put : Put (tab k (every_second from)) bits part₀ part n
 
-module _ {from to : ℕ} {bits : List ℕ} {at : ℕ} {part₀ : List ℕ} where
-  pub alone_start : from ≤ to + 1 → at ≤ length bits → Alone from to bits at part₀ part₀ at from
+module _ {from : ℕ} {bits part₀ : List ℕ} where
+  pub alone_start : Alone from bits part₀ part₀ 0 0
   unfolding tab tab_from
-  alone_start h l = record { passed = (omega arith, h); even = omega arith; put = put_as (ap (λ (n : ℕ). tab n (every_second from)) none) (put_none at l) }
-    where
-      none : 0 ≡ (from - from) / 2
-      none = omega arith
+  alone_start = record { put = put_none }
 
-  pub alone_next : {part part' : List ℕ} {i q r : ℕ} → q < to → at ≤ length bits → Alone from to bits at part₀ part i q
-      → Put (tab_from q (q + 1 - q) itself) bits i part part' r → Alone from to bits at part₀ part' r (q + 1 + 1)
+  pub alone_next : {part part' : List ℕ} {n k r : ℕ} → Alone from bits part₀ part n k
+      → Put (tab_from (from + 2 * k) (from + 2 * k + 1 - (from + 2 * k)) itself) (left_of n bits) part part' r → Alone from bits part₀ part' (n + r) (k + 1)
   unfolding tab tab_from every_second itself
-  alone_next {q = q} h l w p = record {
-    passed = (omega (arith, w.passed), omega arith);
-    even = omega (arith, w.even, w.passed);
-    put = put_as more (put_append l w.put p);
-  }
+  alone_next {k = k} w p = record { put = put_as more (put_append w.put p) }
     where
-      one : q + 1 - q ≡ 1
+      one : from + 2 * k + 1 - (from + 2 * k) ≡ 1
       one = omega arith
 
-      half : (q + 1 + 1 - from) / 2 ≡ (q - from) / 2 + 1
-      half = omega (arith, w.passed)
+      there : from + 2 * k ≡ from + 2 * (k + 0)
+      there = omega arith
 
-      there : q ≡ from + 2 * ((q - from) / 2 + 0)
-      there = omega (arith, w.even, w.passed)
-
-      more : tab ((q - from) / 2) (every_second from) ++ tab_from q (q + 1 - q) itself ≡ tab ((q + 1 + 1 - from) / 2) (every_second from)
+      more : tab k (every_second from) ++ tab_from (from + 2 * k) (from + 2 * k + 1 - (from + 2 * k)) itself ≡ tab (k + 1) (every_second from)
       more =
-          ap (λ (n : ℕ). tab ((q - from) / 2) (every_second from) ++ tab_from q n itself) one
-          ∙ ap (λ (n : ℕ). tab ((q - from) / 2) (every_second from) ++ (n ∷ [])) there
-          ∙ sym (tab_split ((q - from) / 2) 1 (every_second from))
-          ∙ ap (λ (n : ℕ). tab n (every_second from)) (sym half)
-
-  pub alone_finish : {part : List ℕ} {i q : ℕ} → to ≤ q → Alone from to bits at part₀ part i q → Put (tab ((to + 1 - from) / 2) (every_second from)) bits at part₀ part i
-  alone_finish {q = q} h w = put_as (ap (λ (n : ℕ). tab n (every_second from)) all) w.put
-    where
-      all : (q - from) / 2 ≡ (to + 1 - from) / 2
-      all = omega (arith, w.passed, w.even)
+          ap (λ (n : ℕ). tab k (every_second from) ++ tab_from (from + 2 * k) n itself) one
+          ∙ ap (λ (n : ℕ). tab k (every_second from) ++ (n ∷ [])) there
+          ∙ sym (tab_split k 1 (every_second from))
 
 -- ---- a unit
 
-pub unit_put : (U : Unit) {bits part₀ part₁ part₂ : List ℕ} {at i r : ℕ} → at ≤ length bits
-    → Put (tab ((U.both.0 + 1 - U.alone.0) / 2) (every_second U.alone.0)) bits at part₀ part₁ i
-    → Put (tab_from U.both.0 (U.end.0 - U.both.0) itself) bits i part₁ part₂ r
-    → Put (unit_places U) bits at part₀ part₂ r
+pub unit_put : (U : Unit) {bits part₀ part₁ part₂ : List ℕ} {n r : ℕ}
+    → Put (tab ((U.both.0 + 1 - U.alone.0) / 2) (every_second U.alone.0)) bits part₀ part₁ n
+    → Put (tab_from U.both.0 (U.end.0 - U.both.0) itself) (left_of n bits) part₁ part₂ r
+    → Put (unit_places U) bits part₀ part₂ (n + r)
 unfolding unit_places alone_count both_count alone_place every_second
-unit_put U l p q = put_append l p q
+unit_put U p q = put_append p q
 
 -- ---- unit after unit
 
 -- the units from `from` to u are put
-pub record Units (D F from to : ℕ) (bits : List ℕ) (at : ℕ) (part₀ part : List ℕ) (i u : ℕ) : Type 0 where
+pub record Units (D F from to : ℕ) (bits part₀ part : List ℕ) (n u : ℕ) : Type 0 where
   pub passed : (from ≤ u) × (u ≤ to)
-  pub put : Put (bit_places (shape D F) (unit_start (rows D) from) (unit_start (rows D) u)) bits at part₀ part i
+  pub put : Put (bit_places (shape D F) (unit_start (rows D) from) (unit_start (rows D) u)) bits part₀ part n
 
 -- a unit lies in a list that has the circle's places
-pub unit_within_lem : {D F long : ℕ} → Walked D F long → (u : ℕ) {U : Unit} → U ≡ unit_within D F u → Lies U × (U.end.0 ≤ long)
-unit_within_lem w u is = (unit_lies u w.most w.filler is, omega (arith, unit_ends u w.most w.filler is, w.fits))
+pub unit_within_lem : {D F long : ℕ} → Walked D F long → (u : ℕ) {U : Unit} → u < 64 → U ≡ unit_at D F u → Lies U × (U.end.0 ≤ long)
+unit_within_lem w u l is = (unit_lies u w.most w.filler is l, omega (arith, unit_ends u w.most w.filler is l, w.fits))
 
-module _ {D F from to : ℕ} {bits : List ℕ} {at : ℕ} {part₀ : List ℕ} (ok : Walked D F (length part₀) × (from ≤ to) × (to ≤ 64) × (at ≤ length bits)) where
-  pub units_start : Units D F from to bits at part₀ part₀ at from
+module _ {D F from to : ℕ} {bits part₀ : List ℕ} (w : Walked D F (length part₀)) (rise : from ≤ to) (few : to ≤ 64) where
+  pub units_start : Units D F from to bits part₀ part₀ 0 from
   units_start = record {
-    passed = (omega arith, ok.1);
-    put = put_as (sym (bit_places_none (shape D F) (unit_start (rows D) from) (unit_start (rows D) from) (omega arith))) (put_none at ok.3);
+    passed = (omega arith, rise);
+    put = put_as (sym (bit_places_none (shape D F) (unit_start (rows D) from) (unit_start (rows D) from) (omega arith))) put_none;
   }
 
-  pub units_next : {part part' : List ℕ} {i u r : ℕ} {U : Unit} → u < to → Units D F from to bits at part₀ part i u → U ≡ unit_within D F u
-      → Put (unit_places U) bits i part part' r → Units D F from to bits at part₀ part' r (u + 1)
-  units_next {u = u} h w is p = record {
-    passed = (omega (arith, w.passed), omega arith);
-    put = put_as whole (put_append ok.3 w.put (put_as (unit_named u ok.0.most ok.0.filler is ok.0.some (omega (arith, ok.2))) p));
+  pub units_next : {part part' : List ℕ} {n u r : ℕ} {U : Unit} → u < to → Units D F from to bits part₀ part n u → U ≡ unit_at D F u
+      → Put (unit_places U) (left_of n bits) part part' r → Units D F from to bits part₀ part' (n + r) (u + 1)
+  units_next {u = u} h s is p = record {
+    passed = (omega (arith, s.passed), omega arith);
+    put = put_as whole (put_append s.put (put_as (unit_named u w.most w.filler is w.some (omega (arith, few))) p));
   }
     where
       whole : bit_places (shape D F) (unit_start (rows D) from) (unit_start (rows D) u) ++ bit_places (shape D F) (unit_start (rows D) u) (unit_start (rows D) (u + 1))
           ≡ bit_places (shape D F) (unit_start (rows D) from) (unit_start (rows D) (u + 1))
-      whole = sym (bit_places_split (shape D F) (unit_start (rows D) from) (unit_start (rows D) (u + 1)) (unit_start (rows D) u) (starts_rise (rows D) from u w.passed.0) (starts_rise (rows D) u (u + 1) (omega arith)))
+      whole = sym (bit_places_split (shape D F) (unit_start (rows D) from) (unit_start (rows D) (u + 1)) (unit_start (rows D) u) (starts_rise (rows D) from u s.passed.0) (starts_rise (rows D) u (u + 1) (omega arith)))
 
-  pub units_finish : {part : List ℕ} {i u : ℕ} → to ≤ u → Units D F from to bits at part₀ part i u
-      → Put (bit_places (shape D F) (unit_start (rows D) from) (unit_start (rows D) to)) bits at part₀ part i
-  units_finish {u = u} h w = put_as (ap (λ (n : ℕ). bit_places (shape D F) (unit_start (rows D) from) (unit_start (rows D) n)) all) w.put
-    where
-      all : u ≡ to
-      all = omega (arith, w.passed)
+pub units_finish : {D F from to : ℕ} {bits part₀ part : List ℕ} {n u : ℕ} → to ≤ u → Units D F from to bits part₀ part n u
+    → Put (bit_places (shape D F) (unit_start (rows D) from) (unit_start (rows D) to)) bits part₀ part n
+units_finish {D} {F} {from} {to} {u = u} h s = put_as (ap (λ (m : ℕ). bit_places (shape D F) (unit_start (rows D) from) (unit_start (rows D) m)) all) s.put
+  where
+    all : u ≡ to
+    all = omega (arith, s.passed)
 
 -- a column has no place of stream 2 alone
-pub column_put : {D F u : ℕ} {U : Unit} {bits part part' : List ℕ} {i r : ℕ} → D ≤ longest → F < D → u < 32 → U ≡ column_within D F u
-    → Put (tab_from U.both.0 (U.end.0 - U.both.0) itself) bits i part part' r → Put (unit_places U) bits i part part' r
+pub column_put : (D F u : ℕ) {U : Unit} {bits part part' : List ℕ} {r : ℕ} → u < 32 → U ≡ unit_at D F u
+    → Put (tab_from U.both.0 (U.end.0 - U.both.0) itself) bits part part' r → Put (unit_places U) bits part part' r
 unfolding unit_places alone_count both_count column_unit tab tab_from
-column_put {D} {F} {u} {U} most few low is p = put_as (ap (λ (n : ℕ). tab n (alone_place U) ++ tab_from U.both.0 (U.end.0 - U.both.0) itself) none) p
+column_put D F u {U} low is p = put_as (ap (λ (n : ℕ). tab n (alone_place U) ++ tab_from U.both.0 (U.end.0 - U.both.0) itself) none) p
   where
     same : U.alone.0 ≡ U.both.0
-    same = rw (is ∙ column_is D F low ∙ unit_there most few (omega arith) ∙ unit_low D F low)
+    same = rw (is ∙ unit_low D F low)
 
     none : 0 ≡ (U.both.0 + 1 - U.alone.0) / 2
     none = omega (arith, same)
 
 -- columns, and then pairs
-pub columns_pairs : (D F from to : ℕ) {bits part₀ part₁ part₂ : List ℕ} {at i r : ℕ} → from ≤ 32 → 32 ≤ to → at ≤ length bits
-    → Put (bit_places (shape D F) (unit_start (rows D) from) (unit_start (rows D) 32)) bits at part₀ part₁ i
-    → Put (bit_places (shape D F) (unit_start (rows D) 32) (unit_start (rows D) to)) bits i part₁ part₂ r
-    → Put (bit_places (shape D F) (unit_start (rows D) from) (unit_start (rows D) to)) bits at part₀ part₂ r
-columns_pairs D F from to low high l p q =
+pub columns_pairs : (D F from to : ℕ) {bits part₀ part₁ part₂ : List ℕ} {n r : ℕ} → from ≤ 32 → 32 ≤ to
+    → Put (bit_places (shape D F) (unit_start (rows D) from) (unit_start (rows D) 32)) bits part₀ part₁ n
+    → Put (bit_places (shape D F) (unit_start (rows D) 32) (unit_start (rows D) to)) (left_of n bits) part₁ part₂ r
+    → Put (bit_places (shape D F) (unit_start (rows D) from) (unit_start (rows D) to)) bits part₀ part₂ (n + r)
+columns_pairs D F from to low high p q =
     put_as (sym (bit_places_split (shape D F) (unit_start (rows D) from) (unit_start (rows D) to) (unit_start (rows D) 32) (starts_rise (rows D) from 32 low) (starts_rise (rows D) 32 to high)))
-    (put_append l p q)
+    (put_append p q)
 
 -- ---- once round: from a version's start to the cut, and from the begin to the start
 
@@ -165,10 +150,10 @@ module _ {D F soft v long : ℕ} (ok : Sends D F soft v long) where
   Ncb = cut_at soft R
 
   -- its three numbers
-  turn_units : {T : Turn} → T ≡ turn_of D F soft v → T ≡ units_of D F Ncb v
-  turn_units e = e ∙ sym (turn_told D F soft v refl (matchable_is (sends_matchable ok)))
+  turn_units : {T : Turn} → Some T ≡ turn_of D F soft v → T ≡ units_of D F Ncb v
+  turn_units e = let f = e ∙ sym (turn_told D F soft v refl (matchable_is (sends_matchable ok))) in cc
 
-  module _ {T : Turn} (is : T ≡ turn_of D F soft v) where
+  module _ {T : Turn} (is : Some T ≡ turn_of D F soft v) where
     start_told : T.start ≡ start_unit Ncb R v
     unfolding units_of
     start_told = ap (λ (t : Turn). t.start) (turn_units is)
@@ -185,8 +170,14 @@ module _ {D F soft v long : ℕ} (ok : Sends D F soft v long) where
     pub whole_in : (T.start ≤ T.whole) × (T.whole ≤ 64)
     whole_in = (omega (arith, whole_told, start_told, start_whole ok.cut v ok.version), omega (arith, whole_told, whole_most ok.cut))
 
+    -- and a unit is cut where some of its bits are before it
+    pub cut_there : 0 < T.rest → T.whole < 64
+    cut_there some =
+        rw whole_told
+        (rest_before ok.cut (omega (arith, rest_told, shortened_few D F ok.walked.some ok.walked.filler ok.walked.most ok.cut)))
+
     -- of the unit that is cut those before the cut
-    shortened : {U : Unit} → U ≡ unit_within D F T.whole → take T.rest (unit_places U) ≡ bit_places (shape D F) (unit_start R T.whole) Ncb
+    shortened : {U : Unit} → U ≡ unit_at D F T.whole → take T.rest (unit_places U) ≡ bit_places (shape D F) (unit_start R T.whole) Ncb
     shortened {U} found = elim (dec_lt T.whole 64) [
       | yes l ↦
           ap (take T.rest) (unit_named T.whole ok.walked.most ok.walked.filler found ok.walked.some l)
@@ -197,7 +188,7 @@ module _ {D F soft v long : ℕ} (ok : Sends D F soft v long) where
           ∙ sym (bit_places_none (shape D F) (unit_start R T.whole) Ncb (omega (arith, ap (unit_start R) whole_told, cut_place ok.cut, no_rest D F ok.walked.some ok.walked.filler ok.walked.most ok.cut all)))
     ]
 
-    pub round_is : {U : Unit} → U ≡ unit_within D F T.whole
+    pub round_is : {U : Unit} → U ≡ unit_at D F T.whole
         → (bit_places (shape D F) (unit_start R T.start) (unit_start R T.whole) ++ take T.rest (unit_places U)) ++ bit_places (shape D F) (unit_start R 0) (unit_start R T.start)
         ≡ turn_in D F soft v
     unfolding turn_in
@@ -222,7 +213,7 @@ module _ {D F soft v long : ℕ} (ok : Sends D F soft v long) where
         → bit_places (shape D F) (unit_start R T.start) (unit_start R T.whole) ++ bit_places (shape D F) (unit_start R 0) (unit_start R T.start) ≡ turn_in D F soft v
     round_uncut z =
         ap (λ (x : List ℕ). x ++ bit_places (shape D F) (unit_start R 0) (unit_start R T.start))
-        (sym (append-nil first) ∙ ap (λ (n : ℕ). first ++ take n (unit_places (unit_within D F T.whole))) (sym z))
+        (sym (append-nil first) ∙ ap (λ (n : ℕ). first ++ take n (unit_places (unit_at D F T.whole))) (sym z))
         ∙ round_is refl
       where
         first : List ℕ

@@ -7,6 +7,7 @@ mod units;
 ghost use Rattle.std.specs.Prelude.{◌≡◌, length};
 ghost use Rattle.bit_placement.specs.Placement.{part_after_turn, bits_put};
 
+use crate::units::{Block, put_rest, put_units};
 use rate_matching::{circle_length, turn_of, unit_at};
 
 // Puts the bits of one turn of redundancy version `version`, or as many as there are, in `part`, which begins with the circle of a code block with streams
@@ -23,18 +24,18 @@ pub fn put_turn(
     ensures part { part.new ≡ part_after_turn d filler soft version bits.now part.old }
     ensures count { result ≡ bits_put d filler soft version (length bits.now) (length part.old) }
 {
-    let turn = turn_of(d, filler, soft, version);
-    if turn.whole == 0 {
+    let Some(turn) = turn_of(d, filler, soft, version) else {
+        return 0;
+    };
+    if part.len() < circle_length(d).unwrap() {
         return 0;
     }
-    if part.len() < circle_length(d) {
-        return 0;
-    }
-    let first = units::put_units(d, filler, turn.start, turn.whole, bits, 0, part);
+    let of = Block { d, filler };
+    let first = put_units(of, turn.start, turn.whole, bits, part);
     if turn.rest == 0 {
-        return units::put_units(d, filler, 0, turn.start, bits, first, part);
+        return first + put_units(of, 0, turn.start, &bits[first..], part);
     }
-    let cut = unit_at(d, filler, turn.whole);
-    let second = units::put_rest(cut, turn.rest, bits, first, part);
-    units::put_units(d, filler, 0, turn.start, bits, second, part)
+    let cut = unit_at(d, filler, turn.whole).unwrap();
+    let second = first + put_rest(cut, turn.rest, &bits[first..], part);
+    second + put_units(of, 0, turn.start, &bits[second..], part)
 }

@@ -9,6 +9,7 @@ ghost use Rattle.bit_placement.specs.inner.Along.{Put, every_second};
 use rate_matching::CirclePlace;
 
 // What a place that kept `old` keeps after the bit `new`: no branch, so that a run is met many places at a time.
+// kept: no enum of what a byte tells, since a store that the caller keeps has these bytes and any others (`meet` of 01 'Slots').
 fn met(old: u8, new: u8) -> u8
     ensures { result ≡ meet old new }
 {
@@ -24,58 +25,40 @@ fn meet_run(bits: &[u8], run: &mut [u8])
     requires { length bits.now ≤ length run.old }
     ensures { run.new ≡ put_first (tab (length bits.now) itself) bits.now run.old }
 {
-    let mut i = 0;
-    while i < bits.len() {
-        run[i] = met(run[i], bits[i]);
-        i += 1;
+    for (i, bit) in bits.iter().enumerate() {
+        run[i] = met(run[i], *bit);
     }
 }
 
-// Puts the bits from `at` on at the front of a run, as many as there are of both, and tells where they end.
-fn put_run(bits: &[u8], at: usize, run: &mut [u8]) -> usize
-    requires { at ≤ length bits.now }
-    ensures { Put (tab (length run.old) itself) bits.now at run.old run.new result }
+// Puts bits at the front of a run, as many as there are of both, and tells how many.
+fn put_run(bits: &[u8], run: &mut [u8]) -> usize
+    ensures { Put (tab (length run.old) itself) bits.now run.old run.new result }
 {
-    let left = bits.len() - at;
-    let n = if left < run.len() { left } else { run.len() };
-    let end = at + n;
-    meet_run(&bits[at..end], run);
-    end
+    let n = bits.len().min(run.len());
+    meet_run(&bits[..n], run);
+    n
 }
 
 // Puts bits at the places of the circle from `from` to `to`, which lie side by side. The byte of a place has its number.
-pub(crate) fn put_places(
-    bits: &[u8],
-    at: usize,
-    from: CirclePlace,
-    to: CirclePlace,
-    part: &mut [u8],
-) -> usize
-    requires { (at ≤ length bits.now) × (from.0 ≤ to.0) × (to.0 ≤ length part.old) }
-    ensures { Put (tab_from from.0 (to.0 - from.0) itself) bits.now at part.old part.new result }
+pub(crate) fn put_places(bits: &[u8], from: CirclePlace, to: CirclePlace, part: &mut [u8]) -> usize
+    requires { (from.0 ≤ to.0) × (to.0 ≤ length part.old) }
+    ensures { Put (tab_from from.0 (to.0 - from.0) itself) bits.now part.old part.new result }
 {
     let start = from.0;
     let end = to.0;
-    put_run(bits, at, &mut part[start..end])
+    put_run(bits, &mut part[start..end])
 }
 
 // Puts bits at every second place of the circle from `from` on, up to `to`.
-pub(crate) fn put_alone(
-    bits: &[u8],
-    at: usize,
-    from: CirclePlace,
-    to: CirclePlace,
-    part: &mut [u8],
-) -> usize
-    requires { (at ≤ length bits.now) × (from.0 ≤ to.0 + 1) × (to.0 ≤ length part.old) }
-    ensures { Put (tab ((to.0 + 1 - from.0) / 2) (every_second from.0)) bits.now at part.old part.new result }
+pub(crate) fn put_alone(bits: &[u8], from: CirclePlace, to: CirclePlace, part: &mut [u8]) -> usize
+    requires { (from.0 ≤ to.0 + 1) × (to.0 ≤ length part.old) }
+    ensures { Put (tab ((to.0 + 1 - from.0) / 2) (every_second from.0)) bits.now part.old part.new result }
 {
-    let mut i = at;
-    let mut place = from;
-    while place.0 < to.0 {
+    let mut n = 0;
+    for k in 0..(to.0 + 1 - from.0) / 2 {
+        let place = CirclePlace(from.0 + 2 * k);
         let next = CirclePlace(place.0 + 1);
-        i = put_places(bits, i, place, next, part);
-        place = CirclePlace(next.0 + 1);
+        n += put_places(&bits[n..], place, next, part);
     }
-    i
+    n
 }

@@ -1,42 +1,37 @@
-use mathlib.Core.Path.{◌≡◌, ◌∙◌}
-use Prim.Native.Nat.{◌≤◌, ◌<◌}
+use mathlib.Core.Path.{◌≡◌, refl, ◌∙◌}
+use Prim.Native.Nat.{◌<◌}
 use native.Mathlib.Omega.{arith}
-use lib.ListN.{length}
-use Rattle.rate_matching.specs.Units.{unit_within}
-use Rattle.rate_matching.proofs.UnitPlaces.{column_is}
-use Rattle.bit_placement.specs.inner.Along.{Walked}
-use Rattle.bit_placement.proofs.Along.{put_long, put_within}
-use Rattle.bit_placement.proofs.Walking.{walked_still, units_start, unit_within_lem, units_next, units_finish, column_put}
-use Rattle.bit_placement.proofs.units.put_columns.Goals.{After-column_unit_at-unit, In-loop-u, Start}
+use Rattle.rate_matching.specs.Units.{unit_at}
+use Rattle.rate_matching.proofs.UnitPlaces.{column_there, column_found}
+use Rattle.bit_placement.proofs.Along.{put_long}
+use Rattle.bit_placement.proofs.Walking.{walked_still, walked_of, units_start, unit_within_lem, units_next, column_put}
+use Rattle.bit_placement.proofs.units.put_columns.Goals.{After-unwrap-unit, In-loop-u}
 use Rattle.bit_placement.proofs.units.put_columns.Goals as goal
-
--- what is asked of any units
-asked : (s : Start) → let e = s.args in Walked e.d e.filler (length e.part.now) × (e.from ≤ e.to) × (e.to ≤ 64) × (e.at ≤ length e.bits.now)
-asked s = (s.requires.0, s.requires.1, omega (arith, s.requires.2), s.requires.3)
 
 low : (c : In-loop-u) → c.loop-u.u < 32
 low c = omega (arith, c.loop-u-test.true, c.requires.2)
 
-is : (c : After-column_unit_at-unit) → let e = c.args in c.column_unit_at-unit.result ≡ unit_within e.d e.filler c.loop-u.u
-is c = c.column_unit_at-unit.ensures ∙ column_is _ _ (omega (arith, c.loop-u-test.true, c.requires.2))
+found : (c : After-unwrap-unit) → c.unwrap-unit.result ≡ unit_at c.args.of.d c.args.of.filler c.loop-u.u
+found c = column_found _ _ c.column_unit_at.ensures c.unwrap-unit.ensures (omega (arith, c.loop-u-test.true, c.requires.2))
 
 pub loop-u-init : goal.loop-u-init
-loop-u-init c = units_start (asked (goal.at.loop-u-init c).Start)
+loop-u-init c = units_start (walked_of c.args.of.sized c.requires.0) c.requires.1 (omega (arith, c.requires.2))
 
-pub put_places-i-requires : goal.put_places-i-requires
-put_places-i-requires c =
-    let w = unit_within_lem (walked_still c.requires.0 (put_long c.loop-u.invariant.put)) _ (is (goal.at.put_places-i-requires c).After-column_unit_at-unit) in
-    (put_within c.loop-u.invariant.put, w.0.both, w.1)
+pub unwrap-unit-requires : goal.unwrap-unit-requires
+unwrap-unit-requires c =
+    let w = c.args.of.sized in
+    rw (c.column_unit_at.ensures ∙ column_there w.most w.filler (low (goal.at.unwrap-unit-requires c).In-loop-u)) refl
 
-pub overflow_add-u : goal.overflow_add-u
-overflow_add-u c = omega (arith, c.requires.2)
+pub put_places-n-requires : goal.put_places-n-requires
+put_places-n-requires c =
+    let at = goal.at.put_places-n-requires c in
+    let w = walked_still (walked_of c.args.of.sized c.requires.0) (put_long c.loop-u.invariant.put) in
+    let u = unit_within_lem w _ (omega (arith, low at.In-loop-u)) (found at.After-unwrap-unit) in
+    (u.0.both, u.1)
 
 pub loop-u-preserved : goal.loop-u-preserved
 loop-u-preserved c =
-    units_next (asked (goal.at.loop-u-preserved c).Start) (omega arith) c.loop-u.invariant (is (goal.at.loop-u-preserved c).After-column_unit_at-unit) (column_put c.requires.0.most c.requires.0.filler (low (goal.at.loop-u-preserved c).In-loop-u) c.column_unit_at-unit.ensures c.put_places-i.ensures)
-
-pub shape_of-part : goal.shape_of-part
-shape_of-part c = put_long c.loop-u.invariant.put
-
-pub returns : goal.returns
-returns c = units_finish (asked (goal.at.returns c).Start) (omega arith) c.loop-u.invariant
+    let at = goal.at.loop-u-preserved c in
+    let is = found at.After-unwrap-unit in
+    units_next (walked_of c.args.of.sized c.requires.0) c.requires.1 (omega (arith, c.requires.2)) c.loop-u-test.true c.loop-u.invariant is
+    (column_put _ _ _ (low at.In-loop-u) is c.put_places-n.ensures)

@@ -4,5 +4,4 @@ use Rattle.bit_placement.proofs.Walking.{unit_put}
 use Rattle.bit_placement.proofs.units.put_unit.Goals as goal
 
 pub returns : goal.returns
-returns c =
-    unit_put _ c.requires.2 c.put_alone-i.ensures c.put_places.ensures
+returns c = unit_put _ c.put_alone-n.ensures c.put_places.ensures
