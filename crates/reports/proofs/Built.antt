@@ -1,32 +1,33 @@
--- Build with a report: its numbers one by one, and the output when both parts are back.
+-- Build with a report: what number 0 tells, and the output when both parts are back.
 -- Assumes nothing.
 use mathlib.Core.Path.{◌≡◌, refl, sym, ◌∙◌, ap, ap₂}
-use mathlib.Core.Bool.{Bool, true, false}
 use mathlib.Core.List.{List, [], ◌∷◌, ◌++◌, append_assoc}
-use Prim.Native.Nat.{ℕ, ◌+◌, ◌-◌, ◌*◌, ◌≤◌, ◌<◌}
+use Prim.Native.Nat.{ℕ, ◌+◌, ◌-◌, ◌*◌, ◌≤◌}
 use native.Mathlib.Omega.{arith}
 use lib.ListN.{length, take, drop, length-drop, length-append}
 use lib.Seq.{length-take-le, drop-drop, take-length, drop_at}
-use borrow.Author.Tests.{ltb-false, lt-ltb, le-ltb, eq-eqb, ne_eqb}
+use borrow.Author.Tests.{ltb-false, le-ltb, eq-eqb}
 use borrow.Rule.Slice.PartMut.{mid_of, put_mid}
 use Rattle.laws.specs.Bits.{AreBits}
 use Rattle.laws.proofs.Parts.{rest_back}
+use Rattle.refusals.specs.declared.Refusal.{Refusal}
 use Rattle.refusals.specs.Refusals.{Rule, first_of}
+use Rattle.refusals.specs.Refusals as refusing
+use Rattle.refusals.proofs.Numbers.{refusal_ne0}
 use Rattle.refusals.proofs.Refusals.{passed, listed}
 use Rattle.segmentation.specs.Segmentation.{blocks}
 use Rattle.codeword.specs.declared.Grant.{Grant}
 use Rattle.codeword.specs.Codeword.{codeword}
 use Rattle.codeword.specs.Build as plain
 use Rattle.codeword.specs.Build.{bad_length, bad_version, bad_bits, length_rule, version_rule, output_rule, bits_rule, build_output}
-use Rattle.codeword.proofs.Accepted.{allocation_of, given_bits}
-use Rattle.build_calls.proofs.Numbers.{accepted_is}
+use Rattle.codeword.proofs.Accepted.{given_bits}
 use Rattle.report_code.specs.Code.{control_bits, repeated, block}
 use Rattle.report_code.specs.Words.{number_of, message_bits}
 use Rattle.report_code.proofs.Linear.{block_number}
 use Rattle.report_code.proofs.Folding.{length_repeated}
 use Rattle.reports.specs.Refusals.{shape_rules, build_rules}
 use Rattle.reports.specs.Calls.{report_build_number, multiplexed, report_build_output}
-use Rattle.reports.proofs.Shape.{passed_on, earlier, Shaped, shaped}
+use Rattle.reports.proofs.Shape.{earlier, Shaped, shaped}
 
 -- the rules behind those that both calls look at first
 abbrev others : List ℕ → ℕ → List ℕ → Grant → ℕ → List Rule
@@ -38,45 +39,6 @@ others o control a g lent =
     ∷ bits_rule a
     ∷ []
 
--- ---- number by number
-
-module _ (o : List ℕ) (control : ℕ) (a : List ℕ) (g : Grant) (lent : ℕ) {n : ℕ}
-    (e : n ≡ first_of (shape_rules (length a) g.modulation g.layers (length o) control)) (z : n ≡ 0) where
-  after : report_build_number o control a g lent ≡ first_of (others o control a g lent)
-  unfolding report_build_number build_rules shape_rules
-  after = passed_on (shape_rules (length a) g.modulation g.layers (length o) control) (others o control a g lent) tt e z
-
-  abbrev too_long : Bool
-  too_long = bad_length (blocks (length a + 24)) g.modulation g.layers g.bits
-
-  pub bad_data_is : too_long ≡ true → 3 ≡ report_build_number o control a g lent
-  unfolding first_of
-  bad_data_is h = sym (after ∙ simp h)
-
-  module _ (data_fits : too_long ≡ false) where
-    pub bad_version_is : 3 < g.version → 4 ≡ report_build_number o control a g lent
-    unfolding first_of bad_version
-    bad_version_is h = sym (after ∙ simp (data_fits, lt-ltb 3 g.version h))
-
-    module _ (version : g.version ≤ 3) where
-      pub short_output_is : lent < g.layers * control + g.bits → 5 ≡ report_build_number o control a g lent
-      unfolding first_of bad_version
-      short_output_is h = sym (after ∙ simp (data_fits, le-ltb 3 g.version version, lt-ltb lent (g.layers * control + g.bits) h))
-
-      module _ (enough : g.layers * control + g.bits ≤ lent) where
-        pub bad_report_is : bad_bits o ≡ true → 2 ≡ report_build_number o control a g lent
-        unfolding first_of bad_version
-        bad_report_is h = sym (after ∙ simp (data_fits, le-ltb 3 g.version version, le-ltb lent (g.layers * control + g.bits) enough, h))
-
-        module _ (report : bad_bits o ≡ false) where
-          pub bad_bits_is : bad_bits a ≡ true → 2 ≡ report_build_number o control a g lent
-          unfolding first_of bad_version
-          bad_bits_is h = sym (after ∙ simp (data_fits, le-ltb 3 g.version version, le-ltb lent (g.layers * control + g.bits) enough, report, h))
-
-          pub accepted_report : bad_bits a ≡ false → 0 ≡ report_build_number o control a g lent
-          unfolding first_of bad_version
-          accepted_report h = sym (after ∙ simp (data_fits, le-ltb 3 g.version version, le-ltb lent (g.layers * control + g.bits) enough, report, h))
-
 -- ---- what number 0 tells
 
 pub record Accepted (o : List ℕ) (control : ℕ) (a : List ℕ) (g : Grant) (lent : ℕ) : Type 0 where
@@ -86,7 +48,7 @@ pub record Accepted (o : List ℕ) (control : ℕ) (a : List ℕ) (g : Grant) (l
   pub report_bits : AreBits o
 
 pub accepted : (o : List ℕ) (control : ℕ) (a : List ℕ) (g : Grant) (lent : ℕ) → report_build_number o control a g lent ≡ 0 → Accepted o control a g lent
-unfolding report_build_number build_rules shape_rules bad_version
+unfolding report_build_number build_rules shape_rules bad_version plain.build_number plain.build_rules first_of
 accepted o control a g lent h =
     let shape = shaped (length a) g.modulation g.layers (length o) control refl (earlier (shape_rules (length a) g.modulation g.layers (length o) control) (others o control a g lent) tt h) in
     let clear = passed (build_rules o control a g lent) refl h tt in
@@ -95,22 +57,24 @@ accepted o control a g lent h =
     record {
       shape = shape;
       codeword_fits =
-          sym
-          (accepted_is a g (lent - g.layers * control) shape.size
-          (allocation_of _ _ _ _ shape.symbol length-fits)
-          (ltb-false 3 g.version (clear (version_rule g.version) (search listed)))
-          (omega arith)
-          (clear (bits_rule a) (search listed)));
+          simp (
+            shape.size,
+            shape.symbol,
+            length-fits,
+            le-ltb 3 g.version (ltb-false 3 g.version (clear (version_rule g.version) (search listed))),
+            le-ltb (lent - g.layers * control) g.bits (omega arith),
+            clear (bits_rule a) (search listed),
+          );
       enough = long;
       report_bits = given_bits o (clear (bits_rule o) (search listed));
     }
 
 -- ---- the output
 
-pub refused_output : (o : List ℕ) (control : ℕ) (a : List ℕ) (g : Grant) (out : List ℕ) → (report_build_number o control a g (length out) ≡ 0 → ⊥)
+pub refused_output : (o : List ℕ) (control : ℕ) (a : List ℕ) (g : Grant) (out : List ℕ) (refusal : Refusal) → refusing.number_of refusal ≡ report_build_number o control a g (length out)
     → out ≡ report_build_output o control a g out
 unfolding report_build_output
-refused_output o control a g out h = simp (ne_eqb _ _ h)
+refused_output o control a g out refusal e = rw (← e, refusal_ne0 refusal)
 
 -- the control bits by the report's number
 pub control_is : (o : List ℕ) (n : ℕ) → length o ≤ 11 → AreBits o → control_bits (message_bits 11 (number_of o)) n ≡ control_bits o n
@@ -151,6 +115,9 @@ module _ (o : List ℕ) (control : ℕ) (a : List ℕ) (g : Grant) (out : List �
 
     data_number : plain.build_number a g (length (drop (g.layers * control) out)) ≡ 0
     data_number = ap (plain.build_number a g) (length-drop (g.layers * control) out) ∙ (accepted o control a g (length out) h).codeword_fits
+
+    pub data_accepted : plain.build_number a g (length (mid_of (g.layers * control) (length (ctl ++ drop (g.layers * control) out) - g.layers * control) (ctl ++ drop (g.layers * control) out))) ≡ 0
+    data_accepted = ap (λ (l : List ℕ). plain.build_number a g (length l)) data_lent ∙ data_number
 
     data_told : build_output a g (drop (g.layers * control) out) ≡ codeword a g ++ drop (g.layers * control + g.bits) out
     unfolding build_output

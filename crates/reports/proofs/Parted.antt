@@ -1,58 +1,32 @@
--- The way back: its numbers one by one, and what reading a run comes to.
+-- The way back: what number 0 tells, and what reading a run comes to.
 -- Assumes nothing.
-use mathlib.Core.Path.{◌≡◌, refl, sym, ◌∙◌, ap, ap₂}
-use mathlib.Core.Bool.{Bool, true, false, cond, ◌||◌}
+use mathlib.Core.Path.{◌≡◌, refl, sym, ◌∙◌, ap}
+use mathlib.Core.Bool.{true, false, ◌||◌}
 use mathlib.Core.List.{List, [], ◌∷◌, ◌++◌}
 use Prim.Native.Nat.{ℕ, suc, ◌+◌, ◌-◌, ◌*◌, ◌/◌, ◌%◌, ◌≤◌, ◌<◌}
 use native.Mathlib.Nat.{sub-zero}
 use native.Mathlib.Omega.{arith}
-use lib.Dec.{eqb}
 use lib.ListN.{length, take, drop, length-drop, take-append-drop}
 use lib.Seq.{length-take-le, take-length}
-use borrow.Author.Tests.{ltb-false, lt-ltb, le-ltb, eq-eqb, ne_eqb}
-use Rattle.refusals.specs.Refusals.{Rule, first_of}
+use borrow.Author.Tests.{eqb-false, ltb-false, le-ltb, eq-eqb}
+use Rattle.refusals.specs.declared.Refusal.{Refusal}
+use Rattle.refusals.specs.Refusals.{Rule, first_of, number_of}
+use Rattle.refusals.proofs.Numbers.{refusal_ne0}
 use Rattle.refusals.proofs.Refusals.{passed, listed}
 use Rattle.segmentation.specs.Segmentation.{blocks}
-use Rattle.codeword.specs.Build.{bad_length, bad_bits, length_rule, output_rule, bits_rule}
+use Rattle.codeword.specs.Build.{bad_bits, length_rule, output_rule, bits_rule}
 use Rattle.codeword.proofs.Accepted.{or-false}
 use Rattle.codeword.proofs.Seen.{appended}
 use Rattle.report_code.specs.Words.{message_bits}
 use Rattle.report_code.specs.Nearest.{nearest_message, unfit, nearest_of}
 use Rattle.report_code.proofs.Answered.{nearest_fit}
-use Rattle.reports.specs.declared.parting.Read.{Read}
 use Rattle.reports.specs.Refusals.{shape_rules, part_rules}
 use Rattle.reports.specs.Calls.{control_part, past_control, tie_rule, part_number, nearest_report, part_output, data_part}
-use Rattle.reports.specs.inner.Read.{read_run}
 use Rattle.reports.proofs.Shape.{passed_on, stopped, earlier, some_data, Shaped, shaped}
 
 abbrev others : ℕ → ℕ → ℕ → ℕ → ℕ → List ℕ → ℕ → List Rule
 others A Q N O control received lent =
     length_rule (blocks (A + 24)) Q N (length received - N * control) ∷ output_rule O lent ∷ bits_rule received ∷ []
-
--- ---- number by number
-
-module _ (A Q N O control : ℕ) (received : List ℕ) (lent : ℕ) {n : ℕ} (e : n ≡ first_of (shape_rules A Q N O control)) (z : n ≡ 0) where
-  after : first_of (part_rules A Q N O control received lent) ≡ first_of (others A Q N O control received lent)
-  unfolding part_rules shape_rules
-  after = passed_on (shape_rules A Q N O control) (others A Q N O control received lent) tt e z
-
-  pub bad_data_is : bad_length (blocks (A + 24)) Q N (length received - N * control) ≡ true → 3 ≡ first_of (part_rules A Q N O control received lent)
-  unfolding first_of
-  bad_data_is h = sym (after ∙ simp h)
-
-  module _ (data_fits : bad_length (blocks (A + 24)) Q N (length received - N * control) ≡ false) where
-    pub short_output_is : lent < O → 5 ≡ first_of (part_rules A Q N O control received lent)
-    unfolding first_of
-    short_output_is h = sym (after ∙ simp (data_fits, lt-ltb lent O h))
-
-    module _ (enough : O ≤ lent) where
-      pub bad_bits_is : bad_bits received ≡ true → 2 ≡ first_of (part_rules A Q N O control received lent)
-      unfolding first_of
-      bad_bits_is h = sym (after ∙ simp (data_fits, le-ltb lent O enough, h))
-
-      pub accepted_run : bad_bits received ≡ false → 0 ≡ first_of (part_rules A Q N O control received lent)
-      unfolding first_of
-      accepted_run h = sym (after ∙ simp (data_fits, le-ltb lent O enough, h))
 
 -- ---- what number 0 tells
 
@@ -77,6 +51,9 @@ accepted A Q N O control received lent {n} e z =
 
 -- ---- the message
 
+some_number : (refusal : Refusal) → number_of refusal ≡ 0 → ⊥
+some_number refusal e = eqb-false _ 0 (refusal_ne0 refusal) e
+
 -- the control bits are fit for the search
 front_fit : (A Q N O control : ℕ) (received : List ℕ) (lent : ℕ) → Accepted A Q N O control received lent → unfit O (control_part N control received) ≡ false
 unfolding unfit control_part
@@ -94,19 +71,10 @@ front_fit A Q N O control received lent w =
     bits = (or-false (bad_bits (take (N * control) received)) (bad_bits (drop (N * control) received)) whole).0
 
 module _ (A Q N O control : ℕ) (received : List ℕ) (lent : ℕ) {n : ℕ} (e : n ≡ first_of (part_rules A Q N O control received lent)) where
-  read_as : {p : ℕ} → p ≡ part_number A Q N O control received lent → {m : ℕ}
-      → m ≡ cond (eqb p 0) (nearest_message O (control_part N control received)).message 0
-      → record { number = p; message = m } ≡ read_run A Q N O control received lent
-  unfolding read_run
-  read_as q h =
-      ap₂ (λ (x y : ℕ). record { number = x; message = y }) q
-      (h ∙ ap (λ (p : ℕ). cond (eqb p 0) (nearest_message O (control_part N control received)).message 0) q)
-
-  pub refused_run : (n ≡ 0 → ⊥) → record { number = n; message = 0 } ≡ read_run A Q N O control received lent
+  pub refused_run : (refusal : Refusal) → number_of refusal ≡ n → number_of refusal ≡ part_number A Q N O control received lent
   unfolding part_number part_rules shape_rules
-  refused_run z =
-      read_as (stopped (part_rules A Q N O control received lent) (tie_rule O (control_part N control received) ∷ []) tt e z)
-      (ap (λ (b : Bool). cond b (nearest_message O (control_part N control received)).message 0) (sym (ne_eqb n 0 z)))
+  refused_run refusal told =
+      told ∙ stopped (part_rules A Q N O control received lent) (tie_rule O (control_part N control received) ∷ []) tt e (λ z. some_number refusal (told ∙ z))
 
   module _ (z : n ≡ 0) where
     pub found_is : nearest_of O (control_part N control received) ≡ nearest_message O (control_part N control received)
@@ -116,21 +84,15 @@ module _ (A Q N O control : ℕ) (received : List ℕ) (lent : ℕ) {n : ℕ} (e
     unfolding part_number part_rules shape_rules
     last_rule = passed_on (part_rules A Q N O control received lent) (tie_rule O (control_part N control received) ∷ []) tt e z
 
-    pub tied_run : (nearest_message O (control_part N control received)).tied ≡ true → record { number = 19; message = 0 } ≡ read_run A Q N O control received lent
+    pub tied_run : (nearest_message O (control_part N control received)).tied ≡ true → 19 ≡ part_number A Q N O control received lent
     unfolding first_of
-    tied_run h = read_as (sym (last_rule ∙ simp h)) refl
+    tied_run h = sym (last_rule ∙ simp h)
 
-    pub read_run_lem : (nearest_message O (control_part N control received)).tied ≡ false
-        → record { number = 0; message = (nearest_message O (control_part N control received)).message } ≡ read_run A Q N O control received lent
+    pub read_run_lem : (nearest_message O (control_part N control received)).tied ≡ false → 0 ≡ part_number A Q N O control received lent
     unfolding first_of
-    read_run_lem h = read_as (sym (last_rule ∙ simp h)) refl
+    read_run_lem h = sym (last_rule ∙ simp h)
 
 -- ---- what a run that is read tells
-
-pub number_told : (A Q N O control : ℕ) (received : List ℕ) (lent : ℕ) {r : Read} → r ≡ read_run A Q N O control received lent
-    → r.number ≡ part_number A Q N O control received lent
-unfolding read_run
-number_told A Q N O control received lent e = ap (λ (r : Read). r.number) e
 
 pub run_accepted : (A Q N O control : ℕ) (received : List ℕ) (lent : ℕ) → part_number A Q N O control received lent ≡ 0 → Accepted A Q N O control received lent
 unfolding part_number part_rules shape_rules
@@ -138,26 +100,21 @@ run_accepted A Q N O control received lent z =
     accepted A Q N O control received lent refl
     (earlier (part_rules A Q N O control received lent) (tie_rule O (control_part N control received) ∷ []) tt z)
 
-pub message_told : (A Q N O control : ℕ) (received : List ℕ) (lent : ℕ) {r : Read} → r ≡ read_run A Q N O control received lent
-    → part_number A Q N O control received lent ≡ 0 → r.message ≡ (nearest_message O (control_part N control received)).message
-unfolding read_run
-message_told A Q N O control received lent e z =
-    ap (λ (r : Read). r.message) e ∙ ap (λ (b : Bool). cond b (nearest_message O (control_part N control received)).message 0) (eq-eqb _ _ z)
-
 -- ---- the output
 
-pub refused_output : (A Q N O control : ℕ) (received out : List ℕ) → (part_number A Q N O control received (length out) ≡ 0 → ⊥) → out ≡ part_output A Q N O control received out
+pub refused_output : (A Q N O control : ℕ) (received out : List ℕ) (refusal : Refusal) → number_of refusal ≡ part_number A Q N O control received (length out)
+    → out ≡ part_output A Q N O control received out
 unfolding part_output
-refused_output A Q N O control received out h = simp (ne_eqb _ _ h)
+refused_output A Q N O control received out refusal e = rw (← e, refusal_ne0 refusal)
 
 pub read_output_lem : (A Q N O control : ℕ) (received out : List ℕ) {front : List ℕ} → part_number A Q N O control received (length out) ≡ 0
     → front ≡ nearest_report N O control received → front ++ drop O out ≡ part_output A Q N O control received out
 unfolding part_output
 read_output_lem A Q N O control received out h e = simp (eq-eqb _ _ h) (ap (λ (l : List ℕ). l ++ drop O out) e)
 
-pub no_data : (A Q N O control : ℕ) (received : List ℕ) → (part_number A Q N O control received O ≡ 0 → ⊥) → [] ≡ data_part A Q N O control received
+pub no_data : (A Q N O control : ℕ) (received : List ℕ) (refusal : Refusal) → number_of refusal ≡ part_number A Q N O control received O → [] ≡ data_part A Q N O control received
 unfolding data_part
-no_data A Q N O control received h = simp (ne_eqb _ _ h)
+no_data A Q N O control received refusal e = rw (← e, refusal_ne0 refusal)
 
 pub the_data : (A Q N O control : ℕ) (received : List ℕ) → part_number A Q N O control received O ≡ 0 → drop (N * control) received ≡ data_part A Q N O control received
 unfolding data_part past_control

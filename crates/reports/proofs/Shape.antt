@@ -16,6 +16,7 @@ use Rattle.segmentation.proofs.Segmentation.{in_range, blocks_least}
 use Rattle.codeword.specs.Shares.{symbols}
 use Rattle.codeword.specs.Build.{bad_modulation, bad_layers, bad_symbol, bad_length, size_rule, symbol_rule}
 use Rattle.codeword.proofs.Accepted as accepted
+use Rattle.codeword.proofs.Segmented.{sized, unsized}
 use Rattle.reports.specs.Refusals.{bad_report, bad_control, report_rule, control_rule, shape_rules}
 
 -- ---- one list of rules behind another
@@ -42,6 +43,9 @@ earlier rs ss t e = go (eqb (first_of rs) 0) refl
 pub symbol_some : (Q N : ℕ) → bad_symbol Q N ≡ false → 0 < Q
 unfolding bad_symbol
 symbol_some Q N e = (accepted.modulation Q (accepted.or-false (bad_modulation Q) (bad_layers N) e).0).0
+
+-- what the tests on the way to the number tell
+pub ruleset shaping = (sized, unsized, symbol_some)
 
 -- ---- a report, an allocation and control bits that are in range
 
@@ -87,3 +91,6 @@ some_data A Q N G good s e = go (eqb G 0) refl
         let none : G / (N * Q) ≡ 0 = ap (λ (g : ℕ). g / (N * Q)) (eqb-true G 0 h) ∙ zero-div (N * Q) in
         absurd (omega (arith, low, (accepted.allocated (blocks (A + 24)) Q N G (accepted.allocation_of (blocks (A + 24)) Q N G s e)).enough))
     go false h = omega (arith, eqb-false G 0 h)
+
+-- what the tests behind those of the shape tell
+pub ruleset ordered = (stopped, passed_on, shaped)

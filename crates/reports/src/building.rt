@@ -1,58 +1,64 @@
 // Build with a report.
-ghost use Rattle.std.specs.Prelude.{◌≡◌, ◌*◌, ◌≤◌, length};
+ghost use Rattle.std.specs.Prelude.{◌≡◌, ◌≤◌, length};
 ghost use Rattle.laws.specs.Bits.{AreBits};
+ghost use Rattle.refusals.specs.Refusals.{number_in};
 ghost use Rattle.report_code.specs.Words.{number_of};
 ghost use Rattle.reports.specs.Calls.{report_build_number, report_build_output};
 
-use super::refused::{bad_data, shape_number};
+use crate::Layout;
+use crate::refused::{accept_shape, bad_data};
 use codeword::Grant;
+use refusals::Refusal;
 
-// Writes the control bits of `report`, `control` a layer, and behind them the codeword of `block`, over the front of `out`. Answers 0, or the
-// number of the refusal, which writes nothing.
-pub fn build(report: &[u8], control: usize, block: &[u8], grant: Grant, out: &mut [u8]) -> u8
-    ensures number { result ≡ report_build_number report.now control block.now grant (length out.old) }
+// Writes the control bits of `report`, `control` a layer, and behind them the codeword of `block`, over the front of `out`. A refusal writes nothing.
+pub fn build(
+    report: &[u8],
+    control: usize,
+    block: &[u8],
+    grant: Grant,
+    out: &mut [u8],
+) -> Result<(), Refusal>
+    ensures number { number_in result ≡ report_build_number report.now control block.now grant (length out.old) }
     ensures output { out.new ≡ report_build_output report.now control block.now grant out.old }
 {
-    let number = build_number(report, control, block, grant, out.len());
-    if number != 0 {
-        return number;
-    }
+    accept_build(report, control, block, grant, out.len())?;
     let ahead = grant.layers * control;
     report_code::control_bits(number_of(report), &mut out[..ahead]);
-    build_calls::build(block, grant, &mut out[ahead..]);
-    0
+    build_calls::build(block, grant, &mut out[ahead..])
 }
 
 // The refusals in their order.
-fn build_number(report: &[u8], control: usize, block: &[u8], grant: Grant, lent: usize) -> u8
-    ensures { result ≡ report_build_number report.now control block.now grant lent }
+#[tactic(auto, using(crate::proofs::Shape::ordered), unfolding(crate::specs::Calls::report_build_number, crate::specs::Refusals::build_rules, crate::specs::Refusals::shape_rules, codeword::specs::Build::bad_version, refusals::specs::Refusals::first_of))]
+fn accept_build(
+    report: &[u8],
+    control: usize,
+    block: &[u8],
+    grant: Grant,
+    lent: usize,
+) -> Result<(), Refusal>
+    ensures { number_in result ≡ report_build_number report.now control block.now grant lent }
 {
-    let number = shape_number(
-        block.len(),
-        grant.modulation,
-        grant.layers,
-        report.len(),
+    let layout = Layout {
+        block: block.len(),
+        modulation: grant.modulation,
+        layers: grant.layers,
+        report: report.len(),
         control,
-    );
-    if number != 0 {
-        return number;
-    }
-    if bad_data(block.len(), grant.modulation, grant.layers, grant.bits) {
-        return 3;
+    };
+    accept_shape(layout)?;
+    if bad_data(layout, grant.bits) {
+        return Err(Refusal::BadAllocation);
     }
     if grant.version > 3 {
-        return 4;
+        return Err(Refusal::BadVersion);
     }
     if lent < grant.layers * control + grant.bits {
-        return 5;
+        return Err(Refusal::TooShort);
     }
-    if codeword::bad_bits(report) {
-        return 2;
+    if codeword::bad_bits(report) || codeword::bad_bits(block) {
+        return Err(Refusal::BadBit);
     }
-    if codeword::bad_bits(block) {
-        return 2;
-    }
-    0
+    Ok(())
 }
 
 // The number of a report: o_0 is its lowest bit.

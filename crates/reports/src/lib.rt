@@ -7,3 +7,13 @@ mod refused;
 
 pub use building::build;
 pub use parting::{data_part, part};
+
+// What is sent with a report: a block of so many bits, Q_m, N_L, and a report of so many bits in so many control bits a layer.
+#[derive(Clone, Copy)]
+pub struct Layout {
+    pub block: usize,
+    pub modulation: usize,
+    pub layers: usize,
+    pub report: usize,
+    pub control: usize,
+}

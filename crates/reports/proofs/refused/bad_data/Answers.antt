@@ -9,8 +9,7 @@ use Rattle.reports.proofs.refused.bad_data.Goals as goal
 
 pub returns : goal.returns
 returns c =
+    let l = c.args.layout in
     c.bad_allocation.ensures
-    ∙ ap
-    (λ (C : ℕ). bad_allocation C c.args.q c.args.n c.args.g)
-    (sized_in _ _ c.requires.0 c.segments_for-s.ensures).count
+    ∙ ap (λ (C : ℕ). bad_allocation C l.modulation l.layers c.args.g) (sized_in _ _ c.requires.0 c.segments_for-s.ensures).count
     ∙ length_left _ _ _ _ c.requires.1
