@@ -91,20 +91,13 @@ whole_over n xs out some full = rw (div-eq_of_eq-mul_right some full, drop_of_le
 
 -- ---- reading
 
--- the first m bytes and the n after them
-pub split : (m n : ℕ) (bytes : List ℕ) (at : ℕ) → number_from (m + n) bytes at ≡ number_from m bytes at + 256 ^ m * number_from n bytes (at + m)
+-- the terms of eight bytes
+pub eight_from : (bytes : List ℕ) (at : ℕ) → number_from 8 bytes at
+    ≡ get_or bytes at 0
+    + 256 * (get_or bytes (at + 1) 0 + 256 * (get_or bytes (at + 2) 0 + 256 * (get_or bytes (at + 3) 0
+    + 256 * (get_or bytes (at + 4) 0 + 256 * (get_or bytes (at + 5) 0 + 256 * (get_or bytes (at + 6) 0 + 256 * (get_or bytes (at + 7) 0 + 256 * 0)))))))
 unfolding number_from
-split zero n bytes at = ap (λ (k : ℕ). number_from k bytes at) none ∙ omega (arith, ap (number_from n bytes) here)
+eight_from bytes at = rw (on 1, on 2, on 3, on 4, on 5, on 6)
   where
-    none : 0 + n ≡ n
-    none = omega arith
-
-    here : at + 0 ≡ at
-    here = omega arith
-split (suc m) n bytes at = ap (λ (k : ℕ). number_from k bytes at) one ∙ rw (pow-suc 256 m) (omega (arith, rw there at (split m n bytes (at + 1))))
-  where
-    one : suc m + n ≡ suc (m + n)
-    one = omega arith
-
-    there : at + 1 + m ≡ at + suc m
-    there = omega arith
+    on : (k : ℕ) → at + k + 1 ≡ at + (k + 1)
+    on k = omega arith

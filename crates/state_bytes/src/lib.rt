@@ -3,14 +3,15 @@
 
 mod numbers;
 
-ghost use Rattle.std.specs.Prelude.{◌≡◌, cond, ◌+◌, ◌≤◌, length};
+ghost use Rattle.std.specs.Prelude.{◌≡◌, ◌+◌, ◌≤◌, length};
+ghost use Rattle.slots.specs.Outcome.{answer_of, told};
 ghost use Rattle.slots.specs.Answers.{number_of};
 ghost use Rattle.slots.specs.State.{open_head};
 ghost use Rattle.state_bytes.specs.StateBytes.{state_length, head_of, head_from, state_in, with_head_bytes, bytes_after, new_number, new_bytes, value_of};
 
 pub use numbers::put_numbers;
 use slot_calls::states;
-use slots::{Answer, Head, Outcome, State};
+use slots::{Answer, Head, Outcome, Reason, State};
 
 // The bytes of a state.
 const STATE_LEN: usize = 272;
@@ -65,14 +66,14 @@ fn head_of(flag: usize, terminal: usize, size: usize, share: usize) -> Head
     if flag > 1 {
         return no_head();
     }
-    if terminal > 65535 {
-        return no_head();
-    }
-    Head {
-        opened: flag == 1,
-        terminal: terminal as u16,
-        size,
-        share,
+    match u16::try_from(terminal) {
+        Ok(terminal) => Head {
+            opened: flag == 1,
+            terminal,
+            size,
+            share,
+        },
+        Err(_) => no_head(),
     }
 }
 
@@ -89,8 +90,8 @@ fn no_head() -> Head
 
 // The number of an outcome; an accepted one leaves the slot's head in the bytes.
 pub fn finish(outcome: Outcome, slot: usize, bytes: &mut [u8]) -> u32
-    ensures value { result ≡ number_of outcome.answer }
-    ensures bytes_after { bytes.new ≡ bytes_after outcome slot bytes.old }
+    ensures value { result ≡ number_of (answer_of outcome.answer) }
+    ensures bytes_after { bytes.new ≡ bytes_after (told outcome) slot bytes.old }
 {
     let answer = outcome.answer;
     let found = number(answer);
@@ -115,18 +116,12 @@ fn put_head(head: Head, slot: usize, bytes: &mut [u8])
     let from = 16 + 32 * slot;
     let to = from + 32;
     let four = [
-        flag_of(head.opened),
-        head.terminal as usize,
+        usize::from(head.opened),
+        usize::from(head.terminal),
         head.size,
         head.share,
     ];
     put_numbers(&four, &mut bytes[from..to]);
-}
-
-fn flag_of(opened: bool) -> usize
-    ensures { result ≡ cond opened 1 0 }
-{
-    if opened { 1 } else { 0 }
 }
 
 // New: S and M over the first 16 bytes, and all heads closed, their numbers 0; 0, 13 with the state of S = 0, or 5, which writes nothing.
@@ -142,15 +137,15 @@ pub fn new(s: usize, m: usize, bytes: &mut [u8]) -> u32
     let mut all = [0usize; 34];
     all[0] = state.slots;
     all[1] = state.blocks;
-    put_numbers(&all, &mut bytes[..272]);
+    put_numbers(&all, &mut bytes[..STATE_LEN]);
     let answer = outcome.answer;
     number(answer)
 }
 
 // 01's number of an answer; the number that comes with it, where one does, in `count`.
 pub fn tell(answer: Answer, count: &mut usize) -> u32
-    ensures value { result ≡ number_of answer }
-    ensures count_after { count.new ≡ value_of answer count.old }
+    ensures value { result ≡ number_of (answer_of answer) }
+    ensures count_after { count.new ≡ value_of (answer_of answer) count.old }
 {
     *count = value(answer, *count);
     number(answer)
@@ -158,24 +153,26 @@ pub fn tell(answer: Answer, count: &mut usize) -> u32
 
 // The number of an answer.
 pub fn number(answer: Answer) -> u32
-    ensures { result ≡ number_of answer }
+    ensures { result ≡ number_of (answer_of answer) }
 {
     match answer {
-        Answer::Done => 0,
-        Answer::StillLacking(_) => 0,
-        Answer::Refused(number) => number as u32,
-        Answer::RefusedWith(number, _) => number as u32,
+        Ok(_) => 0,
+        Err(Reason::Rule(refusal)) => u8::from(refusal) as u32,
+        Err(Reason::Lacking(_)) => 11,
+        Err(Reason::WrongCodeBlock(_)) => 16,
     }
 }
 
 // The number that comes with an answer, where one does; else what stood there before.
+#[tactic(auto, unfolding(crate::specs::StateBytes::value_of, slots::specs::Answers::values_of))]
 fn value(answer: Answer, before: usize) -> usize
-    ensures { result ≡ value_of answer before }
+    ensures { result ≡ value_of (answer_of answer) before }
 {
     match answer {
-        Answer::Done => before,
-        Answer::StillLacking(value) => value,
-        Answer::Refused(_) => before,
-        Answer::RefusedWith(_, value) => value,
+        Ok(None) => before,
+        Ok(Some(lacking)) => lacking,
+        Err(Reason::Rule(_)) => before,
+        Err(Reason::Lacking(places)) => places,
+        Err(Reason::WrongCodeBlock(block)) => block,
     }
 }

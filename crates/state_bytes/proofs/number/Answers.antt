@@ -1,20 +1,31 @@
--- `number` meets its contract: each arm is a case of the definition.
+-- `number` meets its contract: each arm is a case of what is told.
 -- Assumes nothing.
+use mathlib.Core.Path.{◌≡◌, refl}
+use Rattle.std.proofs.Common.{rules}
+use Prim.Native.Nat.{ℕ}
+use Rattle.std.specs.declared.option.Option.{Option}
+use Rattle.std.specs.declared.option.Option.TheVariants.{None, Some}
+use Rattle.std.specs.declared.result.Result.TheVariants.{Ok, Err}
+use Rattle.slots.specs.Outcome.{answer_of}
 use Rattle.slots.specs.Answers.{number_of}
 use Rattle.state_bytes.proofs.number.Goals as goal
 
-pub returns-in-Done : goal.returns-in-Done
+accepted : (lacking : Option ℕ) → 0 ≡ number_of (answer_of (Ok lacking))
 unfolding number_of
-returns-in-Done c = rw c.in-Done.is
+accepted None = refl
+accepted (Some places) = refl
 
-pub returns-in-StillLacking : goal.returns-in-StillLacking
-unfolding number_of
-returns-in-StillLacking c = rw c.in-StillLacking.is
+pub returns-in-Ok : goal.returns-in-Ok
+returns-in-Ok c = rw c.in-Ok.is (accepted c.in-Ok.field-0)
 
-pub returns-in-Refused : goal.returns-in-Refused
+pub returns-in-Err-Rule : goal.returns-in-Err-Rule
 unfolding number_of
-returns-in-Refused c = rw c.in-Refused.is
+returns-in-Err-Rule c = search rules
 
-pub returns-in-RefusedWith : goal.returns-in-RefusedWith
+pub returns-in-Err-Lacking : goal.returns-in-Err-Lacking
 unfolding number_of
-returns-in-RefusedWith c = rw c.in-RefusedWith.is
+returns-in-Err-Lacking c = search rules
+
+pub returns-in-Err-WrongCodeBlock : goal.returns-in-Err-WrongCodeBlock
+unfolding number_of
+returns-in-Err-WrongCodeBlock c = search rules
