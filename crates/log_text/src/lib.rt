@@ -7,20 +7,17 @@ ghost use Rattle.log_text.specs.Unfinished.{most_kept, unfinished, ends_in_retur
 // So much of a line is kept as shows that it is too long to be read.
 const MOST_KEPT: usize = 200001;
 
-// The byte `\r`.
-const RETURN: u8 = 13;
-
 // Moves the unfinished line, which starts at `from`, of a text that is read up to `end`, to the text's front and tells how much of it is kept. What a
 // line of more than 200,001 bytes loses here would not change its answer.
+#[tactic(auto, using(crate::proofs::Kept::down, crate::proofs::Kept::stays))]
 pub fn keep(text: &mut [u8], from: usize, end: usize) -> usize
     ensures value { result ≡ length (unfinished text.old from end) }
     ensures text_after { text.new ≡ unfinished text.old from end ++ drop (length (unfinished text.old from end)) text.old }
 {
     let count = kept_count(text.len(), from, end);
-    if from == 0 {
-        return count;
+    if 0 < from && 0 < count {
+        text.copy_within(from..from + count, 0);
     }
-    move_down(text, from, count);
     count
 }
 
@@ -28,40 +25,16 @@ pub fn keep(text: &mut [u8], from: usize, end: usize) -> usize
 fn kept_count(size: usize, from: usize, end: usize) -> usize
     ensures { result ≡ min (min (end - from) most_kept) (size - from) }
 {
-    if end <= from {
-        return 0;
-    }
-    if size <= from {
-        return 0;
-    }
-    least(least(end - from, MOST_KEPT), size - from)
-}
-
-fn least(a: usize, b: usize) -> usize
-    ensures { result ≡ min a b }
-{
-    if a < b { a } else { b }
-}
-
-// Moves so many bytes from `from` on to the front.
-fn move_down(text: &mut [u8], from: usize, count: usize)
-    requires { count ≤ length text.old - from }
-    ensures { text.new ≡ take count (drop from text.old) ++ drop count text.old }
-{
-    let mut i = 0;
-    while i < count {
-        text[i] = text[from + i];
-        i += 1;
-    }
+    end.saturating_sub(from)
+        .min(MOST_KEPT)
+        .min(size.saturating_sub(from))
 }
 
 // Whether the text's first line ends in a carriage return.
+#[tactic(auto, using(lines::proofs::Lines::end_within), unfolding(crate::specs::Unfinished::ends_in_return))]
 pub fn ends_in_return(text: &[u8]) -> bool
     ensures { result ≡ ends_in_return text.now }
 {
     let end = lines::line_end(text, 0);
-    if end == 0 {
-        return false;
-    }
-    text[end - 1] == RETURN
+    0 < end && text[end - 1] == b'\r'
 }
