@@ -91,7 +91,7 @@ module _ (text : List ℕ) where
 
   module _ (kept count : ℕ) where
     -- it, and the text then
-    abbrev Read : Line → List ℕ → Type 0
+    abbrev pub Read : Line → List ℕ → Type 0
     Read next text' = (next ≡ line_read kept count text) × ((text' ≡ text_read kept count text) × Stands next (length text'))
 
     pub read_full : {next : Line} → length text ≤ kept → next ≡ nothing_left → Read next text

@@ -6,6 +6,7 @@ ghost use Rattle.log_input.specs.Line.{Stands, unread_line, nothing_left, goes_o
 
 // A line of the text, from `from` up to `to`, where the text is read up to `end`: unfinished where `to` is `end`. `over` once the input is: then
 // nothing is left where `end` is 0.
+// kept: an Option would be no plainer, since an input that is over may still have its last line, and each turn takes a line and gives one, whichever it is.
 #[derive(Clone, Copy)]
 pub struct Line {
     pub from: usize,
@@ -13,9 +14,6 @@ pub struct Line {
     pub end: usize,
     pub over: bool,
 }
-
-// The byte `\n`.
-const NEWLINE: u8 = 10;
 
 // Before the first read: an unfinished line of no bytes.
 pub fn unread() -> Line
@@ -30,23 +28,19 @@ pub fn unread() -> Line
 }
 
 // Whether a line is unfinished and the input is not over: then a read goes behind it.
+#[tactic(auto, unfolding(crate::specs::Line::goes_on))]
 pub fn goes_on(line: Line) -> bool
     ensures { result ≡ goes_on line }
 {
-    if line.to < line.end {
-        return false;
-    }
-    !line.over
+    line.end <= line.to && !line.over
 }
 
 // Whether no line is left.
+#[tactic(auto, unfolding(crate::specs::Line::none_left))]
 pub fn nothing_is_left(line: Line) -> bool
     ensures { result ≡ none_left line }
 {
-    if line.over {
-        return line.end == 0;
-    }
-    false
+    line.over && line.end == 0
 }
 
 // The line after this one in what is read. One that is unfinished there is moved to the text's front, so that a read has room behind it. Of a line that
@@ -76,6 +70,7 @@ fn nothing_left() -> Line
 }
 
 // The line behind this one, or this one, if it is unfinished.
+#[tactic(auto, unfolding(crate::specs::Line::following))]
 fn following(line: Line, text: &[u8]) -> Line
     requires { line.end ≤ length text.now }
     ensures { result ≡ following line text.now }
@@ -88,6 +83,7 @@ fn following(line: Line, text: &[u8]) -> Line
 }
 
 // The line from `from` on. In the bytes before `seen` it does not end: an unfinished line is not looked through again.
+#[tactic(auto, unfolding(crate::specs::Line::line_in))]
 fn line_in(text: &[u8], from: usize, seen: usize, end: usize, over: bool) -> Line
     requires { end ≤ length text.now }
     ensures { result ≡ line_in text.now from seen end over }
@@ -102,6 +98,7 @@ fn line_in(text: &[u8], from: usize, seen: usize, end: usize, over: bool) -> Lin
 }
 
 // Keeps the line at the text's front, if it goes on. An unfinished one that does not is none.
+#[tactic(auto, unfolding(crate::specs::Line::settled, crate::specs::Line::text_settled))]
 fn settle(line: Line, text: &mut [u8]) -> Line
     ensures value { result ≡ settled line text.old }
     ensures text_after { text.new ≡ text_settled line text.old }
@@ -138,16 +135,11 @@ pub fn line_now(line: Line, count: usize, text: &mut [u8]) -> Line
 }
 
 // Whether a line does not stand within a text of so many bytes.
+#[tactic(auto, unfolding(crate::specs::Line::outside))]
 fn outside(line: Line, size: usize) -> bool
     ensures { result ≡ outside line size }
 {
-    if line.to < line.from {
-        return true;
-    }
-    if line.end < line.to {
-        return true;
-    }
-    size < line.end
+    line.to < line.from || line.end < line.to || size < line.end
 }
 
 // The line of which so many bytes are kept at the text's front, after a read behind them that brought so many more, none at the input's end. Where
@@ -157,10 +149,7 @@ fn line_read(kept: usize, count: usize, text: &mut [u8]) -> Line
     ensures text_after { text.new ≡ text_read kept count text.old }
     ensures stands { Stands result (length text.new) }
 {
-    if text.len() <= kept {
-        return nothing_left();
-    }
-    if text.len() - kept < count {
+    if text.len() <= kept || text.len() - kept < count {
         return nothing_left();
     }
     if count == 0 {
@@ -170,6 +159,7 @@ fn line_read(kept: usize, count: usize, text: &mut [u8]) -> Line
 }
 
 // The last line of the input, of so many bytes, which no newline ended: it is ended here.
+#[tactic(auto, unfolding(crate::specs::Line::last_line, crate::specs::Line::text_ended))]
 fn last_line(text: &mut [u8], kept: usize) -> Line
     requires { kept < length text.old }
     ensures value { result ≡ last_line kept }
@@ -178,7 +168,7 @@ fn last_line(text: &mut [u8], kept: usize) -> Line
     if kept == 0 {
         return nothing_left();
     }
-    text[kept] = NEWLINE;
+    text[kept] = b'\n';
     Line {
         from: 0,
         to: kept,
