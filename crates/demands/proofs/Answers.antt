@@ -8,7 +8,7 @@ use Prim.Native.Nat.{ℕ, ◌+◌, ◌*◌, ◌≤◌}
 use lib.ListN.{length, take, drop}
 use borrow.Author.Tests.{ne_eqb}
 use Rattle.laws.specs.Bits.{AreBits}
-use Rattle.segmentation.specs.declared.SizesAnswer.TheVariants.{Given}
+use Rattle.std.specs.Prelude.{Ok}
 use Rattle.segmentation.specs.Segmentation.{blocks, longs, long, shorts, short, filler}
 use Rattle.segmentation.specs.Sizes as sizes
 use Rattle.segmentation.specs.Sizes.{sizes_of, sizes_answer}
@@ -66,7 +66,7 @@ build_accepted a g lent size allowed bits fits = sym (accepted_is a g lent ((siz
     ((allocation_test (blocks (length a + 24)) g.modulation g.layers g.bits).where_holds (allowed.symbol, allowed.carried)) allowed.version fits ((bits_test_lem a).where_holds bits))
 
 -- A Sizes in range is answered with the six numbers.
-pub sizes_accepted : (A : ℕ) → Size A → sizes_answer A ≡ Given (sizes_of A)
+pub sizes_accepted : (A : ℕ) → Size A → sizes_answer A ≡ Ok (sizes_of A)
 unfolding sizes_answer
 sizes_accepted A size = rw ((size_test A).where_holds size)
 

@@ -10,7 +10,8 @@ use lib.ListN.{length}
 use borrow.Author.Tests.{eqb-true, eqb-false}
 use Rattle.refusals.specs.Refusals.{Rule, rule, first_of}
 use Rattle.segmentation.specs.Segmentation.{blocks}
-use Rattle.segmentation.specs.declared.SizesAnswer.TheVariants as sizes-answer
+use Rattle.std.specs.Prelude.{Ok, Err}
+use Rattle.refusals.specs.declared.Refusal.TheVariants.{BadLength}
 use Rattle.segmentation.specs.Sizes as sizes
 use Rattle.codeword.specs.declared.Grant.{Grant}
 use Rattle.codeword.specs.Build.{build_rules, build_number}
@@ -83,7 +84,7 @@ pub sizes_number_lem : (A : ℕ) → SizesGives A (sizes.number_of (sizes.sizes_
 unfolding SizesGives sizes.number_of sizes.sizes_answer first_of
 sizes_number_lem A = row (size_test A) refl (record { is = go (sizes.bad_size A) }) (λ e. last)
   where
-    go : (b : Bool) → let n : ℕ = elim b [ true ↦ 1 | false ↦ 0 ] in sizes.number_of (cond b (sizes-answer.Refused 1) (sizes-answer.Given (sizes.sizes_of A))) ≡ cond (eqb n 0) 0 n
+    go : (b : Bool) → let n : ℕ = elim b [ true ↦ 1 | false ↦ 0 ] in sizes.number_of (cond b (Err BadLength) (Ok (sizes.sizes_of A))) ≡ cond (eqb n 0) 0 n
     go true = refl
     go false = refl
 

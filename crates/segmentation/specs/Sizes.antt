@@ -1,10 +1,11 @@
 -- The call Sizes of 01: for a block of A bits the six numbers of its segmentation, or refusal 1.
 -- Assumes nothing.
-use Rattle.std.specs.Prelude.{Bool, cond, ◌||◌, List, [], ◌∷◌, ℕ, ◌+◌, eqb, ltb}
+use Rattle.std.specs.Prelude.{Bool, cond, ◌||◌, List, [], ◌∷◌, Result, Ok, Err, ℕ, ◌+◌, eqb, ltb}
 use Rattle.segmentation.specs.declared.Segments.{Segments}
 use Rattle.segmentation.specs.declared.Sizes.{Sizes}
-use Rattle.segmentation.specs.declared.SizesAnswer.{SizesAnswer}
-use Rattle.segmentation.specs.declared.SizesAnswer.TheVariants.{Given, Refused}
+use Rattle.refusals.specs.declared.Refusal.{Refusal}
+use Rattle.refusals.specs.declared.Refusal.TheVariants.{BadLength}
+use Rattle.refusals.specs.Refusals.{number_in}
 use Rattle.segmentation.specs.Segmentation.{blocks, longs, long, shorts, short, filler, long_row}
 
 -- A outside its range, 1 to 30,576
@@ -36,16 +37,15 @@ sizes_of A =
       filler = filler (A + 24);
     }
 
--- what Sizes answers
-unfoldable pub sizes_answer : ℕ → SizesAnswer
-sizes_answer A = cond (bad_size A) (Refused 1) (Given (sizes_of A))
+-- what Sizes answers: the sizes, or refusal 1
+unfoldable pub sizes_answer : ℕ → Result Sizes Refusal
+sizes_answer A = cond (bad_size A) (Err BadLength) (Ok (sizes_of A))
 
 -- 01's number of an answer: 0 where the call is accepted
-unfoldable pub number_of : SizesAnswer → ℕ
-number_of (Given s) = 0
-number_of (Refused n) = n
+unfoldable pub number_of : Result Sizes Refusal → ℕ
+number_of answer = number_in answer
 
 -- the values of an answer, in 01's order: C, long blocks, long size, short blocks, short size, filler
-unfoldable pub values_of : SizesAnswer → List ℕ
-values_of (Given s) = s.blocks ∷ s.longs ∷ s.long ∷ s.shorts ∷ s.short ∷ s.filler ∷ []
-values_of (Refused n) = []
+unfoldable pub values_of : Result Sizes Refusal → List ℕ
+values_of (Ok s) = s.blocks ∷ s.longs ∷ s.long ∷ s.shorts ∷ s.short ∷ s.filler ∷ []
+values_of (Err refusal) = []

@@ -9,6 +9,7 @@ ghost use Rattle.segmentation.specs.Segmentation.{first_row};
 ghost use Rattle.segmentation.specs.Sizes.{bad_size, segments_of, segments_for, sizes_answer};
 
 use interleaver::table::{Found, row_for, size_at};
+use refusals::Refusal;
 
 // The segmentation of a block, in the names of the clause.
 #[derive(Clone, Copy)]
@@ -38,13 +39,6 @@ pub struct Sizes {
     pub filler: usize,
 }
 
-// What the call Sizes answers.
-#[derive(Clone, Copy)]
-pub enum SizesAnswer {
-    Given(Sizes),
-    Refused(u8),
-}
-
 // The segmentation of a block of `a` bits; all numbers 0 where `a` is out of range.
 pub fn segments_for(a: usize) -> Segments
     ensures { result ≡ segments_for a }
@@ -72,14 +66,15 @@ pub fn segments_for_both(first: usize, second: usize) -> Segments
 }
 
 // The call Sizes of 01: the numbers of a block of `a` bits, or refusal 1.
-pub fn sizes_for(a: usize) -> SizesAnswer
+#[tactic(auto, unfolding(crate::specs::Sizes::sizes_answer, crate::specs::Sizes::sizes_of, crate::specs::Sizes::segments_for, crate::specs::Sizes::segments_of))]
+pub fn sizes_for(a: usize) -> Result<Sizes, Refusal>
     ensures { result ≡ sizes_answer a }
 {
     if bad_size(a) {
-        return SizesAnswer::Refused(1);
+        return Err(Refusal::BadLength);
     }
     let s = segments_for(a);
-    SizesAnswer::Given(Sizes {
+    Ok(Sizes {
         blocks: s.blocks,
         longs: s.longs,
         long: s.long,
