@@ -1,8 +1,7 @@
 // The face to C of downlink control messages.
 ghost use Rattle.std.specs.Prelude.{◌≡◌, length};
-ghost use Rattle.control_messages.specs.Calls.{control_number, control_output, whose_answer, number_of, terminal_of};
-
-use control_messages::Owner;
+ghost use Rattle.refusals.specs.Refusals.{number_in};
+ghost use Rattle.control_messages.specs.Calls.{control_number, control_output, whose_answer, terminal_of};
 
 // A control message: 0, or the number of the refusal, which writes nothing.
 #[unsafe(no_mangle)]
@@ -15,36 +14,21 @@ pub extern "C" fn zemrukste_control_build(
     ensures number { result ≡ control_number payload.now e (length out.old) }
     ensures output { out.new ≡ control_output payload.now terminal e out.old }
 {
-    control_messages::build(payload, terminal, e, out) as u32
+    crate::told(control_messages::build(payload, terminal, e, out))
 }
 
 // Whose a run of payload and check bits is: 0 with the terminal number in `terminal`, or the number of the refusal, which writes nothing.
 #[unsafe(no_mangle)]
+#[tactic(auto, unfolding(control_messages::specs::Calls::terminal_of))]
 pub extern "C" fn zemrukste_control_whose(run: &[u8], terminal: &mut u16) -> u32
-    ensures number { result ≡ number_of (whose_answer run.now) }
+    ensures number { result ≡ number_in (whose_answer run.now) }
     ensures named { terminal.new ≡ terminal_of (whose_answer run.now) terminal.old }
 {
-    let owner = control_messages::whose(run);
-    *terminal = named(owner, *terminal);
-    number(owner)
-}
-
-// The number of an answer.
-fn number(owner: Owner) -> u32
-    ensures { result ≡ number_of owner }
-{
-    match owner {
-        Owner::Terminal(_) => 0,
-        Owner::Refused(number) => number as u32,
-    }
-}
-
-// The terminal number that an answer names; else what stood there before.
-fn named(owner: Owner, before: u16) -> u16
-    ensures { result ≡ terminal_of owner before }
-{
-    match owner {
-        Owner::Terminal(terminal) => terminal,
-        Owner::Refused(_) => before,
+    match control_messages::whose(run) {
+        Ok(own) => {
+            *terminal = own;
+            0
+        }
+        Err(refusal) => u32::from(u8::from(refusal)),
     }
 }

@@ -4,6 +4,7 @@
 mod control;
 
 ghost use Rattle.std.specs.Prelude.{◌++◌, ◌≡◌, length};
+ghost use Rattle.refusals.specs.Refusals.{number_in};
 ghost use Rattle.codeword.specs.Shares.{grant};
 ghost use Rattle.codeword.specs.Build.{build_number, build_output};
 ghost use Rattle.reports.specs.Calls.{report_build_number, report_build_output, part_number, part_output};
@@ -11,8 +12,17 @@ ghost use Rattle.packing.specs.Change.{pack_number, pack_output, unpack_number, 
 ghost use Rattle.codeword.specs.Downlink.{build_down_number, build_down_output};
 ghost use Rattle.face.specs.Face.{sizes_number, sizes_bytes};
 
-use codeword::Grant;
+use codeword::{Grant, Receiver};
 pub use control::{zemrukste_control_build, zemrukste_control_whose};
+use refusals::Refusal;
+use reports::Layout;
+
+// The number that C is told: 0, or that of the refusal.
+pub(crate) fn told(answer: Result<(), Refusal>) -> u32
+    ensures { result ≡ number_in answer }
+{
+    u32::from(refusals::number(answer))
+}
 
 // Build: 0, or the number of the refusal, which writes nothing.
 #[unsafe(no_mangle)]
@@ -33,7 +43,7 @@ pub extern "C" fn zemrukste_build(
         version,
         bits: g,
     };
-    build_calls::build(block, grant, out) as u32
+    told(build_calls::build(block, grant, out))
 }
 
 // Build of a block that lies in two slices, the header's bits before the payload's.
@@ -56,7 +66,7 @@ pub extern "C" fn zemrukste_build_two(
         version,
         bits: g,
     };
-    build_calls::build_two(header, payload, grant, out) as u32
+    told(build_calls::build_two(header, payload, grant, out))
 }
 
 // Build for a downlink: the same, for a receiver with a limited soft buffer.
@@ -83,7 +93,14 @@ pub extern "C" fn zemrukste_build_down(
         version,
         bits: g,
     };
-    build_calls::build_down(block, release, mimo, processes, soft, layers, grant, out) as u32
+    let receiver = Receiver {
+        release,
+        mimo,
+        processes,
+        soft,
+        layers,
+    };
+    told(build_calls::build_down(block, receiver, grant, out))
 }
 
 // Sizes: the six numbers as bytes over the front of `out`, or the number of the refusal, which writes nothing.
@@ -92,16 +109,24 @@ pub extern "C" fn zemrukste_sizes(a: usize, out: &mut [u8]) -> u32
     ensures number { result ≡ sizes_number a (length out.old) }
     ensures output { out.new ≡ sizes_bytes a out.old }
 {
+    told(put_sizes(a, out))
+}
+
+// The six numbers over the front of `out`.
+fn put_sizes(a: usize, out: &mut [u8]) -> Result<(), Refusal>
+    ensures number { number_in result ≡ sizes_number a (length out.old) }
+    ensures output { out.new ≡ sizes_bytes a out.old }
+{
     let s = segmentation::segments_for(a);
     if s.blocks == 0 {
-        return 1;
+        return Err(Refusal::BadLength);
     }
     if out.len() < 24 {
-        return 5;
+        return Err(Refusal::TooShort);
     }
     let six = [s.blocks, s.longs, s.long, s.shorts, s.short, s.filler];
     state_bytes::put_numbers(&six, &mut out[..24]);
-    0
+    Ok(())
 }
 
 // Build with a report: 0, or the number of the refusal, which writes nothing.
@@ -125,7 +150,7 @@ pub extern "C" fn zemrukste_report_build(
         version,
         bits: g,
     };
-    reports::build(report, control, block, grant, out) as u32
+    told(reports::build(report, control, block, grant, out))
 }
 
 // The report of a received run: 0, or the number of the refusal, which writes nothing.
@@ -142,7 +167,14 @@ pub extern "C" fn zemrukste_report_part(
     ensures number { result ≡ part_number a q n o control received.now (length out.old) }
     ensures output { out.new ≡ part_output a q n o control received.now out.old }
 {
-    reports::part(a, q, n, o, control, received, out) as u32
+    let layout = Layout {
+        block: a,
+        modulation: q,
+        layers: n,
+        report: o,
+        control,
+    };
+    told(reports::part(layout, received, out))
 }
 
 // The packed form of one room of m code blocks: 0, or the number of the refusal, which writes nothing.
@@ -151,7 +183,7 @@ pub extern "C" fn zemrukste_pack(m: usize, from: &[u8], to: &mut [u8]) -> u32
     ensures number { result ≡ pack_number m (length from.now) (length to.old) }
     ensures output { to.new ≡ pack_output m from.now to.old }
 {
-    packing::pack_room(m, from, to) as u32
+    told(packing::pack_room(m, from, to))
 }
 
 // The room of m code blocks back from its packed form: 0, or the number of the refusal, which writes nothing.
@@ -160,5 +192,5 @@ pub extern "C" fn zemrukste_unpack(m: usize, from: &[u8], to: &mut [u8]) -> u32
     ensures number { result ≡ unpack_number m (length from.now) (length to.old) }
     ensures output { to.new ≡ unpack_output m from.now to.old }
 {
-    packing::unpack_room(m, from, to) as u32
+    told(packing::unpack_room(m, from, to))
 }

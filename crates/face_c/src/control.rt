@@ -1,6 +1,7 @@
 // The exports of downlink control messages.
 ghost use Rattle.std.specs.Prelude.{◌≡◌, length};
-ghost use Rattle.control_messages.specs.Calls.{control_number, control_output, whose_answer, number_of, terminal_of};
+ghost use Rattle.refusals.specs.Refusals.{number_in};
+ghost use Rattle.control_messages.specs.Calls.{control_number, control_output, whose_answer, terminal_of};
 
 // A control message: 0, or the number of the refusal, which writes nothing.
 #[unsafe(no_mangle)]
@@ -19,7 +20,7 @@ pub extern "C" fn zemrukste_control_build(
 // Whose a run of payload and check bits is: 0 with the terminal number in `terminal`, or the number of the refusal, which writes nothing.
 #[unsafe(no_mangle)]
 pub extern "C" fn zemrukste_control_whose(run: &[u8], terminal: &mut u16) -> u32
-    ensures number { result ≡ number_of (whose_answer run.now) }
+    ensures number { result ≡ number_in (whose_answer run.now) }
     ensures named { terminal.new ≡ terminal_of (whose_answer run.now) terminal.old }
 {
     face::zemrukste_control_whose(run, terminal)

@@ -1,4 +1,4 @@
--- `zemrukste_sizes` meets its contract: the two refusals, and the six numbers in the first 24 bytes.
+-- `put_sizes` meets its contract: the two refusals, and the six numbers in the first 24 bytes.
 -- Assumes nothing.
 use native.Mathlib.Omega.{arith}
 use mathlib.Core.Path.{◌∙◌}
@@ -7,8 +7,8 @@ use Rattle.laws.proofs.Parts.{front_count}
 use Rattle.state_bytes.proofs.Bytes.{whole_over}
 use Rattle.codeword.proofs.Segmented.{Sized, sized, unsized}
 use Rattle.face.proofs.Six.{refused_1, refused_5, accepted}
-use Rattle.face.proofs.zemrukste_sizes.Goals.{Else-s-eq0}
-use Rattle.face.proofs.zemrukste_sizes.Goals as goal
+use Rattle.face.proofs.put_sizes.Goals.{Else-s-eq0}
+use Rattle.face.proofs.put_sizes.Goals as goal
 
 -- past the first test the size is in range
 in_range : (c : Else-s-eq0) → Sized c.args.a c.segments_for-s.result
