@@ -61,14 +61,6 @@ bytes_in false n l h = omega (arith, places_are false l)
 
 -- ---- the loop over the code blocks
 
--- the bytes lent have the circle's places
-sends_in : {D F soft v n m : ℕ} → Sends D F soft v n → circle_length (rows D) ≤ m → Sends D F soft v m
-sends_in w h = record {
-  walked = record { least = w.walked.least; most = w.walked.most; some = w.walked.some; filler = w.walked.filler; fits = h };
-  cut = w.cut;
-  version = w.version;
-}
-
 -- the code blocks before r have their bits, and their data places are counted as they are in the end
 pub record Filling (four : Bool) (A soft : ℕ) (g : Grant) (bits room₀ room : List ℕ) (n at from r : ℕ) : Type 0 where
   pub long : length room ≡ length room₀
@@ -148,10 +140,16 @@ module _ (four : Bool) {A soft : ℕ} {g : Grant} {bits : List ℕ} (room₀ : L
     lent_long : length (places_in four lent) ≡ L
     lent_long = ap length mid_places ∙ length_mid first (first + L) (places_in four room) places_within ∙ add-sub_cancel_left first L
 
-    pub bytes_send : Sends (K + 4) F soft g.version (length (places_in four lent)) × (F ≤ K) × (length (places_in four lent) ≤ 18528)
+    -- what was sent of it, and the bytes that are lent have its circle's places
+    pub bytes_send : Sends (K + 4) F soft g.version L × (F ≤ K) × (L ≤ length (places_in four lent)) × (length (places_in four lent) ≤ 18528)
     bytes_send = (
-      sends_in sends (omega (arith, lent_long)),
+      record {
+        walked = record { least = sends.walked.least; most = sends.walked.most; some = sends.walked.some; filler = sends.walked.filler; fits = omega arith };
+        cut = sends.cut;
+        version = sends.version;
+      },
       omega (arith, k, f, filler_below A ok.size r),
+      omega (arith, lent_long),
       omega (arith, lent_long, sends.walked.fits),
     )
 

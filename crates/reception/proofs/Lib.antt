@@ -6,3 +6,4 @@ pub mod Filling
 pub mod Behind
 pub mod SlotRoom
 pub mod Accepts
+pub mod Sends

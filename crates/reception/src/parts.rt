@@ -1,14 +1,12 @@
 // The bits of one code block: a turn or less is put as it comes, and more turns meet in a ring first.
 ghost use Rattle.std.specs.Prelude.{◌≡◌, ◌+◌, ◌≤◌, ◌<◌, length};
 ghost use Rattle.laws.specs.Bits.{AreBits};
-ghost use Rattle.rate_matching.specs.SubBlocks.{rows};
-ghost use Rattle.rate_matching.specs.Circle.{cut_at};
 ghost use Rattle.slots.specs.Circle.{lacking_on};
-ghost use Rattle.bit_placement.specs.Placement.{put_first, turn_in};
-ghost use Rattle.bit_placement.specs.inner.Along.{Sends};
+ghost use Rattle.bit_placement.specs.Placement.{put_first};
 ghost use Rattle.reception.specs.inner.Ring.{ring_of};
-ghost use Rattle.reception.specs.inner.Parts.{part_after};
+ghost use Rattle.reception.specs.inner.Sent.{OnCircle, turn_of, part_with};
 
+use crate::sent::Sent;
 use crate::turns;
 use bit_placement::put_turn;
 use rate_matching::turn_length;
@@ -19,87 +17,45 @@ const SHORT_RING: usize = 3168;
 const LONG_RING: usize = 18528;
 
 // Puts turns, which are more than one: they meet in a ring, which is put as one turn.
-fn put_turns(
-    d: usize,
-    filler: usize,
-    soft: usize,
-    version: usize,
-    bits: &[u8],
-    ring: &mut [u8],
-    part: &mut [u8],
-)
-    requires { Sends d filler soft version (length part.old) × (0 < length ring.old) × (length ring.old ≤ length bits.now) × AreBits bits.now }
-    ensures { part.new ≡ put_first (turn_in d filler soft version) (ring_of (length ring.old) bits.now) part.old }
+fn put_turns(sent: Sent, bits: &[u8], ring: &mut [u8], part: &mut [u8])
+    requires { OnCircle sent part.old × (0 < length ring.old) × (length ring.old ≤ length bits.now) × AreBits bits.now }
+    ensures { part.new ≡ put_first (turn_of sent) (ring_of (length ring.old) bits.now) part.old }
 {
     turns::meet_turns(bits, ring);
-    put_turn(d, filler, soft, version, ring, part);
+    put_turn(sent.k + 4, sent.filler, sent.soft, sent.version, ring, part);
 }
 
-// The same with the short ring, for turns of n bits.
-fn put_short(
-    d: usize,
-    filler: usize,
-    soft: usize,
-    version: usize,
-    n: usize,
-    bits: &[u8],
-    part: &mut [u8],
-)
-    requires { Sends d filler soft version (length part.old) × (0 < n) × (n ≤ 3168) × (n ≤ length bits.now) × AreBits bits.now }
-    ensures { part.new ≡ put_first (turn_in d filler soft version) (ring_of n bits.now) part.old }
+// The same for turns of n bits, with an array of R bytes for the ring.
+fn put_with<const R: usize>(sent: Sent, n: usize, bits: &[u8], part: &mut [u8])
+    requires { OnCircle sent part.old × (0 < n) × (n ≤ R) × (R ≤ 18528) × (n ≤ length bits.now) × AreBits bits.now }
+    ensures { part.new ≡ put_first (turn_of sent) (ring_of n bits.now) part.old }
 {
-    let mut ring = [0u8; SHORT_RING];
-    put_turns(d, filler, soft, version, bits, &mut ring[..n], part);
+    let mut ring = [0u8; R];
+    put_turns(sent, bits, &mut ring[..n], part);
 }
 
-// The same with the long ring.
-fn put_long(
-    d: usize,
-    filler: usize,
-    soft: usize,
-    version: usize,
-    n: usize,
-    bits: &[u8],
-    part: &mut [u8],
-)
-    requires { Sends d filler soft version (length part.old) × (0 < n) × (n ≤ 18528) × (n ≤ length bits.now) × AreBits bits.now }
-    ensures { part.new ≡ put_first (turn_in d filler soft version) (ring_of n bits.now) part.old }
+// Puts the bits that were sent of a code block.
+fn put_block(sent: Sent, bits: &[u8], part: &mut [u8])
+    requires { OnCircle sent part.old × AreBits bits.now }
+    ensures { part.new ≡ part_with sent bits.now part.old }
 {
-    let mut ring = [0u8; LONG_RING];
-    put_turns(d, filler, soft, version, bits, &mut ring[..n], part);
-}
-
-// Puts the bits that redundancy version `version` sent of a code block with streams of d places, of which `filler` are filler, and a share `soft` of the
-// soft buffer.
-fn put_block(d: usize, filler: usize, soft: usize, version: usize, bits: &[u8], part: &mut [u8])
-    requires { Sends d filler soft version (length part.old) × AreBits bits.now }
-    ensures { part.new ≡ part_after d filler (cut_at soft (rows d)) version bits.now part.old }
-{
-    let n = turn_length(d, filler, soft);
+    let d = sent.k + 4;
+    let n = turn_length(d, sent.filler, sent.soft);
     if bits.len() <= n {
-        put_turn(d, filler, soft, version, bits, part);
-        return;
+        put_turn(d, sent.filler, sent.soft, sent.version, bits, part);
+    } else if n <= SHORT_RING {
+        put_with::<SHORT_RING>(sent, n, bits, part);
+    } else {
+        put_with::<LONG_RING>(sent, n, bits, part);
     }
-    if n <= SHORT_RING {
-        put_short(d, filler, soft, version, n, bits, part);
-        return;
-    }
-    put_long(d, filler, soft, version, n, bits, part);
 }
 
-// Puts the bits of a code block of size k on its circle, and counts its data places that then lack a bit.
-pub(crate) fn put_circle(
-    k: usize,
-    filler: usize,
-    soft: usize,
-    version: usize,
-    bits: &[u8],
-    circle: &mut [u8],
-) -> usize
-    requires { Sends (k + 4) filler soft version (length circle.old) × (filler ≤ k) × AreBits bits.now }
-    ensures stored { circle.new ≡ part_after (k + 4) filler (cut_at soft (rows (k + 4))) version bits.now circle.old }
-    ensures count { result ≡ lacking_on circle.new k filler }
+// Puts the bits of a code block on its circle, and counts its data places that then lack a bit.
+pub(crate) fn put_circle(sent: Sent, bits: &[u8], circle: &mut [u8]) -> usize
+    requires { OnCircle sent circle.old × AreBits bits.now }
+    ensures stored { circle.new ≡ part_with sent bits.now circle.old }
+    ensures count { result ≡ lacking_on circle.new sent.k sent.filler }
 {
-    put_block(k + 4, filler, soft, version, bits, circle);
-    kept_bits::lacking_of(circle, k, filler)
+    put_block(sent, bits, circle);
+    kept_bits::lacking_of(circle, sent.k, sent.filler)
 }

@@ -19,10 +19,8 @@ fn agree_run(bits: &[u8], run: &mut [u8])
     requires { (length bits.now ≤ length run.old) × AllKnown bits.now × AllKnown run.old }
     ensures { run.new ≡ put_first (tab (length bits.now) itself) bits.now run.old }
 {
-    let mut i = 0;
-    while i < bits.len() {
-        run[i] = agreed(run[i], bits[i]);
-        i += 1;
+    for (i, bit) in bits.iter().enumerate() {
+        run[i] = agreed(run[i], *bit);
     }
 }
 

@@ -11,15 +11,16 @@ pub receive_by-answer-requires : goal.receive_by-answer-requires
 unfolding places_in places_asked
 receive_by-answer-requires c =
     let e = c.args in
-    (c.bad_bits-bad.ensures, by_ready false e.state e.slot e.terminal e.q e.n e.version e.bits.now e.store.now refl c.owner-owner.ensures)
+    rw c.granted-grant.ensures (by_ready false e.state e.slot e.terminal e.q e.n e.version e.bits.now e.store.now refl c.bad_bits-bad.ensures c.owner-owner.ensures)
 
 pub returns : goal.returns
 unfolding places_in in_form places_asked
 returns c =
     let e = c.args in
+    let told = rw c.granted-grant.ensures at c.receive_by-answer.ensures in
     record {
       answer = receive_kept e.state e.slot e.terminal e.q e.n e.version e.bits.now e.store.now
-          (by_answer false e.state e.slot e.terminal e.q e.n e.version e.bits.now e.store.now refl c.owner-owner.ensures c.receive_by-answer.ensures.answer);
-      stored = by_store false e.state e.slot e.terminal e.q e.n e.version e.bits.now e.store.now refl c.owner-owner.ensures
-          (λ i. (c.type_inv.store i).fits) c.receive_by-answer.ensures.stored;
+          (by_answer false e.state e.slot e.terminal e.q e.n e.version e.bits.now e.store.now refl c.bad_bits-bad.ensures c.owner-owner.ensures told.answer);
+      stored = by_store false e.state e.slot e.terminal e.q e.n e.version e.bits.now e.store.now refl c.bad_bits-bad.ensures c.owner-owner.ensures
+          (λ i. (c.type_inv.store i).fits) told.stored;
     }

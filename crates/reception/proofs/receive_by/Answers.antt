@@ -1,32 +1,30 @@
--- `receive_by` meets its contract: the number decides, and where it is 0 the bits are put (`Accepts`).
+-- `receive_by` meets its contract: a refusal is that of the first rule that applies, and where none does the bits are put (`Accepts`).
 -- Assumes nothing.
-use mathlib.Core.Path.{◌≡◌, sym, ◌∙◌}
+use mathlib.Core.Path.{sym}
 use native.Mathlib.Omega.{arith}
-use Rattle.reception.specs.inner.Parts.{number_by}
-use Rattle.reception.proofs.Accepts.{refused_by, put_by}
-use Rattle.reception.proofs.receive_by.Goals.{After-receive_number-number}
+use Rattle.std.proofs.lemmas.Result.{IfOk-at_ok, err_from_is_err_and}
+use Rattle.reception.proofs.Accepts.{owner_refused_by, refused_by, put_by}
 use Rattle.reception.proofs.receive_by.Goals as goal
 
--- the number is that of the owner's rules and the bits
-told : (c : After-receive_number-number) → let e = c.args in c.receive_number-number.result ≡ number_by e.owner e.q e.n e.version e.bits.now
-unfolding number_by
-told c = c.receive_number-number.ensures
-
-pub receive_number-number-requires : goal.receive_number-number-requires
-receive_number-number-requires c = c.requires.0
-
-pub returns-then-number-ne0 : goal.returns-then-number-ne0
-returns-then-number-ne0 c =
+pub returns-in_err-head : goal.returns-in_err-head
+returns-in_err-head c =
     let e = c.args in
-    let told = refused_by e.four e.owner e.blocks e.slot e.q e.n e.version e.bits.now e.store.now (told (goal.at.returns-then-number-ne0 c).After-receive_number-number) c.if-number-ne0.true in
-    record { answer = told.0; stored = told.1 }
+    let p = err_from_is_err_and c.from_residual.result c.from_residual.ensures.1 in
+    let told = owner_refused_by e.four e.bad e.blocks e.slot e.grant e.bits.now e.store.now c.in_err-head.field-0.0 c.in_err-head.was in
+    record { answer = rw (p.1, p.2) told.0; stored = told.1 }
+
+pub returns-in_err-admitted : goal.returns-in_err-admitted
+returns-in_err-admitted c =
+    let e = c.args in
+    let p = err_from_is_err_and c.from_residual-in_err-admitted.result c.from_residual-in_err-admitted.ensures.1 in
+    let told = refused_by e.four e.bad e.blocks e.slot e.grant e.bits.now e.store.now c.in_ok-head.head c.in_ok-head.was c.in_err-admitted.field-0.0 c.in_err-admitted.ensures in
+    record { answer = rw (p.1, p.2) told.0; stored = told.1 }
 
 pub put_in_slot-lacking-requires : goal.put_in_slot-lacking-requires
-put_in_slot-lacking-requires c =
-    c.requires.1 (sym (told (goal.at.put_in_slot-lacking-requires c).After-receive_number-number) ∙ c.if-number-ne0.false)
+put_in_slot-lacking-requires c = IfOk-at_ok _ c.in_ok-head.was c.requires (sym c.in_ok-admitted.ensures)
 
 pub returns : goal.returns
 returns c =
     let e = c.args in
-    let told = put_by e.four e.owner e.blocks e.slot e.q e.n e.version e.bits.now e.store.now (told (goal.at.returns c).After-receive_number-number) c.if-number-ne0.false _
+    let told = put_by e.four e.bad e.blocks e.slot e.grant e.bits.now e.store.now c.in_ok-head.head c.in_ok-head.was c.in_ok-admitted.ensures _
     (λ i. omega (arith, c.type_inv.store i)) c.put_in_slot-lacking.ensures.stored c.put_in_slot-lacking.ensures.count in record { answer = told.0; stored = told.1 }

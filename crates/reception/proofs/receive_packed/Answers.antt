@@ -9,14 +9,15 @@ use Rattle.reception.proofs.receive_packed.Goals as goal
 pub receive_by-answer-requires : goal.receive_by-answer-requires
 receive_by-answer-requires c =
     let e = c.args in
-    (c.bad_bits-bad.ensures, by_ready true e.state e.slot e.terminal e.q e.n e.version e.bits.now e.store.now c.places_asked-asked.ensures c.owner-owner.ensures)
+    rw c.granted-grant.ensures (by_ready true e.state e.slot e.terminal e.q e.n e.version e.bits.now e.store.now c.places_asked-asked.ensures c.bad_bits-bad.ensures c.owner-owner.ensures)
 
 pub returns : goal.returns
 returns c =
     let e = c.args in
+    let told = rw c.granted-grant.ensures at c.receive_by-answer.ensures in
     record {
       answer = receive_kept e.state e.slot e.terminal e.q e.n e.version e.bits.now (places_in true e.store.now)
-          (by_answer true e.state e.slot e.terminal e.q e.n e.version e.bits.now e.store.now c.places_asked-asked.ensures c.owner-owner.ensures c.receive_by-answer.ensures.answer);
-      stored = by_store true e.state e.slot e.terminal e.q e.n e.version e.bits.now e.store.now c.places_asked-asked.ensures c.owner-owner.ensures
-          (λ i. (c.type_inv.store i).fits) c.receive_by-answer.ensures.stored;
+          (by_answer true e.state e.slot e.terminal e.q e.n e.version e.bits.now e.store.now c.places_asked-asked.ensures c.bad_bits-bad.ensures c.owner-owner.ensures told.answer);
+      stored = by_store true e.state e.slot e.terminal e.q e.n e.version e.bits.now e.store.now c.places_asked-asked.ensures c.bad_bits-bad.ensures c.owner-owner.ensures
+          (λ i. (c.type_inv.store i).fits) told.stored;
     }

@@ -2,7 +2,10 @@
 -- Assumes nothing.
 use Rattle.std.specs.Prelude.{◌≡◌, Bool, false, cond, List, [], ◌∷◌, ℕ, ◌+◌, ◌*◌, ◌≤◌, eqb, length, take}
 use Rattle.laws.specs.Bits.{AreBits}
-use Rattle.refusals.specs.Refusals.{Rule, first_of}
+use Rattle.std.specs.declared.result.Result.{Result}
+use Rattle.std.specs.declared.result.Result.TheVariants.{Ok, Err}
+use Rattle.refusals.specs.declared.Refusal.{Refusal}
+use Rattle.refusals.specs.Refusals.{Rule, rule, number_of, first_of}
 use Rattle.segmentation.specs.Segmentation.{blocks}
 use Rattle.segmentation.specs.Sizes.{bad_size}
 use Rattle.rate_matching.specs.SubBlocks.{rows}
@@ -10,9 +13,9 @@ use Rattle.rate_matching.specs.Circle.{start_in}
 use Rattle.rate_matching.specs.Walk.{sent_places}
 use Rattle.rate_matching.specs.Shape.{shape}
 use Rattle.codeword.specs.declared.Grant.{Grant}
-use Rattle.codeword.specs.Shares.{grant}
-use Rattle.codeword.specs.Build.{bad_allocation, version_rule, bits_rule}
+use Rattle.codeword.specs.Build.{bad_allocation, version_rule}
 use Rattle.codeword.specs.Codeword.{block_rows}
+use Rattle.slots.specs.declared.Head.{Head}
 use Rattle.slots.specs.State.{per_block, room_length, room_start}
 use Rattle.slots.specs.Putting.{put_along}
 use Rattle.slots.specs.Outcome.{Answer}
@@ -21,36 +24,29 @@ use Rattle.slots.specs.Room.{agreeing, room_at, with_room}
 use Rattle.slots.specs.Reception.{received}
 use Rattle.slots.specs.Reading.{lacking}
 use Rattle.slots.specs.Calls.{allocation_rule}
-use Rattle.slot_calls.specs.declared.Owner.{Owner}
 use Rattle.packing.specs.Store.{places_in, in_form}
 
--- 3, 4, 2: what is asked of the bits for a block of A bits
-unfoldable pub bits_rules : ℕ → ℕ → ℕ → ℕ → List ℕ → List Rule
-bits_rules A Q N v bits = allocation_rule (blocks (A + 24)) Q N (length bits) ∷ version_rule v ∷ bits_rule bits ∷ []
+-- 3, 4, 2: what is asked of a grant for a block of A bits, and of its bits, among which a byte is no bit or not
+unfoldable pub grant_rules : ℕ → Grant → Bool → List Rule
+grant_rules A g bad = allocation_rule (blocks (A + 24)) g.modulation g.layers g.bits ∷ version_rule g.version ∷ rule bad 2 ∷ []
 
--- their number, where no rule applied before
-unfoldable pub number_after : ℕ → ℕ → ℕ → ℕ → ℕ → List ℕ → ℕ
-number_after found A Q N v bits = cond (eqb found 0) (first_of (bits_rules A Q N v bits)) found
+-- the places that a store keeps after a reception in a slot that has this head and room for M code blocks
+unfoldable pub places_by : Head → ℕ → ℕ → Grant → List ℕ → List ℕ → List ℕ
+places_by head M slot g bits places =
+    with_room M slot (received agreeing head.share head.size g bits (room_at M slot places)) places
 
--- Receive by what the owner's rules gave and the slot's head, for a slot with room for M code blocks: its number
-unfoldable pub number_by : Owner → ℕ → ℕ → ℕ → List ℕ → ℕ
-number_by o Q N v bits = number_after o.number o.head.size Q N v bits
+-- Receive by what the owner's rules gave: the answer, and the bytes of the store in its form
+unfoldable pub answer_by : Result Head Refusal → Bool → ℕ → ℕ → Grant → List ℕ → List ℕ → Answer
+answer_by (Err refusal) bad M slot g bits places = Refused (number_of refusal)
+answer_by (Ok head) bad M slot g bits places =
+    cond (eqb (first_of (grant_rules head.size g bad)) 0)
+    (StillLacking (lacking head.size (room_at M slot (places_by head M slot g bits places))))
+    (Refused (first_of (grant_rules head.size g bad)))
 
--- the places that a store keeps afterwards, where the number is 0
-unfoldable pub places_by : Owner → ℕ → ℕ → ℕ → ℕ → ℕ → List ℕ → List ℕ → List ℕ
-places_by o M slot Q N v bits places =
-    with_room M slot (received agreeing o.head.share o.head.size (grant Q N v (length bits)) bits (room_at M slot places)) places
-
--- the answer, and the bytes of the store in its form
-unfoldable pub answer_by : Owner → ℕ → ℕ → ℕ → ℕ → ℕ → List ℕ → List ℕ → Answer
-answer_by o M slot Q N v bits places =
-    cond (eqb (number_by o Q N v bits) 0)
-    (StillLacking (lacking o.head.size (room_at M slot (places_by o M slot Q N v bits places))))
-    (Refused (number_by o Q N v bits))
-
-unfoldable pub store_by : Bool → Owner → ℕ → ℕ → ℕ → ℕ → ℕ → List ℕ → List ℕ → List ℕ
-store_by four o M slot Q N v bits store =
-    cond (eqb (number_by o Q N v bits) 0) (in_form four (places_by o M slot Q N v bits (places_in four store))) store
+unfoldable pub store_by : Bool → Result Head Refusal → Bool → ℕ → ℕ → Grant → List ℕ → List ℕ → List ℕ
+store_by four (Err refusal) bad M slot g bits store = store
+store_by four (Ok head) bad M slot g bits store =
+    cond (eqb (first_of (grant_rules head.size g bad)) 0) (in_form four (places_by head M slot g bits (places_in four store))) store
 
 -- how many bytes a row of a circle has, one place a byte or four
 unfoldable pub bytes_a_row : Bool → ℕ

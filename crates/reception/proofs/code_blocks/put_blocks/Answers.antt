@@ -78,7 +78,7 @@ put_part-lacking-requires c =
     let at = c.loop-r.at in
     let given = c.args.bits.now in
     let w = bytes_send _ _ c.requires (block (goal.at.put_part-lacking-requires c).In-loop-r).below c.loop-r.invariant (size (goal.at.put_part-lacking-requires c).After-size_of-k) (filled (goal.at.put_part-lacking-requires c).After-filler_of-filler) c.bytes_a_row-row.ensures in
-    (w.0, w.1, w.2, take_below 2 (lit< tt) (at + c.share_of.result - at) (drop at given) (drop_below 2 at given c.requires.given))
+    (record { fits = w.2 }, w.3, take_below 2 (lit< tt) (at + c.share_of.result - at) (drop at given) (drop_below 2 at given c.requires.given))
 
 pub overflow_add-lacking : goal.overflow_add-lacking
 unfolding rows
@@ -92,8 +92,11 @@ pub overflow_add-from : goal.overflow_add-from
 overflow_add-from c =
     omega (arith, next_small _ _ c.requires (block (goal.at.overflow_add-from c).In-loop-r).below c.loop-r.invariant c.bytes_a_block-long.ensures)
 
-pub overflow_add-r : goal.overflow_add-r
-overflow_add-r c = omega (arith, c.loop-r-test.true, blocks_few _ c.segments_for-s.ensures)
+pub invariant_of-sent : goal.invariant_of-sent
+unfolding rows
+invariant_of-sent c =
+    let w = bytes_send _ _ c.requires (block (goal.at.invariant_of-sent c).In-loop-r).below c.loop-r.invariant (size (goal.at.invariant_of-sent c).After-size_of-k) (filled (goal.at.invariant_of-sent c).After-filler_of-filler) c.bytes_a_row-row.ensures in
+    record { sends = w.0; holds = w.1 }
 
 pub loop-r-preserved : goal.loop-r-preserved
 unfolding rows

@@ -3,17 +3,21 @@
 use mathlib.Core.Path.{sym, ◌∙◌, ap}
 use mathlib.Core.List.{List}
 use Prim.Native.Nat.{ℕ}
+use native.Mathlib.Omega.{arith}
 use Rattle.slots.specs.Circle.{lacking_on}
 use Rattle.reception.proofs.Circles.{part_there, part_stored}
 use Rattle.reception.proofs.packed.put_by.Goals as goal
+
+pub put_circle-lacking-requires : goal.put_circle-lacking-requires
+put_circle-lacking-requires c = (record { fits = omega (arith, c.requires.0.fits, c.unpack_places.auto.to) }, c.requires.2)
 
 pub returns : goal.returns
 returns c =
     let a = c.args in
     let told = c.put_circle-lacking.ensures in
     record {
-      stored = part_stored _ _ _ _ a.bits.now a.part.now a.circle.now c.requires.2 c.requires.3 c.unpack_places.ensures c.put_circle-lacking.ensures.stored c.pack_places.ensures;
-      count = c.put_circle-lacking.ensures.count
-          ∙ ap (λ (l : List ℕ). lacking_on l a.k a.filler)
-          (sym (part_there _ _ _ _ a.bits.now a.part.now a.circle.now c.requires.2 c.requires.3 c.unpack_places.ensures c.put_circle-lacking.ensures.stored c.pack_places.ensures));
+      stored = part_stored _ _ _ _ a.bits.now a.part.now a.circle.now c.requires.1 c.requires.2 c.unpack_places.ensures told.stored c.pack_places.ensures;
+      count = told.count
+          ∙ ap (λ (l : List ℕ). lacking_on l a.sent.k a.sent.filler)
+          (sym (part_there _ _ _ _ a.bits.now a.part.now a.circle.now c.requires.1 c.requires.2 c.unpack_places.ensures told.stored c.pack_places.ensures));
     }
