@@ -1,10 +1,15 @@
 // The calls on rooms in either form: a place a byte, or four places a byte.
-#![tactic(auto)]
+#![tactic(auto, unfolding(packing::specs::Store::places_in, packing::specs::Store::in_form))]
+
+// kept: (d) the calls of a trait with one impl a form would be ten bodies, and the form of a log's rooms is known only as it runs: one `if` in each call
+// stays either way.
 
 ghost use Rattle.std.specs.Prelude.{◌≡◌, length};
+ghost use Rattle.slots.specs.Outcome.{told};
 ghost use Rattle.slots.specs.Calls.{open_outcome, open_store, open_down_outcome, open_down_store, receive_outcome, receive_store, read_outcome, read_output, streams_outcome, streams_output};
 ghost use Rattle.packing.specs.Store.{places_in, in_form};
 
+use codeword::Receiver;
 use slots::{Outcome, State};
 
 // Open.
@@ -16,7 +21,7 @@ pub fn open_in(
     size: usize,
     store: &mut [u8],
 ) -> Outcome
-    ensures value { result ≡ open_outcome state (length (places_in four store.old)) slot terminal size }
+    ensures value { told result ≡ open_outcome state (length (places_in four store.old)) slot terminal size }
     ensures store_after { store.new ≡ in_form four (open_store state slot size (places_in four store.old)) }
 {
     if four {
@@ -33,24 +38,16 @@ pub fn open_down_in(
     slot: usize,
     terminal: u16,
     size: usize,
-    release: usize,
-    mimo: usize,
-    processes: usize,
-    soft: usize,
-    layers: usize,
+    receiver: Receiver,
     store: &mut [u8],
 ) -> Outcome
-    ensures value { result ≡ open_down_outcome state (length (places_in four store.old)) slot terminal size release mimo processes soft layers }
-    ensures store_after { store.new ≡ in_form four (open_down_store state slot size release mimo processes soft layers (places_in four store.old)) }
+    ensures value { told result ≡ open_down_outcome state (length (places_in four store.old)) slot terminal size receiver.release receiver.mimo receiver.processes receiver.soft receiver.layers }
+    ensures store_after { store.new ≡ in_form four (open_down_store state slot size receiver.release receiver.mimo receiver.processes receiver.soft receiver.layers (places_in four store.old)) }
 {
     if four {
-        packing::open_down_packed(
-            state, slot, terminal, size, release, mimo, processes, soft, layers, store,
-        )
+        packing::open_down_packed(state, slot, terminal, size, receiver, store)
     } else {
-        slot_calls::open_down(
-            state, slot, terminal, size, release, mimo, processes, soft, layers, store,
-        )
+        slot_calls::open_down(state, slot, terminal, size, receiver, store)
     }
 }
 
@@ -66,7 +63,7 @@ pub fn receive_in(
     bits: &[u8],
     store: &mut [u8],
 ) -> Outcome
-    ensures value { result ≡ receive_outcome state slot terminal q n version bits.now (places_in four store.old) }
+    ensures value { told result ≡ receive_outcome state slot terminal q n version bits.now (places_in four store.old) }
     ensures store_after { store.new ≡ in_form four (receive_store state slot terminal q n version bits.now (places_in four store.old)) }
 {
     if four {
@@ -85,7 +82,7 @@ pub fn read_in(
     store: &[u8],
     out: &mut [u8],
 ) -> Outcome
-    ensures value { result ≡ read_outcome state (places_in four store.now) slot terminal (length out.old) }
+    ensures value { told result ≡ read_outcome state (places_in four store.now) slot terminal (length out.old) }
     ensures out_after { out.new ≡ read_output state (places_in four store.now) slot terminal out.old }
 {
     if four {
@@ -105,7 +102,7 @@ pub fn streams_in(
     store: &[u8],
     out: &mut [u8],
 ) -> Outcome
-    ensures value { result ≡ streams_outcome state (length (places_in four store.now)) slot terminal block (length out.old) }
+    ensures value { told result ≡ streams_outcome state (length (places_in four store.now)) slot terminal block (length out.old) }
     ensures out_after { out.new ≡ streams_output state (places_in four store.now) slot terminal block out.old }
 {
     if four {

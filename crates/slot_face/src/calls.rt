@@ -4,6 +4,8 @@ ghost use Rattle.slots.specs.Answers.{number_of};
 ghost use Rattle.slots.specs.Calls.{open_outcome, open_store, open_down_outcome, open_down_store, receive_outcome, receive_store, read_outcome, read_output, streams_outcome, streams_output, close_outcome};
 ghost use Rattle.state_bytes.specs.StateBytes.{state_in, bytes_after, new_number, new_bytes, value_of};
 
+use codeword::Receiver;
+
 // New: 0, 13 with the state of S = 0, or 5, which writes nothing.
 #[unsafe(no_mangle)]
 pub extern "C" fn zemrukste_new(bytes: &mut [u8], s: usize, m: usize) -> u32
@@ -54,9 +56,14 @@ pub extern "C" fn zemrukste_open_down(
         ≡ open_down_store (state_in bytes.old) slot a release mimo processes soft layers store.old }
 {
     let state = state_bytes::state_in(bytes);
-    let outcome = slot_calls::open_down(
-        state, slot, terminal, a, release, mimo, processes, soft, layers, store,
-    );
+    let receiver = Receiver {
+        release,
+        mimo,
+        processes,
+        soft,
+        layers,
+    };
+    let outcome = slot_calls::open_down(state, slot, terminal, a, receiver, store);
     state_bytes::finish(outcome, slot, bytes)
 }
 

@@ -5,6 +5,8 @@ ghost use Rattle.slots.specs.Calls.{open_outcome, open_store, open_down_outcome,
 ghost use Rattle.packing.specs.Store.{places_in, in_form};
 ghost use Rattle.state_bytes.specs.StateBytes.{state_in, bytes_after, value_of};
 
+use codeword::Receiver;
+
 // Open.
 #[unsafe(no_mangle)]
 pub extern "C" fn zemrukste_open_packed(
@@ -46,9 +48,14 @@ pub extern "C" fn zemrukste_open_down_packed(
         ≡ in_form true (open_down_store (state_in bytes.old) slot a release mimo processes soft layers (places_in true store.old)) }
 {
     let state = state_bytes::state_in(bytes);
-    let outcome = packing::open_down_packed(
-        state, slot, terminal, a, release, mimo, processes, soft, layers, store,
-    );
+    let receiver = Receiver {
+        release,
+        mimo,
+        processes,
+        soft,
+        layers,
+    };
+    let outcome = packing::open_down_packed(state, slot, terminal, a, receiver, store);
     state_bytes::finish(outcome, slot, bytes)
 }
 
