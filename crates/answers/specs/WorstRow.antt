@@ -1,11 +1,12 @@
 -- The row that answers `worst A Q N`: `ok`, the least G of three transmissions and that of one alone, or the refusal.
 -- Assumes nothing.
-use Rattle.std.specs.Prelude.{List, ℕ}
-use Rattle.planning.specs.declared.WorstAnswer.{WorstAnswer}
-use Rattle.planning.specs.declared.WorstAnswer.TheVariants.{Given, Refused}
-use Rattle.planning.specs.Worst.{number_of, values_of}
-use Rattle.answers.specs.Rows.{accepted_row, refused_row}
+use Rattle.std.specs.Prelude.{Result, Ok, Err, List, ℕ}
+use Rattle.refusals.specs.declared.Refusal.{Refusal}
+use Rattle.refusals.specs.Refusals.{number_of}
+use Rattle.planning.specs.declared.Worst.{Worst}
+use Rattle.planning.specs.Worst.{values_of}
+use Rattle.answers.specs.Rows.{accepted_row, refusal_row}
 
-unfoldable pub worst_row : WorstAnswer → List ℕ
-worst_row (Given w) = accepted_row (values_of (Given w))
-worst_row (Refused n) = refused_row (number_of (Refused n)) (values_of (Refused n))
+unfoldable pub worst_row : Result Worst Refusal → List ℕ
+worst_row (Ok w) = accepted_row (values_of (Ok w))
+worst_row (Err refusal) = refusal_row (number_of refusal)

@@ -2,17 +2,23 @@
 #![tactic(auto)]
 
 ghost use Rattle.std.specs.Prelude.{◌≡◌, ◌∷◌, [], ◌++◌, ◌+◌, ◌≤◌, leb, length};
+ghost use Rattle.refusals.specs.Refusals.{number_of};
+ghost use Rattle.slots.specs.Outcome.{answer_of};
 ghost use Rattle.lines.specs.Numbers.{numbers_row};
 ghost use Rattle.lines.specs.Put.{put_at, end_at};
 ghost use Rattle.answers.specs.Rows.{accepted_row, digits_of, answer_row, refusal_row, run_row, runs_row};
 ghost use Rattle.answers.specs.SizesRow.{sizes_row};
 ghost use Rattle.answers.specs.WorstRow.{worst_row};
 
-use planning::WorstAnswer;
+use planning::Worst;
+use refusals::Refusal;
 use segmentation::SizesAnswer;
-use slots::Answer;
+use slots::{Answer, Reason};
 
-const ZERO: u8 = 48;
+// The numbers of the refusals that bring one with them.
+const LACKING: usize = 11;
+
+const WRONG_BLOCK: usize = 16;
 
 // The room of a word with its tab and of six numbers, each with its tab or newline: 8 + 6 * 21.
 const TOLD_ROOM: usize = 134;
@@ -21,44 +27,47 @@ const TOLD_ROOM: usize = 134;
 // answers 0.
 
 // The row of a slot call's answer that gives no bits.
+#[tactic(auto, unfolding(crate::specs::Rows::answer_row, crate::specs::Rows::accepted_row, crate::specs::Rows::refused_row, crate::specs::Rows::refusal_row, slots::specs::Answers::number_of, slots::specs::Answers::values_of, lines::specs::Row::row_of, lines::specs::Row::end_of))]
 pub fn put_answer(answer: Answer, out: &mut [u8]) -> usize
-    ensures value { result ≡ end_at 0 (answer_row answer) out.old }
-    ensures out_after { out.new ≡ put_at 0 (answer_row answer) out.old }
+    ensures value { result ≡ end_at 0 (answer_row (answer_of answer)) out.old }
+    ensures out_after { out.new ≡ put_at 0 (answer_row (answer_of answer)) out.old }
 {
     match answer {
-        Answer::Done => lines::put_bytes(b"ok\n", out, 0),
-        Answer::StillLacking(lacking) => {
-            let numbers = [lacking];
-            put_told(b"ok\t", &numbers, out)
-        }
-        Answer::Refused(number) => put_refusal(number as usize, out),
-        Answer::RefusedWith(number, value) => {
-            let refusal = number as usize;
-            let numbers = [refusal, value];
-            put_told(b"refused\t", &numbers, out)
-        }
+        Ok(None) => lines::put_bytes(b"ok\n", out, 0),
+        Ok(Some(lacking)) => put_told(b"ok\t", &[lacking], out),
+        Err(Reason::Rule(refusal)) => put_refusal(refusal, out),
+        Err(Reason::Lacking(places)) => put_told(b"refused\t", &[LACKING, places], out),
+        Err(Reason::WrongCodeBlock(block)) => put_told(b"refused\t", &[WRONG_BLOCK, block], out),
     }
 }
 
 // The row of an accepted call that gives a number.
+#[tactic(auto, unfolding(crate::specs::Rows::accepted_row, lines::specs::Row::row_of, lines::specs::Row::end_of))]
 pub fn put_number(number: usize, out: &mut [u8]) -> usize
     ensures value { result ≡ end_at 0 (accepted_row (number ∷ [])) out.old }
     ensures out_after { out.new ≡ put_at 0 (accepted_row (number ∷ [])) out.old }
 {
-    let numbers = [number];
-    put_told(b"ok\t", &numbers, out)
+    put_told(b"ok\t", &[number], out)
 }
 
 // The row of a refusal by its number alone.
-pub fn put_refusal(number: usize, out: &mut [u8]) -> usize
+pub fn put_refusal(refusal: Refusal, out: &mut [u8]) -> usize
+    ensures value { result ≡ end_at 0 (refusal_row (number_of refusal)) out.old }
+    ensures out_after { out.new ≡ put_at 0 (refusal_row (number_of refusal)) out.old }
+{
+    put_refused(u8::from(refusal), out)
+}
+
+#[tactic(auto, unfolding(crate::specs::Rows::refusal_row, crate::specs::Rows::refused_row, lines::specs::Row::row_of, lines::specs::Row::end_of))]
+fn put_refused(number: u8, out: &mut [u8]) -> usize
     ensures value { result ≡ end_at 0 (refusal_row number) out.old }
     ensures out_after { out.new ≡ put_at 0 (refusal_row number) out.old }
 {
-    let numbers = [number];
-    put_told(b"refused\t", &numbers, out)
+    put_told(b"refused\t", &[usize::from(number)], out)
 }
 
 // The row of what Sizes answers.
+#[tactic(auto, unfolding(crate::specs::SizesRow::sizes_row, crate::specs::Rows::accepted_row, crate::specs::Rows::refusal_row, segmentation::specs::Sizes::number_of, segmentation::specs::Sizes::values_of, lines::specs::Row::row_of, lines::specs::Row::end_of))]
 pub fn put_sizes(answer: SizesAnswer, out: &mut [u8]) -> usize
     ensures value { result ≡ end_at 0 (sizes_row answer) out.old }
     ensures out_after { out.new ≡ put_at 0 (sizes_row answer) out.old }
@@ -68,21 +77,19 @@ pub fn put_sizes(answer: SizesAnswer, out: &mut [u8]) -> usize
             let numbers = [s.blocks, s.longs, s.long, s.shorts, s.short, s.filler];
             put_told(b"ok\t", &numbers, out)
         }
-        SizesAnswer::Refused(number) => put_refusal(number as usize, out),
+        SizesAnswer::Refused(number) => put_refused(number, out),
     }
 }
 
 // The row of the least G of three and of one.
-pub fn put_worst(answer: WorstAnswer, out: &mut [u8]) -> usize
+#[tactic(auto, unfolding(crate::specs::WorstRow::worst_row, crate::specs::Rows::accepted_row, planning::specs::Worst::values_of, lines::specs::Row::row_of, lines::specs::Row::end_of))]
+pub fn put_worst(answer: Result<Worst, Refusal>, out: &mut [u8]) -> usize
     ensures value { result ≡ end_at 0 (worst_row answer) out.old }
     ensures out_after { out.new ≡ put_at 0 (worst_row answer) out.old }
 {
     match answer {
-        WorstAnswer::Given(w) => {
-            let numbers = [w.three, w.one];
-            put_told(b"ok\t", &numbers, out)
-        }
-        WorstAnswer::Refused(number) => put_refusal(number as usize, out),
+        Ok(worst) => put_told(b"ok\t", &[worst.three, worst.one], out),
+        Err(refusal) => put_refusal(refusal, out),
     }
 }
 
@@ -91,10 +98,7 @@ pub fn put_run(bits: &[u8], out: &mut [u8]) -> usize
     ensures value { result ≡ end_at 0 (run_row bits.now) out.old }
     ensures out_after { out.new ≡ put_at 0 (run_row bits.now) out.old }
 {
-    if out.len() < 4 {
-        return 0;
-    }
-    if out.len() - 4 < bits.len() {
+    if out.len() < 4 || out.len() - 4 < bits.len() {
         return 0;
     }
     let from = lines::put_bytes(b"ok\t", out, 0);
@@ -138,34 +142,18 @@ fn put_digits(bits: &[u8], out: &mut [u8], at: usize) -> usize
     ensures value { result ≡ end_at at (digits_of bits.now) out.old }
     ensures out_after { out.new ≡ put_at at (digits_of bits.now) out.old }
 {
-    if out.len() < at {
+    if out.len() < at || out.len() - at < bits.len() {
         return at;
     }
-    if out.len() - at < bits.len() {
-        return at;
+    for (i, bit) in bits.iter().enumerate() {
+        out[at + i] = b'0' + *bit % 10;
     }
-    let mut end = at;
-    let mut i = 0;
-    while i < bits.len() {
-        out[end] = ZERO + bits[i] % 10;
-        end += 1;
-        i += 1;
-    }
-    end
+    at + bits.len()
 }
 
 // Whether a row of three runs of these lengths fits, with `ok`, its tabs and its newline.
 fn is_room(room: usize, a: usize, b: usize, c: usize) -> bool
     ensures { result ≡ leb (6 + a + b + c) room }
 {
-    if room < 6 {
-        return false;
-    }
-    if room - 6 < a {
-        return false;
-    }
-    if room - 6 - a < b {
-        return false;
-    }
-    c <= room - 6 - a - b
+    6 <= room && a <= room - 6 && b <= room - 6 - a && c <= room - 6 - a - b
 }
