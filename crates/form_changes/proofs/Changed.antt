@@ -44,8 +44,8 @@ pub record Changing (four : Bool) (m n : ℕ) (from to₀ : List ℕ) (a b : ℕ
   pub wrote : j + left * b ≡ n * b
   pub written : Writing to₀ to j (rooms_changed four m left (drop i from) (drop j to₀)) (rooms_changed four m n from to₀)
 
-pub begin : (four : Bool) (m n : ℕ) (from to₀ : List ℕ) {a b : ℕ} → a ≡ room_in (not four) m → b ≡ room_in four m → Changing four m n from to₀ a b to₀ n 0 0
-begin four m n from to₀ ra rb = record { reads = ra; writes = rb; read = omega arith; wrote = omega arith; written = start }
+pub begin : (four : Bool) (m n left : ℕ) (from to₀ : List ℕ) {a b : ℕ} → left ≡ n → a ≡ room_in (not four) m → b ≡ room_in four m → Changing four m n from to₀ a b to₀ left 0 0
+begin four m n left from to₀ e ra rb = rw e (record { reads = ra; writes = rb; read = omega arith; wrote = omega arith; written = start })
 
 module _ {four : Bool} {m n : ℕ} {from to₀ : List ℕ} {a b : ℕ} {to : List ℕ} {left i j : ℕ} (c : Changing four m n from to₀ a b to left i j) where
   pub from_fits : 0 < left → n * room_in (not four) m ≤ length from → i + a ≤ length from

@@ -1,3 +1,1 @@
-mod ChangeLine
 pub mod Changed
-pub mod Moved

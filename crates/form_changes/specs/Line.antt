@@ -1,6 +1,6 @@
 -- A line that changes the form of every room of the state (02, E7), `pack` and `unpack`: the row that answers it, and the form afterwards.
 -- Assumes nothing.
-use Rattle.std.specs.Prelude.{Bool, true, false, cond, List, ℕ, eqb}
+use Rattle.std.specs.Prelude.{Bool, true, false, cond, Option, None, Some, List, ℕ, eqb}
 use Rattle.slots.specs.declared.State.{State}
 use Rattle.slots.specs.Outcome.{Done}
 use Rattle.lines.specs.Put.{end_at}
@@ -8,30 +8,25 @@ use Rattle.requests.specs.declared.Verb.{Verb}
 use Rattle.requests.specs.declared.Verb.TheVariants.{New, Open, OpenDown, Close, Receive, Read, Streams, Build, BuildDown, Sizes, Worst, Pack, Unpack, Nothing, Unreadable}
 use Rattle.answers.specs.Rows.{answer_row, refusal_row}
 use Rattle.form_changes.specs.Change.{form_number}
-use Rattle.form_changes.specs.declared.Change.{Change}
 use Rattle.form_changes.specs.declared.FormStep.{FormStep}
 
--- a line that leaves the form as it is
-abbrev pub no_change : Change
-no_change = record { changes = false; packs = false }
-
--- `pack` asks for the packed form, `unpack` for the plain one
-unfoldable pub change_of : Verb → Change
-change_of New = no_change
-change_of Open = no_change
-change_of OpenDown = no_change
-change_of Close = no_change
-change_of Receive = no_change
-change_of Read = no_change
-change_of Streams = no_change
-change_of Build = no_change
-change_of BuildDown = no_change
-change_of Sizes = no_change
-change_of Worst = no_change
-change_of Pack = record { changes = true; packs = true }
-change_of Unpack = record { changes = true; packs = false }
-change_of Nothing = no_change
-change_of Unreadable = no_change
+-- the form that a line asks for, if it asks for one: `pack` for the packed form, four places a byte, `unpack` for the plain one
+unfoldable pub change_of : Verb → Option Bool
+change_of New = None
+change_of Open = None
+change_of OpenDown = None
+change_of Close = None
+change_of Receive = None
+change_of Read = None
+change_of Streams = None
+change_of Build = None
+change_of BuildDown = None
+change_of Sizes = None
+change_of Worst = None
+change_of Pack = Some true
+change_of Unpack = Some false
+change_of Nothing = None
+change_of Unreadable = None
 
 unfoldable pub change_row : State → ℕ → ℕ → List ℕ
 change_row state plain packed =

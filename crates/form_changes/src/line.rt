@@ -4,44 +4,24 @@ ghost use Rattle.lines.specs.Put.{put_at};
 ghost use Rattle.form_changes.specs.Change.{plain_changed, packed_changed};
 ghost use Rattle.form_changes.specs.Line.{change_of, change_row, change_made};
 
-use crate::{Change, FormStep, change_form};
+use crate::{FormStep, change_form};
 use requests::Verb;
-use slots::{Answer, State};
+use slots::State;
 
-// What a line with this verb asks of the form.
-pub fn change_of(verb: Verb) -> Change
+// The form that a line with this verb asks for, if it asks for one: whether four places a byte.
+#[tactic(auto, unfolding(crate::specs::Line::change_of))]
+pub fn change_of(verb: Verb) -> Option<bool>
     ensures { result ≡ change_of verb }
 {
-    let none = Change {
-        changes: false,
-        packs: false,
-    };
     match verb {
-        Verb::New => none,
-        Verb::Open => none,
-        Verb::OpenDown => none,
-        Verb::Close => none,
-        Verb::Receive => none,
-        Verb::Read => none,
-        Verb::Streams => none,
-        Verb::Build => none,
-        Verb::BuildDown => none,
-        Verb::Sizes => none,
-        Verb::Worst => none,
-        Verb::Pack => Change {
-            changes: true,
-            packs: true,
-        },
-        Verb::Unpack => Change {
-            changes: true,
-            packs: false,
-        },
-        Verb::Nothing => none,
-        Verb::Unreadable => none,
+        Verb::Pack => Some(true),
+        Verb::Unpack => Some(false),
+        _ => None,
     }
 }
 
 // Changes the form of every room, and puts the row that answers at the start of out.
+#[tactic(auto, using(refusals::proofs::Numbers::refusal_ne0), unfolding(crate::specs::Line::change_made, crate::specs::Line::change_row, crate::specs::Line::form_after))]
 pub fn change_line(
     state: State,
     four: bool,
@@ -55,14 +35,14 @@ pub fn change_line(
     ensures packed_after { packed.new ≡ packed_changed state four to plain.old packed.old }
     ensures out_after { out.new ≡ put_at 0 (change_row state (length plain.old) (length packed.old)) out.old }
 {
-    let number = change_form(state, four, to, plain, packed);
-    if number != 0 {
-        let refused = answers::put_refusal(number as usize, out);
-        return FormStep {
+    match change_form(state, four, to, plain, packed) {
+        Ok(()) => FormStep {
+            four: to,
+            written: answers::put_answer(Ok(None), out),
+        },
+        Err(refusal) => FormStep {
             four,
-            written: refused,
-        };
+            written: answers::put_refusal(refusal, out),
+        },
     }
-    let written = answers::put_answer(Answer::Done, out);
-    FormStep { four: to, written }
 }

@@ -1,6 +1,6 @@
 use mathlib.Core.Path.{◌≡◌, ap}
 use mathlib.Core.Bool.{Bool, true, false, not}
-use Prim.Native.Nat.{ℕ, ◌*◌, ◌≤◌}
+use Prim.Native.Nat.{ℕ, ◌+◌, ◌-◌, ◌*◌, ◌≤◌}
 use native.Mathlib.Nat.{mul-le-mul}
 use native.Mathlib.Omega.{arith}
 use mir.Syntax.{w64}
@@ -30,28 +30,28 @@ overflow_mul-read c = bounded _ _ (not c.args.four) c.bytes_a_block.ensures c.re
 pub overflow_mul-written : goal.overflow_mul-written
 overflow_mul-written c = bounded _ _ c.args.four c.bytes_a_block-2.ensures c.requires.m_bound
 
-pub loop-left-init : goal.loop-left-init
-loop-left-init c =
+pub loop-room-init : goal.loop-room-init
+loop-room-init c =
     let args = c.args in
-    begin args.four args.m args.n args.from.now args.to.now (room args.m (not args.four) c.bytes_a_block.ensures) (room args.m args.four c.bytes_a_block-2.ensures)
+    begin args.four args.m args.n _ args.from.now args.to.now (omega arith) (room args.m (not args.four) c.bytes_a_block.ensures) (room args.m args.four c.bytes_a_block-2.ensures)
 
 pub overflow_add-i_end : goal.overflow_add-i_end
-overflow_add-i_end c = omega (arith, from_fits c.loop-left.invariant (omega arith) c.requires.m_in_bounds.0)
+overflow_add-i_end c = omega (arith, from_fits c.loop-room.invariant (omega arith) c.requires.m_in_bounds.0)
 
 pub overflow_add-j_end : goal.overflow_add-j_end
-overflow_add-j_end c = omega (arith, to_fits c.loop-left.invariant (omega arith) c.requires.m_in_bounds.1)
+overflow_add-j_end c = omega (arith, to_fits c.loop-room.invariant (omega arith) c.requires.m_in_bounds.1)
 
 pub slice_bounds-change_room-end : goal.slice_bounds-change_room-end
-slice_bounds-change_room-end c = from_fits c.loop-left.invariant (omega arith) c.requires.m_in_bounds.0
+slice_bounds-change_room-end c = from_fits c.loop-room.invariant (omega arith) c.requires.m_in_bounds.0
 
-pub slice_bounds-change_room-end-in-loop-left : goal.slice_bounds-change_room-end-in-loop-left
-slice_bounds-change_room-end-in-loop-left c = to_fits c.loop-left.invariant (omega arith) c.requires.m_in_bounds.1
+pub slice_bounds-change_room-end-in-loop-room : goal.slice_bounds-change_room-end-in-loop-room
+slice_bounds-change_room-end-in-loop-room c = to_fits c.loop-room.invariant (omega arith) c.requires.m_in_bounds.1
 
-pub loop-left-preserved : goal.loop-left-preserved
-loop-left-preserved c = next c.loop-left.invariant (omega arith) c.requires.m_in_bounds.1 c.change_room.ensures c.change_room.auto.to
-
-pub shape_of-to : goal.shape_of-to
-shape_of-to c = c.loop-left.invariant.written.long
+pub loop-room-preserved : goal.loop-room-preserved
+loop-room-preserved c =
+    let head = c.loop-room in
+    let one_less : c.args.n - head.room - 1 ≡ c.args.n - (head.room + 1) = omega arith in
+    rw one_less at (next head.invariant (omega arith) c.requires.m_in_bounds.1 c.change_room.ensures c.change_room.auto.to)
 
 pub returns : goal.returns
-returns c = done c.loop-left.invariant (omega arith)
+returns c = done c.loop-room.invariant (omega arith)
