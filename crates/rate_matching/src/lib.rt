@@ -12,6 +12,7 @@ pub use mapping::{
 pub use shortened::{cut_at, matchable, turn_length, turn_of};
 
 // Which stream, 0 to 2, and the place in it, which runs to D.
+// kept: fields without names, since reading makes a place as `StreamPlace(0, f)`.
 #[derive(Clone, Copy)]
 pub struct StreamPlace(pub usize, pub usize);
 

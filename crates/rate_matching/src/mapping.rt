@@ -37,6 +37,7 @@ fn rows_before(i: usize, p: usize) -> usize
 }
 
 // Column c of stream 0: its bits begin behind the dummies and the filler.
+// kept: no struct of d and the filler, since the public functions take them as numbers and would make it for one call each.
 fn column_unit(d: usize, filler: usize, c: usize) -> Unit
     requires { (d ≤ 6148) × (filler < d) × (c < 32) }
     ensures { result ≡ column_unit d filler c }

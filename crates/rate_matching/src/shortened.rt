@@ -113,6 +113,7 @@ fn bits_to(d: usize, filler: usize, to: usize) -> usize
 
 // How many bits one turn has, of whichever version; 0 where nothing can be sent. A circle that is not cut has all of the three streams, but for the filler
 // of two.
+// kept: a number and no Option, since reception compares it with the bits that it has.
 pub fn turn_length(d: usize, filler: usize, soft: usize) -> usize
     ensures { result ≡ turn_length d filler soft }
 {
