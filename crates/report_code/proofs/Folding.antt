@@ -6,6 +6,7 @@ use mathlib.Core.List.{List, [], ◌∷◌, ◌++◌, append-nil}
 use Prim.Native.Nat.{ℕ, zero, suc, ◌+◌, ◌-◌, ◌*◌, ◌/◌, ◌%◌, ◌≤◌, ◌<◌}
 use native.Mathlib.Nat.{not-suc-le-zero, le_of_suc-le-suc, add-zero, zero-add}
 use native.Mathlib.Numerals.{add-one}
+use native.Mathlib.Decide.{dec_lt}
 use native.Mathlib.Omega.{arith}
 use lib.Dec.{eqb, lit<}
 use lib.ListN.{length, get_or, take, drop, set, replicate, length-drop, take-append-drop, drop_of_length-le}
@@ -232,6 +233,13 @@ turn_bits_lem received at k bits = take_below 2 (lit< tt) k (drop at received) (
 
 pub turn_long : (received : List ℕ) {at end : ℕ} → at < end → end ≤ length received → length (take (end - at) (drop at received)) ≡ end - at
 turn_long received {at} {end} h l = length-take-le (end - at) (drop at received) (rw (length-drop at received) (omega arith))
+
+-- the last turn ends where the run does
+pub last_turn : (at n end : ℕ) → n - at ≤ 32 → at < n → (end < n → end ≡ at + 32) → n ≤ end
+last_turn at n end few more full = elim (dec_lt end n) [
+  | yes l ↦ let e : end ≡ at + 32 = full l in omega arith
+  | no l ↦ omega arith
+]
 
 pub few_counts : (A : List ℕ) {n at : ℕ} → n ≤ 16384 → at ≤ n → EachBelow (suc ((at + 31) / 32)) A → EachBelow 16384 A
 few_counts A {n} {at} l h few i = let less = few i in omega arith

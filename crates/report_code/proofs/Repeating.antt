@@ -4,12 +4,10 @@ use mathlib.Core.Path.{◌≡◌, refl, sym, ◌∙◌, ap}
 use mathlib.Core.List.{List, ◌++◌}
 use Prim.Native.Nat.{ℕ, ◌+◌, ◌-◌, ◌%◌, ◌≤◌, ◌<◌}
 use native.Mathlib.Omega.{arith}
-use lib.ListN.{length, take, drop}
+use lib.ListN.{length, take}
 use lib.Seq.{length-take-le}
 use borrow.Rule.Slice.PartMut.{put_mid}
 use Rattle.laws.specs.Lists.{tab_from}
-use Rattle.laws.proofs.Copied.{all_copied}
-use Rattle.laws.proofs.Parts.{length_mid}
 use Rattle.laws.proofs.Tab.{tab_from_split, tab_rest, rest_none}
 use Rattle.laws.proofs.Writing as writing
 use Rattle.report_code.specs.Code.{circular, repeated}
@@ -28,24 +26,18 @@ start {b} {out} l = record { block_long = l; within = omega arith; whole = λ h.
 
 module _ {b out₀ out : List ℕ} {at end : ℕ} (w : Repeating b out₀ out at) (more : at < length out) (forth : at < end) (fits : end ≤ length out)
     (turn_fits : end ≤ at + 32) (turn_full : end < length out → end ≡ at + 32) where
-  pub front_long : {bits : List ℕ} → bits ≡ b → end - at ≡ length (take (end - at) bits)
-  front_long {bits} e = sym (length-take-le (end - at) bits (omega (arith, ap length e, w.block_long)))
-
-  pub room_long : length (take (end - at) (drop at out)) ≡ end - at
-  room_long = length_mid at end out fits
-
   pub next : {bits part : List ℕ} → bits ≡ b
-      → part ≡ take (length (take (end - at) bits)) (take (end - at) bits) ++ drop (length (take (end - at) bits)) (take (end - at) (drop at out))
+      → part ≡ take (end - at) bits
       → Repeating b out₀ (put_mid at (end - at) out part) end
   next {bits} {part} e said = record {
     block_long = w.block_long;
     within = omega (arith, w.written.long);
     whole = λ h. let z : at % 32 ≡ 0 = w.whole (omega (arith, w.written.long)) in omega (arith, turn_full (omega (arith, w.written.long)));
-    written = writing.push_part copied (omega arith) fits (ap length copied ∙ sym (front_long refl)) (writing.same one_turn_lem w.written);
+    written = writing.push_part copied (omega arith) fits (ap length copied ∙ length-take-le (end - at) b (omega (arith, w.block_long))) (writing.same one_turn_lem w.written);
   }
     where
       copied : part ≡ take (end - at) b
-      copied = all_copied (take (end - at) bits) (take (end - at) (drop at out)) said (room_long ∙ front_long e) ∙ ap (take (end - at)) e
+      copied = said ∙ ap (take (end - at)) e
 
       sum : length out₀ - at ≡ end - at + (length out₀ - end)
       sum = omega (arith, w.written.long)

@@ -9,12 +9,11 @@ pub fn control_bits(message: u32, out: &mut [u8])
     ensures { out.new ≡ control_bits (message_bits 11 message) (length out.old) }
 {
     let bits = coded_block(message);
-    let mut at = 0;
-    while at < out.len() {
-        let end = turn_end(at, out.len());
+    let length = out.len();
+    for at in (0..length).step_by(32) {
+        let end = turn_end(at, length);
         let some = end - at;
-        octets::copy(&bits[..some], &mut out[at..end]);
-        at = end;
+        out[at..end].copy_from_slice(&bits[..some]);
     }
 }
 
@@ -32,10 +31,8 @@ pub(crate) fn coded_block(message: u32) -> [u8; 32]
 {
     let rows = super::table::rows();
     let mut bits = [0u8; 32];
-    let mut i = 0;
-    while i < 32 {
-        bits[i] = (u32::count_ones(message & rows[i]) % 2) as u8;
-        i += 1;
+    for i in 0..32 {
+        bits[i] = ((message & rows[i]).count_ones() % 2) as u8;
     }
     bits
 }
@@ -53,10 +50,8 @@ pub(crate) fn packed(bits: &[u8; 32]) -> u32
     ensures { result ≡ number_of bits.now }
 {
     let mut word: u32 = 0;
-    let mut i = 32;
-    while 0 < i {
-        i -= 1;
-        word = 2 * word + bits[i] as u32;
+    for i in (0..32).rev() {
+        word = 2 * word + u32::from(bits[i]);
     }
     word
 }

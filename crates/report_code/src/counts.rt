@@ -9,6 +9,7 @@ ghost use Rattle.report_code.specs.inner.Counted.{Counted};
 use super::block::{packed, turn_end};
 
 // The counts of a 1 and of a 0 at each of the 32 places.
+// kept: two arrays side by side, not one of pairs (d): a plane is made of all counts of one kind, which then stand next to one another.
 #[derive(Clone, Copy)]
 pub struct Counts {
     pub ones: [u16; 32],
@@ -21,11 +22,9 @@ pub(crate) fn counted(control: &[u8]) -> Counts
 {
     let mut ones = [0u16; 32];
     let mut zeros = [0u16; 32];
-    let mut at = 0;
-    while at < control.len() {
+    for at in (0..control.len()).step_by(32) {
         let end = turn_end(at, control.len());
         count_turn(&control[at..end], &mut ones, &mut zeros);
-        at = end;
     }
     Counts { ones, zeros }
 }
@@ -38,12 +37,10 @@ fn count_turn(turn: &[u8], ones: &mut [u16; 32], zeros: &mut [u16; 32])
     ensures ones_after { ones.new ≡ plus ones.old turn.now }
     ensures zeros_after { zeros.new ≡ plus zeros.old (inverted turn.now) }
 {
-    let mut i = 0;
-    while i < turn.len() {
+    for i in 0..turn.len() {
         let bit = turn[i] as u16;
-        ones[i] = ones[i] + bit;
-        zeros[i] = zeros[i] + (1 - bit);
-        i += 1;
+        ones[i] += bit;
+        zeros[i] += 1 - bit;
     }
 }
 
@@ -53,10 +50,8 @@ pub(crate) fn planes_of(counts: &[u16; 32], count: usize) -> [u32; 10]
     ensures { result ≡ tab count (plane counts.now) ++ replicate (10 - count) 0 }
 {
     let mut planes = [0u32; 10];
-    let mut p = 0;
-    while p < count {
+    for p in 0..count {
         planes[p] = packed(&digits_of(counts, p));
-        p += 1;
     }
     planes
 }
@@ -67,10 +62,8 @@ fn digits_of(counts: &[u16; 32], p: usize) -> [u8; 32]
     ensures { result ≡ digits counts.now p }
 {
     let mut bits = [0u8; 32];
-    let mut i = 0;
-    while i < 32 {
+    for i in 0..32 {
         bits[i] = ((counts[i] >> p) % 2) as u8;
-        i += 1;
     }
     bits
 }
@@ -82,10 +75,8 @@ pub(crate) fn plane_distance(word: u32, ones: &[u32; 10], zeros: &[u32; 10], cou
 {
     let other = word ^ 4294967295;
     let mut above: u32 = 0;
-    let mut p = count;
-    while 0 < p {
-        p -= 1;
-        above = 2 * above + u32::count_ones(zeros[p] & word) + u32::count_ones(ones[p] & other);
+    for p in (0..count).rev() {
+        above = 2 * above + (zeros[p] & word).count_ones() + (ones[p] & other).count_ones();
     }
     above
 }

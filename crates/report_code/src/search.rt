@@ -8,6 +8,7 @@ use super::block::coded_word;
 use super::counts::{counted, plane_distance, planes_of};
 
 // The nearest message, how far it is, and whether another is as near.
+// kept: a flag beside the values, no Option (a): of a tie too the nearest message and its distance are said, by `nearest_of` and the laws of `Least`.
 #[derive(Clone, Copy)]
 pub struct Found {
     pub message: u32,
@@ -36,16 +37,11 @@ pub fn nearest(o: usize, control: &[u8]) -> Found
 }
 
 // What no accepted call asks for.
+#[tactic(auto, unfolding(crate::specs::Nearest::unfit))]
 fn is_unfit(o: usize, control: &[u8]) -> bool
     ensures { result ≡ unfit o control.now }
 {
-    if o > 11 {
-        return true;
-    }
-    if control.len() > 16384 {
-        return true;
-    }
-    codeword::bad_bits(control)
+    o > 11 || control.len() > 16384 || codeword::bad_bits(control)
 }
 
 // As many planes as a count of turns needs.
@@ -54,7 +50,7 @@ fn planes_for(length: usize) -> usize
     ensures { (result ≤ 10) × ((length + 31) / 32 < 2 ^ result) }
 {
     let turns = ((length + 31) / 32) as u32;
-    32 - u32::leading_zeros(turns) as usize
+    32 - turns.leading_zeros() as usize
 }
 
 // The messages from 0 on. Message m differs from the one before in its lowest set bit and all bits below.
@@ -70,12 +66,10 @@ fn search(o: usize, ones: &[u32; 10], zeros: &[u32; 10], count: usize) -> Found
         distance: plane_distance(0, ones, zeros, count),
         tied: false,
     };
-    let mut m: u32 = 1;
-    while m < end {
-        let k = u32::trailing_zeros(m) as usize;
-        word = word ^ steps[k];
+    for m in 1..end {
+        let k = m.trailing_zeros() as usize;
+        word ^= steps[k];
         found = nearer(found, m, plane_distance(word, ones, zeros, count));
-        m += 1;
     }
     found
 }
@@ -87,16 +81,15 @@ fn steps_for(o: usize) -> [u32; 11]
 {
     let mut steps = [0u32; 11];
     let mut last: u32 = 1;
-    let mut k = 0;
-    while k < o {
+    for k in 0..o {
         steps[k] = coded_word(last);
         last = 2 * last + 1;
-        k += 1;
     }
     steps
 }
 
 // The nearest so far, after one more message at its distance.
+#[tactic(auto, unfolding(crate::specs::Nearest::nearer_of))]
 fn nearer(found: Found, m: u32, d: u32) -> Found
     ensures { result ≡ nearer_of found m d }
 {
@@ -109,9 +102,8 @@ fn nearer(found: Found, m: u32, d: u32) -> Found
     }
     if d == found.distance {
         return Found {
-            message: found.message,
-            distance: found.distance,
             tied: true,
+            ..found
         };
     }
     found

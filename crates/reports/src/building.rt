@@ -67,10 +67,8 @@ fn number_of(report: &[u8]) -> u32
     ensures { result ≡ number_of report.now }
 {
     let mut number: u32 = 0;
-    let mut i = report.len();
-    while 0 < i {
-        i -= 1;
-        number = 2 * number + report[i] as u32;
+    for i in (0..report.len()).rev() {
+        number = 2 * number + u32::from(report[i]);
     }
     number
 }

@@ -13,6 +13,3 @@ abbrev pub invariant-loop-i : goal.invariant-loop-i
 invariant-loop-i l =
     (l.i ≤ 32) × (length l.bits ≡ 32)
     × Writing l.initial.bits l.bits l.i (tab_from l.i (32 - l.i) (coded_bit (message_bits 11 l.message))) (tab 32 (coded_bit (message_bits 11 l.message)))
-
-abbrev pub decreases-loop-i : goal.decreases-loop-i
-decreases-loop-i l = 32 - l.i

@@ -20,14 +20,11 @@ loop-i-init c = (omega arith, ap number_of (sym (drop_of_length-le c.args.bits.n
 pub overflow_mul-word : goal.overflow_mul-word
 overflow_mul-word c = omega (arith, (turn (goal.at.overflow_mul-word c).In-loop-i).1)
 
-pub overflow_cast-word : goal.overflow_cast-word
-overflow_cast-word c = omega (arith, c.requires.0 (c.loop-i.i - 1))
-
 pub overflow_add-word : goal.overflow_add-word
 overflow_add-word c = omega (arith, (turn (goal.at.overflow_add-word c).In-loop-i).1)
 
 pub loop-i-preserved : goal.loop-i-preserved
-loop-i-preserved c = (omega arith, (turn (goal.at.loop-i-preserved c).In-loop-i).0)
+loop-i-preserved c = rw c.from.ensures (omega arith, (turn (goal.at.loop-i-preserved c).In-loop-i).0)
 
 pub returns : goal.returns
 returns c = let none : c.loop-i.i ≡ 0 = omega arith in c.loop-i.invariant.1 ∙ ap (λ (k : ℕ). number_of (drop k c.args.bits.now)) none

@@ -8,6 +8,3 @@ use Rattle.report_code.proofs.block.packed.Given as goal
 
 abbrev pub invariant-loop-i : goal.invariant-loop-i
 invariant-loop-i l = (l.i ≤ 32) × (l.word ≡ number_of (drop l.i l.bits))
-
-abbrev pub decreases-loop-i : goal.decreases-loop-i
-decreases-loop-i l = l.i

@@ -14,9 +14,6 @@ offset_bounds-ones-i c = omega (arith, c.requires.turn_len_bound.0)
 pub overflow_add-ones : goal.overflow_add-ones
 overflow_add-ones c = omega (arith, ones_fit c.loop-i.invariant c.requires.each_below.0, c.requires.turn_len_bound.1 c.loop-i.i)
 
-pub offset_bounds-ones-i-in-loop-i : goal.offset_bounds-ones-i-in-loop-i
-offset_bounds-ones-i-in-loop-i c = omega (arith, c.requires.turn_len_bound.0)
-
 pub offset_bounds-zeros-i : goal.offset_bounds-zeros-i
 offset_bounds-zeros-i c = omega (arith, c.requires.turn_len_bound.0)
 
@@ -25,9 +22,6 @@ overflow_sub-zeros c = omega (arith, c.requires.turn_len_bound.1 c.loop-i.i)
 
 pub overflow_add-zeros : goal.overflow_add-zeros
 overflow_add-zeros c = omega (arith, zeros_fit c.loop-i.invariant c.requires.each_below.1)
-
-pub offset_bounds-zeros-i-in-loop-i : goal.offset_bounds-zeros-i-in-loop-i
-offset_bounds-zeros-i-in-loop-i c = omega (arith, c.requires.turn_len_bound.0)
 
 pub loop-i-preserved : goal.loop-i-preserved
 loop-i-preserved c = let given = c.requires in counting_next c.loop-i.invariant (omega arith) given.turn_len_bound.0 given.ones_len.0 given.ones_len.1

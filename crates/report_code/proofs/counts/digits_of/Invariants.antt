@@ -11,6 +11,3 @@ use Rattle.report_code.proofs.counts.digits_of.Given as goal
 abbrev pub invariant-loop-i : goal.invariant-loop-i
 invariant-loop-i l =
     (l.i ≤ 32) × (length l.bits ≡ 32) × Writing l.initial.bits l.bits l.i (tab_from l.i (32 - l.i) (digit_at l.counts l.p)) (tab 32 (digit_at l.counts l.p))
-
-abbrev pub decreases-loop-i : goal.decreases-loop-i
-decreases-loop-i l = 32 - l.i

@@ -11,6 +11,3 @@ use Rattle.report_code.proofs.counts.planes_of.Given as goal
 abbrev pub invariant-loop-p : goal.invariant-loop-p
 invariant-loop-p l =
     (l.p ≤ l.count) × (length l.planes ≡ 10) × Writing l.initial.planes l.planes l.p (tab_from l.p (l.count - l.p) (plane l.counts)) (tab l.count (plane l.counts))
-
-abbrev pub decreases-loop-p : goal.decreases-loop-p
-decreases-loop-p l = l.count - l.p

@@ -1,5 +1,5 @@
 use native.Mathlib.Omega.{arith}
-use Rattle.report_code.proofs.CountingUp.{start, below, step_lt, small, next, finish}
+use Rattle.report_code.proofs.CountingUp.{start, step_lt, next, finish}
 use Rattle.report_code.proofs.search.search.Goals as goal
 
 pub overflow_cast-end : goal.overflow_cast-end
@@ -22,12 +22,6 @@ bounds-steps-k c = omega (arith, step_lt c.loop-m.invariant c.requires.0 c.loop-
 
 pub plane_distance-requires-in-loop-m : goal.plane_distance-requires-in-loop-m
 plane_distance-requires-in-loop-m c = c.requires.1
-
-pub overflow_add-m : goal.overflow_add-m
-overflow_add-m c = omega (arith, small c.loop-m.invariant c.requires.0 c.loop-m-test.true)
-
-pub loop-m-smaller : goal.loop-m-smaller
-loop-m-smaller c = omega (arith, below c.loop-m.invariant c.requires.0 c.loop-m-test.true)
 
 pub loop-m-preserved : goal.loop-m-preserved
 loop-m-preserved c = next c.loop-m.invariant c.requires.0 c.loop-m-test.true c.steps_for-steps.ensures c.plane_distance-in-loop-m.ensures c.nearer-found.ensures

@@ -24,9 +24,6 @@ overflow_mul-last c = omega (arith, last_small _ _ (omega (arith, c.requires)) c
 pub overflow_add-last : goal.overflow_add-last
 overflow_add-last c = omega (arith, last_small _ _ (omega (arith, c.requires)) c.loop-k.invariant.2)
 
-pub overflow_add-k : goal.overflow_add-k
-overflow_add-k c = omega (arith, c.requires)
-
 pub loop-k-preserved : goal.loop-k-preserved
 unfolding step_word
 loop-k-preserved c = (

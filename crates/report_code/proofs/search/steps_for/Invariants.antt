@@ -11,6 +11,3 @@ use Rattle.report_code.proofs.search.steps_for.Given as goal
 abbrev pub invariant-loop-k : goal.invariant-loop-k
 invariant-loop-k l =
     (l.k ≤ l.o) × (length l.steps ≡ 11) × (l.last ≡ 2 ^ suc l.k - 1) × Writing l.initial.steps l.steps l.k (tab_from l.k (l.o - l.k) step_word) (tab l.o step_word)
-
-abbrev pub decreases-loop-k : goal.decreases-loop-k
-decreases-loop-k l = l.o - l.k

@@ -21,14 +21,11 @@ loop-i-init c = (omega arith, ap number_of (sym (drop-length c.args.report.now))
 pub overflow_mul-number : goal.overflow_mul-number
 overflow_mul-number c = omega (arith, (turn (goal.at.overflow_mul-number c).In-loop-i).1)
 
-pub overflow_cast-number : goal.overflow_cast-number
-overflow_cast-number c = omega (arith, c.requires.0 (c.loop-i.i - 1))
-
 pub overflow_add-number : goal.overflow_add-number
 overflow_add-number c = omega (arith, (turn (goal.at.overflow_add-number c).In-loop-i).1)
 
 pub loop-i-preserved : goal.loop-i-preserved
-loop-i-preserved c = (omega arith, (turn (goal.at.loop-i-preserved c).In-loop-i).0)
+loop-i-preserved c = rw c.from.ensures (omega arith, (turn (goal.at.loop-i-preserved c).In-loop-i).0)
 
 pub returns : goal.returns
 returns c = let none : c.loop-i.i ≡ 0 = omega arith in c.loop-i.invariant.1 ∙ ap (λ (k : ℕ). number_of (drop k c.args.report.now)) none

@@ -8,6 +8,3 @@ use Rattle.reports.proofs.building.number_of.Given as goal
 
 abbrev pub invariant-loop-i : goal.invariant-loop-i
 invariant-loop-i l = (l.i ≤ length l.report) × (l.number ≡ number_of (drop l.i l.report))
-
-abbrev pub decreases-loop-i : goal.decreases-loop-i
-decreases-loop-i l = l.i
