@@ -22,8 +22,10 @@ use Rattle.report_code.specs.Code.{control_bits}
 use Rattle.report_code.specs.Words.{message_bits}
 use Rattle.report_code.specs.Nearest.{nearest_message}
 use Rattle.reports.specs.Calls.{report_build_number, multiplexed, report_build_output, control_part, past_control, part_number, nearest_report, part_output, data_part}
-use Rattle.control_messages.specs.declared.Owner.{Owner}
-use Rattle.control_messages.specs.declared.Owner.TheVariants.{Terminal, Refused}
+use Rattle.std.specs.declared.result.Result.{Result}
+use Rattle.std.specs.declared.result.Result.TheVariants.{Ok, Err}
+use Rattle.refusals.specs.declared.Refusal.{Refusal}
+use Rattle.refusals.specs.Refusals.{number_in}
 use Rattle.control_messages.specs.Message.{message}
 use Rattle.control_messages.specs.Calls as control
 use Rattle.packing.specs.Change.{pack_number, pack_output, unpack_number, unpack_output}
@@ -150,13 +152,13 @@ pub control_written : (a : List ℕ) (t E : ℕ) (out : List ℕ) → control.co
 unfolding control.control_output
 control_written a t E out e = rw e
 
-pub whose_refused : (run : List ℕ) (before : ℕ) → (control.number_of (control.whose_answer run) ≡ 0 → ⊥) → control.terminal_of (control.whose_answer run) before ≡ before
-unfolding control.number_of control.terminal_of
+pub whose_refused : (run : List ℕ) (before : ℕ) → (number_in (control.whose_answer run) ≡ 0 → ⊥) → control.terminal_of (control.whose_answer run) before ≡ before
+unfolding control.terminal_of
 whose_refused run before h = go (control.whose_answer run) h
   where
-    go : (w : Owner) → (control.number_of w ≡ 0 → ⊥) → control.terminal_of w before ≡ before
-    go (Terminal t) h = absurd (h refl)
-    go (Refused n) h = refl
+    go : (w : Result ℕ Refusal) → (number_in w ≡ 0 → ⊥) → control.terminal_of w before ≡ before
+    go (Ok t) h = absurd (h refl)
+    go (Err refusal) h = refl
 
 -- The change of form of a room (02, E7).
 pub pack_refused : (M : ℕ) (from to : List ℕ) → (pack_number M (length from) (length to) ≡ 0 → ⊥) → pack_output M from to ≡ to

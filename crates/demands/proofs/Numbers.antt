@@ -8,7 +8,7 @@ use Prim.Native.Nat.{ℕ, ◌+◌, ◌-◌, ◌*◌, ◌≤◌, ◌<◌}
 use lib.Dec.{eqb, ltb}
 use lib.ListN.{length}
 use borrow.Author.Tests.{eqb-true, eqb-false}
-use Rattle.refusals.specs.Refusals.{Rule, rule, first_of}
+use Rattle.refusals.specs.Refusals.{Rule, rule, first_of, number_in}
 use Rattle.segmentation.specs.Segmentation.{blocks}
 use Rattle.std.specs.Prelude.{Ok, Err}
 use Rattle.refusals.specs.declared.Refusal.TheVariants.{BadLength}
@@ -16,8 +16,8 @@ use Rattle.segmentation.specs.Sizes as sizes
 use Rattle.codeword.specs.declared.Grant.{Grant}
 use Rattle.codeword.specs.Build.{build_rules, build_number}
 use Rattle.codeword.specs.Downlink.{build_down_rules, build_down_number}
-use Rattle.planning.specs.declared.WorstAnswer.TheVariants as worst-answer
 use Rattle.planning.specs.Worst as planning
+use Rattle.planning.proofs.Numbers.{answer_number as worst_told}
 use Rattle.slots.specs.declared.State.{State}
 use Rattle.slots.specs.Outcome.{Outcome}
 use Rattle.slots.specs.Outcome.{Answer}
@@ -32,9 +32,8 @@ use Rattle.slots.proofs.Checks.{released_right, block_wrong, transport_wrong}
 use Rattle.reports.specs.Refusals as reporting
 use Rattle.reports.specs.Calls.{report_build_number, control_part, part_number}
 use Rattle.report_code.specs.Nearest.{nearest_message}
-use Rattle.control_messages.specs.declared.Owner.TheVariants as owner
-use Rattle.control_messages.specs.Ownership.{owner_of}
 use Rattle.control_messages.specs.Calls as control
+use Rattle.control_messages.proofs.Numbers.{answer_number as whose_told}
 use Rattle.state_bytes.specs.StateBytes.{new_number}
 use Rattle.face.specs.Face.{sizes_number}
 use Rattle.packing.specs.Change.{packed_length, bad_blocks, change_number, pack_number, unpack_number}
@@ -108,16 +107,18 @@ build_down_number_lem a release k_mimo processes Nsoft layers g size =
     (λ e c. row (length_test _ g.modulation g.layers g.bits) refl c (λ e c. row (version_test g.version) refl c
     (λ e c. row (enough_test g.bits size) refl c (λ e c. row (bits_test_lem a) refl c (λ e. last)))))))
 
-pub worst_number_lem : (A Q N : ℕ) → WorstGives A Q N (planning.number_of (planning.worst_answer A Q N))
-unfolding WorstGives planning.number_of planning.worst_answer planning.worst_number planning.worst_rules
-worst_number_lem A Q N =
-    row (size_test A) refl (record { is = go (eqb (planning.worst_number A Q N) 0) }) (λ e c. row (symbol_test Q N) refl c (λ e. last))
+-- a number that is 0 or not
+same : (n : ℕ) → n ≡ cond (eqb n 0) 0 n
+same n = go (eqb n 0) refl
   where
-    go : (b : Bool)
-        → planning.number_of (cond b (worst-answer.Given (record { three = planning.least_of_three A Q N; one = planning.least_of_one A Q N })) (worst-answer.Refused (planning.worst_number A Q N)))
-        ≡ cond b 0 (planning.worst_number A Q N)
-    go true = refl
-    go false = refl
+    go : (b : Bool) → eqb n 0 ≡ b → n ≡ cond b 0 n
+    go true e = eqb-true n 0 e
+    go false e = refl
+
+pub worst_number_lem : (A Q N : ℕ) → WorstGives A Q N (number_in (planning.worst_answer A Q N))
+unfolding WorstGives planning.worst_number planning.worst_rules
+worst_number_lem A Q N =
+    row (size_test A) refl (record { is = worst_told A Q N ∙ same (planning.worst_number A Q N) }) (λ e c. row (symbol_test Q N) refl c (λ e. last))
 
 -- ---- the slots
 
@@ -266,15 +267,10 @@ unfolding ControlGives control.control_number control.control_rules control.bad_
 control_number_lem a E size =
     row (within_test 64 (length a)) refl (alone _) (λ e c. row (within_test 4096 E) refl c (λ e c. row (enough_test E size) refl c (λ e c. row (bits_test_lem a) refl c (λ e. last))))
 
-pub whose_number_lem : (run : List ℕ) → WhoseGives run (control.number_of (control.whose_answer run))
-unfolding WhoseGives control.number_of control.whose_answer control.whose_number control.whose_rules control.bad_run
+pub whose_number_lem : (run : List ℕ) → WhoseGives run (number_in (control.whose_answer run))
+unfolding WhoseGives control.whose_number control.whose_rules control.bad_run
 whose_number_lem run =
-    row (between_test 17 80 (length run)) refl (record { is = go (eqb (control.whose_number run) 0) }) (λ e c. row (bits_test_lem run) refl c (λ e. last))
-  where
-    go : (b : Bool)
-        → control.number_of (cond b (owner.Terminal (owner_of run)) (owner.Refused (control.whose_number run))) ≡ cond b 0 (control.whose_number run)
-    go true = refl
-    go false = refl
+    row (between_test 17 80 (length run)) refl (record { is = whose_told run ∙ same (control.whose_number run) }) (λ e c. row (bits_test_lem run) refl c (λ e. last))
 
 pub pack_number_lem : (M from to : ℕ) → PackGives M from to (pack_number M from to)
 unfolding PackGives pack_number change_number bad_blocks room_length packed_length

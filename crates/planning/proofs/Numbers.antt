@@ -5,9 +5,11 @@ use mathlib.Core.Bool.{Bool, true, false}
 use Prim.Native.Nat.{ℕ, ◌+◌, ◌*◌, ◌≤◌}
 use Rattle.std.specs.declared.result.Result.TheVariants.{Ok}
 use Rattle.refusals.proofs.Numbers.{given_ok}
+use Rattle.refusals.specs.Refusals.{first_of, number_in}
 use Rattle.refusals.proofs.Refusals.{passed, listed}
 use Rattle.segmentation.specs.Segmentation.{blocks}
-use Rattle.codeword.specs.Build.{size_rule, symbol_rule}
+use Rattle.segmentation.specs.Sizes.{bad_size}
+use Rattle.codeword.specs.Build.{bad_symbol, size_rule, symbol_rule}
 use Rattle.codeword.proofs.Accepted.{symbol_step}
 use Rattle.codeword.proofs.Segmented.{sized, unsized}
 use Rattle.planning.specs.Least.{least_symbols, least_bits}
@@ -25,6 +27,16 @@ module _ (A Q N : ℕ) where
       let clear = passed (worst_rules A Q N) refl e tt in
       let s = symbol_step Q N (clear (symbol_rule Q N) (search listed)) in
       record { size = clear (size_rule A) (search listed); some = s.0; most = s.1 }
+
+  -- the number of the answer is that of the first refusal that applies
+  pub answer_number : number_in (worst_answer A Q N) ≡ worst_number A Q N
+  unfolding worst_answer worst_number worst_rules first_of
+  answer_number = go (bad_size A) (bad_symbol Q N) refl refl
+    where
+      go : (s t : Bool) → bad_size A ≡ s → bad_symbol Q N ≡ t → number_in (worst_answer A Q N) ≡ worst_number A Q N
+      go true t e f = simp e
+      go false true e f = simp (e, f)
+      go false false e f = simp (e, f)
 
   pub given_answer : {three one : ℕ} → 0 ≡ worst_number A Q N
       → three ≡ least_symbols (need_in false A) (blocks (A + 24)) (N * Q) → one ≡ least_symbols (need_in true A) (blocks (A + 24)) (N * Q)

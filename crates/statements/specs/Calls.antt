@@ -1,17 +1,19 @@
 -- The statements of the public calls, as their contracts put them: the answer, and every lent byte afterwards.
 -- Assumes nothing.
 use Rattle.std.specs.Prelude.{true, List, ◌++◌, ℕ, length}
+use Rattle.std.specs.declared.result.Result.{Result}
+use Rattle.refusals.specs.declared.Refusal.{Refusal}
+use Rattle.refusals.specs.Refusals.{number_in}
 use Rattle.segmentation.specs.declared.SizesAnswer.{SizesAnswer}
 use Rattle.segmentation.specs.Sizes.{sizes_answer}
 use Rattle.codeword.specs.declared.Grant.{Grant}
 use Rattle.codeword.specs.Build.{build_number, build_output}
 use Rattle.codeword.specs.Downlink.{build_down_number, build_down_output}
-use Rattle.planning.specs.declared.WorstAnswer.{WorstAnswer}
+use Rattle.planning.specs.declared.Worst.{Worst}
 use Rattle.planning.specs.Worst.{worst_answer}
 use Rattle.reports.specs.Calls.{report_build_number, report_build_output, part_number, part_output, data_part}
 use Rattle.face.specs.Face.{sizes_number, sizes_bytes}
-use Rattle.control_messages.specs.declared.Owner.{Owner}
-use Rattle.control_messages.specs.Calls.{control_number, control_output, whose_answer, number_of, terminal_of}
+use Rattle.control_messages.specs.Calls.{control_number, control_output, whose_answer, terminal_of}
 use Rattle.slots.specs.declared.State.{State}
 use Rattle.slots.specs.Outcome.{Outcome}
 use Rattle.slots.specs.Calls.{new_outcome, open_outcome, open_store, open_down_outcome, open_down_store, receive_outcome, receive_store, read_outcome, read_output, streams_outcome, streams_output, close_outcome}
@@ -56,14 +58,14 @@ abbrev pub ControlStatement : List ℕ → ℕ → ℕ → List ℕ → Given �
 ControlStatement a t E out = Gives (control_number a E (length out)) (control_output a t E out)
 
 -- whose a run is, and the same with the terminal number in a lent place
-abbrev pub WhoseStatement : List ℕ → Given Owner (Unit {0}) → Type 0
+abbrev pub WhoseStatement : List ℕ → Given (Result ℕ Refusal) (Unit {0}) → Type 0
 WhoseStatement run = Gives (whose_answer run) tt
 
 abbrev pub WhoseToCStatement : List ℕ → ℕ → Given ℕ ℕ → Type 0
-WhoseToCStatement run before = Gives (number_of (whose_answer run)) (terminal_of (whose_answer run) before)
+WhoseToCStatement run before = Gives (number_in (whose_answer run)) (terminal_of (whose_answer run) before)
 
 -- how many repeats at worst
-abbrev pub WorstStatement : ℕ → ℕ → ℕ → Given WorstAnswer (Unit {0}) → Type 0
+abbrev pub WorstStatement : ℕ → ℕ → ℕ → Given (Result Worst Refusal) (Unit {0}) → Type 0
 WorstStatement A Q N = Gives (worst_answer A Q N) tt
 
 -- the change of form of one room, both ways, and zemrukste_pack and zemrukste_unpack
