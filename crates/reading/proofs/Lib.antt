@@ -6,3 +6,4 @@ pub mod Sequence
 pub mod Release
 pub mod Answering
 pub mod Kept
+pub mod Thrown

@@ -2,14 +2,14 @@
 -- And what it is to answer and to store.
 -- Assumes nothing.
 use mathlib.Core.Path.{◌≡◌, refl, sym, ◌∙◌, ap, subst}
-use mathlib.Core.Bool.{Bool, true, false, cond}
+use mathlib.Core.Bool.{Bool, true, false}
 use mathlib.Core.List.{List, ◌++◌}
 use Prim.Native.Nat.{ℕ}
 use native.Mathlib.Nat.{mul-le-mul_right}
 use native.Mathlib.Omega.{arith}
 use lib.Dec.{eqb}
 use lib.ListN.{length}
-use borrow.Author.Tests.{eqb-true, ltb-false}
+use borrow.Author.Tests.{ltb-false}
 use Rattle.std.specs.Prelude.{IfOk}
 use Rattle.std.specs.declared.result.Result.{Result}
 use Rattle.std.specs.declared.result.Result.TheVariants.{Ok, Err}
@@ -25,7 +25,7 @@ use Rattle.codeword.proofs.Accepted.{given_bits}
 use Rattle.slots.specs.declared.Head.{Head}
 use Rattle.slots.specs.declared.State.{State}
 use Rattle.slots.specs.Outcome.{Answer, StillLacking, Refused}
-use Rattle.slots.specs.State.{per_block, room_length, head_at}
+use Rattle.slots.specs.State.{per_block, room_length}
 use Rattle.slots.specs.Room.{agreeing, room_at, with_room}
 use Rattle.slots.specs.Reception.{received}
 use Rattle.slots.specs.Reading.{lacking}

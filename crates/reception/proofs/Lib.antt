@@ -7,3 +7,4 @@ pub mod Behind
 pub mod SlotRoom
 pub mod Accepts
 pub mod Sends
+pub mod Left

@@ -1,13 +1,14 @@
 -- Turn after turn of a code block's bits, 01 'Receive' and 02 E2: one turn or less, and turns that meet in a ring.
 -- Assumes nothing.
-use mathlib.Core.Path.{◌≡◌, sym, ◌∙◌, ap, ap₂}
-use mathlib.Core.List.{List, map}
-use Prim.Native.Nat.{ℕ, ◌+◌, ◌-◌, ◌%◌, ◌≤◌, ◌<◌}
+use mathlib.Core.Path.{◌≡◌, refl, sym, ◌∙◌, ap, ap₂}
+use mathlib.Core.List.{List, ◌++◌, map}
+use Prim.Native.Nat.{ℕ, ◌+◌, ◌-◌, ◌%◌, ◌≤◌, ◌<◌, min}
 use native.Mathlib.Nat.{zero-add, zero-mod, mod_self, mod-lt, add-mod_right, add-sub_cancel_left}
+use native.Mathlib.Decide.{dec_le}
 use native.Mathlib.Omega.{arith}
 use lib.Dec.{lit<}
 use lib.ListN.{length, get_or, take, drop, length-drop}
-use lib.Seq.{take_all, length-take-le, drop-drop}
+use lib.Seq.{take_all, take_at, length-take-le, drop-drop}
 use borrow.Rule.Slice.PartMut.{mid_of}
 use Rattle.laws.specs.Bits.{AreBits}
 use Rattle.laws.specs.Lists.{tab, tab_from}
@@ -80,12 +81,16 @@ module _ (ps bits : List ℕ) where
         ∙ sym (rest_last 0 part (zero-mod (length ps)) (omega arith))
         ∙ ap (λ (js : List ℕ). put_along agreeing js bits part) (tab_rest (length bits) (turn_after_turn ps))
 
+length_ring : (n : ℕ) (bits : List ℕ) → n ≤ length bits → length (ring_of n bits) ≡ n
+unfolding ring_of
+length_ring n bits few = length_put agreeing _ (drop n bits) (take n bits) ∙ length-take-le n bits few
+
 -- ---- turns that meet in a ring
 
 -- the turns up to bit i have met in the ring
 pub record Turning (n : ℕ) (bits ring : List ℕ) (i : ℕ) : Type 0 where
   pub passed : (n ≤ i) × (i ≤ length bits)
-  pub whole : i % n ≡ 0
+  pub whole : i < length bits → i % n ≡ 0
   pub long : length ring ≡ n
   pub told : Rest (tab n itself) bits i ring ≡ ring_of n bits
 
@@ -95,7 +100,7 @@ module _ {n : ℕ} {bits : List ℕ} (few : n ≤ length bits) where
   unfolding ring_of
   turning_start e = record {
     passed = (omega arith, few);
-    whole = mod_self n;
+    whole = λ h. mod_self n;
     long = ap length e ∙ length-take-le n bits few;
     told = ap (Rest (tab n itself) bits n) e;
   }
@@ -104,20 +109,20 @@ module _ {n : ℕ} {bits : List ℕ} (few : n ≤ length bits) where
     places : 0 < length (tab n itself)
     places = rw (length_tab n itself) some
 
-    starts : i % length (tab n itself) ≡ 0
-    starts = rw (length_tab n itself) t.whole
+    starts : i < length bits → i % length (tab n itself) ≡ 0
+    starts h = rw (length_tab n itself) (t.whole h)
 
     -- a whole turn more
-    pub turning_whole : {ring' : List ℕ} → n ≤ length bits - i → (let src = mid_of i (i + n - i) bits in ring' ≡ put_first (tab (length src) itself) src ring) → Turning n bits ring' (i + n)
+    turning_whole : {ring' : List ℕ} → n ≤ length bits - i → (let src = mid_of i (i + n - i) bits in ring' ≡ put_first (tab (length src) itself) src ring) → Turning n bits ring' (i + n)
     unfolding put_first
     turning_whole {ring'} h e = record {
       passed = (omega (arith, t.passed), omega (arith, t.passed));
-      whole = add-mod_right i n ∙ t.whole;
+      whole = λ l. add-mod_right i n ∙ t.whole (omega arith);
       long = ap length is ∙ length_put agreeing (tab n itself) (drop i bits) ring ∙ t.long;
       told =
           ap (Rest (tab n itself) bits (i + n)) is
           ∙ ap (λ (m : ℕ). Rest (tab n itself) bits (i + m) (put_along agreeing (tab n itself) (drop i bits) ring)) (sym (length_tab n itself))
-          ∙ sym (rest_turn (tab n itself) bits places i ring starts (rw (length_tab n itself) (omega (arith, t.passed))))
+          ∙ sym (rest_turn (tab n itself) bits places i ring (starts (omega arith)) (rw (length_tab n itself) (omega (arith, t.passed))))
           ∙ t.told;
     }
       where
@@ -135,21 +140,44 @@ module _ {n : ℕ} {bits : List ℕ} (few : n ≤ length bits) where
             ∙ along_few agreeing (tab n itself) n (drop i bits) ring (omega (arith, length_tab n itself))
 
     -- what is left is less than one
-    pub turning_last : {ring' : List ℕ} → length bits - i < n → (let src = mid_of i (length bits - i) bits in ring' ≡ put_first (tab (length src) itself) src ring) → ring' ≡ ring_of n bits
+    turning_last : {ring' : List ℕ} → i < length bits → length bits - i < n → (let src = mid_of i (length bits - i) bits in ring' ≡ put_first (tab (length src) itself) src ring) → ring' ≡ ring_of n bits
     unfolding put_first
-    turning_last h e =
+    turning_last left h e =
         e
         ∙ ap (λ (l : List ℕ). put_along agreeing (take (length l) (tab (length l) itself)) l ring) (take_all (length bits - i) (drop i bits) (omega (arith, length-drop i bits)))
         ∙ ap (λ (js : List ℕ). put_along agreeing js (drop i bits) ring) (take_tab m m itself (omega arith) ∙ sym (take_tab m n itself (omega (arith, length-drop i bits))))
-        ∙ sym (rest_last (tab n itself) bits places i ring starts (rw (length_tab n itself) (omega arith)))
+        ∙ sym (rest_last (tab n itself) bits places i ring (starts left) (rw (length_tab n itself) (omega arith)))
         ∙ t.told
       where
         m : ℕ
         m = length (drop i bits)
 
-length_ring : (n : ℕ) (bits : List ℕ) → n ≤ length bits → length (ring_of n bits) ≡ n
-unfolding ring_of
-length_ring n bits few = length_put agreeing _ (drop n bits) (take n bits) ∙ length-take-le n bits few
+    -- the next turn, whole or the last: it comes off the front of what is left
+    pub turning_next : {ring' : List ℕ} (x rest : List ℕ) → drop i bits ≡ x ++ rest → length x ≡ min n (length bits - i) → i < length bits
+        → ring' ≡ put_first (tab (length x) itself) x ring → Turning n bits ring' (i + length x)
+    unfolding tab_from put_along
+    turning_next {ring'} x rest split size left e = elim (dec_le n (length bits - i)) [
+      | yes h ↦
+          let whole : length x ≡ n = omega arith in
+          rw whole (turning_whole h (e ∙ ap (λ (l : List ℕ). put_first (tab (length l) itself) l ring) (sym (part n whole))))
+      | no h ↦
+          let less : length bits - i < n = omega arith in
+          let last : length bits - i ≡ length x = omega arith in
+          let is : ring' ≡ ring_of n bits = turning_last left less (e ∙ ap (λ (l : List ℕ). put_first (tab (length l) itself) l ring) (sym (ap₂ take last split ∙ take_at x rest (length x) refl))) in
+          record {
+            passed = (omega (arith, t.passed), omega (arith, t.passed));
+            whole = λ l. absurd (omega arith);
+            long = ap length is ∙ length_ring n bits few;
+            told =
+                ap (λ (m : ℕ). put_along agreeing (tab_from (i + length x) m (turn_after_turn (tab n itself))) (drop (i + length x) bits) ring') (none_left less) ∙ is;
+          }
+    ]
+      where
+        none_left : length bits - i < n → length bits - (i + length x) ≡ 0
+        none_left less = omega arith
+
+        part : (m : ℕ) → length x ≡ m → mid_of i (i + m - i) bits ≡ x
+        part m h = ap₂ take (add-sub_cancel_left i m ∙ sym h) split ∙ take_at x rest (length x) refl
 
 -- the ring put as one turn is turn after turn
 pub ring_round : (ps bits : List ℕ) {n : ℕ} → n ≡ length ps → 0 < length ps → n ≤ length bits → AreBits bits → (part : List ℕ) {part' : List ℕ} → part' ≡ put_first ps (ring_of n bits) part

@@ -20,6 +20,7 @@ const SHORT_CIRCLE: usize = 3168;
 const LONG_CIRCLE: usize = 18528;
 
 // The bytes that a row of a circle has: 96 places.
+#[tactic(auto, unfolding(crate::specs::inner::Parts::bytes_a_row))]
 fn bytes_a_row(four: bool) -> usize
     ensures { result ≡ bytes_a_row four }
 {

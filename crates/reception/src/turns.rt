@@ -15,6 +15,7 @@ fn agreed(old: u8, new: u8) -> u8
 }
 
 // Puts bits at the front of a run in which something was heard everywhere.
+// kept: beside bit_placement's run for any place, whose test is longer for each bit; a function for both would take the test and its law, for a loop of one line.
 fn agree_run(bits: &[u8], run: &mut [u8])
     requires { (length bits.now ≤ length run.old) × AllKnown bits.now × AllKnown run.old }
     ensures { run.new ≡ put_first (tab (length bits.now) itself) bits.now run.old }
@@ -30,12 +31,8 @@ pub(crate) fn meet_turns(bits: &[u8], ring: &mut [u8])
     ensures { ring.new ≡ ring_of (length ring.old) bits.now }
 {
     let n = ring.len();
-    octets::copy(&bits[..n], ring);
-    let mut i = n;
-    while n <= bits.len() - i {
-        let end = i + n;
-        agree_run(&bits[i..end], ring);
-        i = end;
+    ring.copy_from_slice(&bits[..n]);
+    for turn in bits[n..].chunks(n) {
+        agree_run(turn, ring);
     }
-    agree_run(&bits[i..], ring);
 }

@@ -1,27 +1,22 @@
 -- `receive_by` meets its contract: a refusal is that of the first rule that applies, and where none does the bits are put (`Accepts`).
 -- Assumes nothing.
-use mathlib.Core.Path.{sym}
+use mathlib.Core.Path.{◌∙◌}
 use native.Mathlib.Omega.{arith}
-use Rattle.std.proofs.lemmas.Result.{IfOk-at_ok, err_from_is_err_and}
+use Rattle.reading.proofs.Thrown.{thrown}
 use Rattle.reception.proofs.Accepts.{owner_refused_by, refused_by, put_by}
 use Rattle.reception.proofs.receive_by.Goals as goal
 
 pub returns-in_err-head : goal.returns-in_err-head
 returns-in_err-head c =
     let e = c.args in
-    let p = err_from_is_err_and c.from_residual.result c.from_residual.ensures.1 in
     let told = owner_refused_by e.four e.bad e.blocks e.slot e.grant e.bits.now e.store.now c.in_err-head.field-0.0 c.in_err-head.was in
-    record { answer = rw (p.1, p.2) told.0; stored = told.1 }
+    record { answer = thrown _ c.from_residual.result c.from_residual.ensures ∙ told.0; stored = told.1 }
 
 pub returns-in_err-admitted : goal.returns-in_err-admitted
 returns-in_err-admitted c =
     let e = c.args in
-    let p = err_from_is_err_and c.from_residual-in_err-admitted.result c.from_residual-in_err-admitted.ensures.1 in
     let told = refused_by e.four e.bad e.blocks e.slot e.grant e.bits.now e.store.now c.in_ok-head.head c.in_ok-head.was c.in_err-admitted.field-0.0 c.in_err-admitted.ensures in
-    record { answer = rw (p.1, p.2) told.0; stored = told.1 }
-
-pub put_in_slot-lacking-requires : goal.put_in_slot-lacking-requires
-put_in_slot-lacking-requires c = IfOk-at_ok _ c.in_ok-head.was c.requires (sym c.in_ok-admitted.ensures)
+    record { answer = thrown _ c.from_residual-in_err-admitted.result c.from_residual-in_err-admitted.ensures ∙ told.0; stored = told.1 }
 
 pub returns : goal.returns
 returns c =

@@ -1,16 +1,16 @@
 -- `streaming::streams_form` meets its contract: a refusal is that of the first rule that applies, and where none does the code block's circle lies within the store
 -- (`Answering`, `Form`).
 -- Assumes nothing.
-use mathlib.Core.Path.{refl, ap}
+use mathlib.Core.Path.{◌∙◌, refl, ap}
 use Prim.Native.Nat.{ℕ, ◌+◌, ◌*◌, ◌≤◌}
 use native.Mathlib.Omega.{arith}
 use mir.Syntax.{w64}
 use mir.Val.{Fits}
-use Rattle.std.proofs.lemmas.Result.{err_from_is_err_and}
 use Rattle.refusals.proofs.Numbers.{refusal_ne0}
 use Rattle.slot_calls.proofs.OwnerParts.{owned_head}
 use Rattle.slot_calls.proofs.Rules.{failed, last, passed_over}
 use Rattle.packing.specs.Store.{places_in}
+use Rattle.reading.proofs.Thrown.{thrown}
 use Rattle.reading.proofs.Form.{streams_asked}
 use Rattle.reading.proofs.Answering.{refused_first, passed_first}
 use Rattle.streaming.proofs.Answering.{found_blocks, found_size, found_most, streams_told_number, streams_refused, Streaming, circle_within, index_few, three_needs, streams_told}
@@ -49,25 +49,23 @@ pub returns-in_err-head : goal.returns-in_err-head
 returns-in_err-head c =
     let e = c.args in
     let refusal = c.in_err-head.field-0.0 in
-    let p = err_from_is_err_and c.from_residual.result c.from_residual.ensures.1 in
     let w = streams_refused e.state (places_in e.four e.store.now) e.slot e.terminal e.block e.out.now
     (streams_asked e.four e.state e.store.now e.slot e.terminal e.block _ c.places_asked-asked.ensures
     (streams_told_number e.state _ e.slot e.terminal e.block _ refl refl (refused_first e.state _ e.slot e.terminal refusal _ c.in_err-head.ensures)))
     (refusal_ne0 refusal) in
-    record { value = rw (p.1, p.2) w.0; out_after = w.1 }
+    record { value = thrown _ c.from_residual.result c.from_residual.ensures ∙ w.0; out_after = w.1 }
 
 pub returns-in_err-applied : goal.returns-in_err-applied
 returns-in_err-applied c =
     let e = c.args in
     let refusal = c.in_err-applied.field-0.0 in
-    let p = err_from_is_err_and c.from_residual-in_err-applied.result c.from_residual-in_err-applied.ensures.1 in
     let w = streams_refused e.state (places_in e.four e.store.now) e.slot e.terminal e.block e.out.now
     (streams_asked e.four e.state e.store.now e.slot e.terminal e.block _ c.places_asked-asked.ensures
     (streams_told_number e.state _ e.slot e.terminal e.block _
     (found_blocks e.state _ e.slot e.terminal e.block c.in_ok-head.ensures c.segments_for-s.ensures) refl
     (passed_first e.state _ e.slot e.terminal c.in_ok-head.ensures (failed refusal c.in_err-applied.ensures))))
     (refusal_ne0 refusal) in
-    record { value = rw (p.1, p.2) w.0; out_after = w.1 }
+    record { value = thrown _ c.from_residual-in_err-applied.result c.from_residual-in_err-applied.ensures ∙ w.0; out_after = w.1 }
 
 pub overflow_add-d : goal.overflow_add-d
 overflow_add-d c = omega (arith, most (goal.at.overflow_add-d c).After-size_of-d)
@@ -79,7 +77,6 @@ pub returns-in_err-applied-2 : goal.returns-in_err-applied-2
 returns-in_err-applied-2 c =
     let e = c.args in
     let refusal = c.in_err-applied-2.field-0.0 in
-    let p = err_from_is_err_and c.from_residual-in_err-applied-2.result c.from_residual-in_err-applied-2.ensures.1 in
     let w = streams_refused e.state (places_in e.four e.store.now) e.slot e.terminal e.block e.out.now
     (streams_asked e.four e.state e.store.now e.slot e.terminal e.block _ c.places_asked-asked.ensures
     (streams_told_number e.state _ e.slot e.terminal e.block _
@@ -87,7 +84,7 @@ returns-in_err-applied-2 c =
     (ap (λ (k : ℕ). k + 4) (found_size e.state _ e.slot e.terminal e.block c.in_ok-head.ensures c.segments_for-s.ensures c.size_of-d.ensures))
     (passed_first e.state _ e.slot e.terminal c.in_ok-head.ensures (passed_over refl c.in_ok-applied.ensures (failed refusal c.in_err-applied-2.ensures)))))
     (refusal_ne0 refusal) in
-    record { value = rw (p.1, p.2) w.0; out_after = w.1 }
+    record { value = thrown _ c.from_residual-in_err-applied-2.result c.from_residual-in_err-applied-2.ensures ∙ w.0; out_after = w.1 }
 
 pub overflow_mul-i : goal.overflow_mul-i
 overflow_mul-i c = product_few _ _ _ (index_few (asked (goal.at.overflow_mul-i c).In_ok-applied-2))

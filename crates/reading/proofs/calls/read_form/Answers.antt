@@ -1,14 +1,14 @@
 -- `calls::read_form` meets its contract: a refusal is that of the first rule that applies, and where none does the room lies within the store (`Answering`, `Form`).
 -- Assumes nothing.
-use mathlib.Core.Path.{refl}
+use mathlib.Core.Path.{◌∙◌, refl}
 use Prim.Native.Nat.{◌+◌, ◌*◌, ◌≤◌}
 use native.Mathlib.Omega.{arith}
 use lib.ListN.{length}
-use Rattle.std.proofs.lemmas.Result.{err_from_is_err_and}
 use Rattle.refusals.proofs.Numbers.{refusal_ne0}
 use Rattle.packing.specs.Store.{places_in}
 use Rattle.slot_calls.proofs.OwnerParts.{owned_head}
 use Rattle.slot_calls.proofs.Rules.{failed, last}
+use Rattle.reading.proofs.Thrown.{thrown}
 use Rattle.reading.proofs.Form.{room_there, room_places, read_asked}
 use Rattle.reading.proofs.Answering.{refused_first, passed_first, read_told, Reading, read_refused, room_within, read_room_needs, answer_told, output_told}
 use Rattle.reading.proofs.calls.read_form.Goals.{After-bytes_a_block}
@@ -38,24 +38,22 @@ pub returns-in_err-head : goal.returns-in_err-head
 returns-in_err-head c =
     let e = c.args in
     let refusal = c.in_err-head.field-0.0 in
-    let p = err_from_is_err_and c.from_residual.result c.from_residual.ensures.1 in
     let w = read_refused e.state (places_in e.four e.store.now) e.slot e.terminal e.out.now
     (read_asked e.four e.state e.store.now e.slot e.terminal _ c.places_asked-asked.ensures
     (read_told e.state _ e.slot e.terminal _ refl (refused_first e.state _ e.slot e.terminal refusal _ c.in_err-head.ensures)))
     (refusal_ne0 refusal) in
-    record { value = rw (p.1, p.2) w.0; out_after = w.1 }
+    record { value = thrown _ c.from_residual.result c.from_residual.ensures ∙ w.0; out_after = w.1 }
 
 pub returns-in_err-applied : goal.returns-in_err-applied
 returns-in_err-applied c =
     let e = c.args in
     let refusal = c.in_err-applied.field-0.0 in
-    let p = err_from_is_err_and c.from_residual-in_err-applied.result c.from_residual-in_err-applied.ensures.1 in
     let found = owned_head e.state _ e.slot e.terminal c.in_ok-head.ensures in
     let w = read_refused e.state (places_in e.four e.store.now) e.slot e.terminal e.out.now
     (read_asked e.four e.state e.store.now e.slot e.terminal _ c.places_asked-asked.ensures
     (read_told e.state _ e.slot e.terminal _ found (passed_first e.state _ e.slot e.terminal c.in_ok-head.ensures (failed refusal c.in_err-applied.ensures))))
     (refusal_ne0 refusal) in
-    record { value = rw (p.1, p.2) w.0; out_after = w.1 }
+    record { value = thrown _ c.from_residual-in_err-applied.result c.from_residual-in_err-applied.ensures ∙ w.0; out_after = w.1 }
 
 pub overflow_mul-long : goal.overflow_mul-long
 overflow_mul-long c = omega (arith, there (goal.at.overflow_mul-long c).After-bytes_a_block)

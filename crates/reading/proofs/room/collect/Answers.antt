@@ -57,9 +57,6 @@ loop-r-preserved c =
     c.filler_of-f.ensures c.loop-r.invariant c.read_data.ensures c.count_missing-lacking.ensures
     c.right_after-right.ensures
 
-pub shape_of-b : goal.shape_of-b
-shape_of-b c = c.loop-r.invariant.long
-
 pub returns-then-lacking-ne0 : goal.returns-then-lacking-ne0
 returns-then-lacking-ne0 c =
     let all = hearing_finish c.segments_for-s.ensures c.loop-r-test.false c.loop-r.invariant in

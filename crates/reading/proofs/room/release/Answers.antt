@@ -1,11 +1,12 @@
 -- `room::release` meets its contract: places lacking, a code block wrong, the transport check wrong, all right (`Release`).
 -- Assumes nothing.
-use mathlib.Core.Path.{ap}
+use mathlib.Core.Path.{◌∙◌, ap}
 use mathlib.Core.List.{List, ◌++◌}
 use Prim.Native.Nat.{ℕ}
 use native.Mathlib.Omega.{arith}
 use lib.ListN.{drop}
 use Rattle.std.proofs.lemmas.Result.{err_from_is_err_and}
+use Rattle.reading.proofs.Thrown.{thrown}
 use Rattle.reading.proofs.Release.{blocks_refused, wrong, right_all}
 use Rattle.reading.proofs.room.release.Goals as goal
 
@@ -18,8 +19,7 @@ returns-in_err-collect c =
 pub returns-in_err-applied : goal.returns-in_err-applied
 returns-in_err-applied c =
     let told = wrong _ _ _ c.in_ok-collect.ensures.heard _ c.in_ok-collect.ensures.sequence c.crc24a.ensures c.in_err-applied.field-0.0 c.in_err-applied.ensures in
-    let p = err_from_is_err_and c.from_residual-in_err-applied.result c.from_residual-in_err-applied.ensures.1 in
-    record { value = rw (p.1, p.2) told.0; out_after = told.1 }
+    record { value = thrown _ c.from_residual-in_err-applied.result c.from_residual-in_err-applied.ensures ∙ told.0; out_after = told.1 }
 
 pub returns : goal.returns
 returns c =

@@ -60,14 +60,8 @@ overflow_mul-to c = omega (arith, bytes_fit (goal.at.overflow_mul-to c).After-sh
 pub overflow_add-to-in-loop-r : goal.overflow_add-to-in-loop-r
 overflow_add-to-in-loop-r c = omega (arith, bytes_fit (goal.at.overflow_add-to-in-loop-r c).After-share_of)
 
-pub slice_bounds-put_part-start : goal.slice_bounds-put_part-start
-slice_bounds-put_part-start c = omega (arith, bits_fit (goal.at.slice_bounds-put_part-start c).After-share_of)
-
 pub slice_bounds-put_part-end : goal.slice_bounds-put_part-end
 slice_bounds-put_part-end c = bits_fit (goal.at.slice_bounds-put_part-end c).After-share_of
-
-pub slice_bounds-put_part-start-in-loop-r : goal.slice_bounds-put_part-start-in-loop-r
-slice_bounds-put_part-start-in-loop-r c = omega (arith, bytes_fit (goal.at.slice_bounds-put_part-start-in-loop-r c).After-share_of)
 
 pub slice_bounds-put_part-end-in-loop-r : goal.slice_bounds-put_part-end-in-loop-r
 slice_bounds-put_part-end-in-loop-r c = bytes_fit (goal.at.slice_bounds-put_part-end-in-loop-r c).After-share_of
@@ -103,9 +97,6 @@ unfolding rows
 loop-r-preserved c =
     filling_next _ _ c.requires (block (goal.at.loop-r-preserved c).In-loop-r).below c.loop-r.invariant (size (goal.at.loop-r-preserved c).After-size_of-k) (filled (goal.at.loop-r-preserved c).After-filler_of-filler) c.bytes_a_row-row.ensures _ (share_of_lem (goal.at.loop-r-preserved c).After-share_of)
     c.bytes_a_block-long.ensures c.put_part-lacking.auto.part c.put_part-lacking.ensures.stored c.put_part-lacking.ensures.count
-
-pub shape_of-room : goal.shape_of-room
-shape_of-room c = c.loop-r.invariant.long
 
 pub returns : goal.returns
 returns c =

@@ -3,13 +3,9 @@
 use mathlib.Core.Path.{sym, ◌∙◌, ap}
 use mathlib.Core.List.{List}
 use Prim.Native.Nat.{ℕ}
-use native.Mathlib.Omega.{arith}
 use Rattle.slots.specs.Circle.{lacking_on}
 use Rattle.reception.proofs.Circles.{part_there, part_stored}
 use Rattle.reception.proofs.packed.put_by.Goals as goal
-
-pub put_circle-lacking-requires : goal.put_circle-lacking-requires
-put_circle-lacking-requires c = (record { fits = omega (arith, c.requires.0.fits, c.unpack_places.auto.to) }, c.requires.2)
 
 pub returns : goal.returns
 returns c =

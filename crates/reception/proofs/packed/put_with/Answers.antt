@@ -7,9 +7,6 @@ use Rattle.laws.proofs.Parts.{fresh_count}
 use Rattle.reception.proofs.Circles.{four_long}
 use Rattle.reception.proofs.packed.put_with.Goals as goal
 
-pub whole_as_front-put_by : goal.whole_as_front-put_by
-whole_as_front-put_by g c = (c.requires.1, omega (arith, c.requires.2))
-
 pub put_by-requires : goal.put_by-requires
 put_by-requires g c =
     rw (sym (fresh_count {A = ℕ} 0 g.row.P _ c.requires.1)) (record { fits = omega (arith, c.requires.0.fits, four_long c.args.part.now refl) }, refl, c.requires.3)

@@ -1,13 +1,9 @@
--- `turns::meet_turns` meets its contract: the turns passed have met in the ring (`Rounds`).
+-- `turns::meet_turns` meets its contract: the turns passed have met in the ring, and the others are left (`Left`).
 -- Assumes nothing.
-use Prim.Native.Nat.{◌-◌}
-use lib.ListN.{length}
-use Rattle.reception.specs.inner.Ring.{AllKnown}
-use Rattle.reception.proofs.Rounds.{Turning}
+use mathlib.Core.Path.{◌≡◌}
+use Rattle.core.specs.Slice.Iter.{chunks_rest, chunks_size}
+use Rattle.reception.proofs.Left.{Left}
 use Rattle.reception.proofs.turns.meet_turns.Given as goal
 
-abbrev pub invariant-loop-i : goal.invariant-loop-i
-invariant-loop-i l = Turning l.n l.bits l.ring l.i × AllKnown l.ring
-
-abbrev pub decreases-loop-i : goal.decreases-loop-i
-decreases-loop-i l = length l.bits - l.i
+abbrev pub invariant-loop-turn : goal.invariant-loop-turn
+invariant-loop-turn l = (chunks_size l.turn-iterator ≡ l.n) × Left l.n l.bits l.ring (chunks_rest l.turn-iterator)
