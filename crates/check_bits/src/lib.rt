@@ -132,6 +132,7 @@ impl Generator {
 fn passed(table: &[u32; 96], s: u32) -> u32
     ensures { result ≡ entries table.now s }
 {
+    // kept: six lines and no loop over the rows, since entries, which the contract names, has six terms
     let rows = &table[..];
     let a = entry(rows, s);
     let b = entry(&rows[16..], s >> 4);

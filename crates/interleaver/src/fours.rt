@@ -26,6 +26,7 @@ pub(crate) fn interleave_bits(f1: usize, f2: usize, c: &[u8], out: &mut [u8])
     ensures { out.new ≡ bits_by (length c.now) f1 f2 c.now }
 {
     let n = (c.len() / 4 + 3) / 4 * 4;
+    // kept: two arms that differ in the array alone; a function with its length as a parameter would say all that by_fours requires once more
     if n <= 64 {
         let mut y = [0u8; 64];
         by_fours(f1, f2, c, &mut y[..n], out);

@@ -85,6 +85,7 @@ fn start_of(len: usize, s: Segments, r: usize) -> usize
     r * (s.short - 24) - s.filler
 }
 
+// kept: these three are functions and no methods of Segments, since the crates above call them by their public names.
 // K_r: the short code blocks come first.
 pub fn size_of(s: Segments, r: usize) -> usize
     ensures { result ≡ cond (ltb r s.shorts) s.short s.long }

@@ -29,6 +29,7 @@ pub struct Segments {
 }
 
 // The six numbers that 01 lists for a block size A.
+// kept: Segments has them too, and the row; the contracts of sizes_for and of segments_for name the fields (sizes_of and segments_of)
 #[derive(Clone, Copy)]
 pub struct Sizes {
     pub blocks: usize,
@@ -43,6 +44,7 @@ pub struct Sizes {
 pub fn segments_for(a: usize) -> Segments
     ensures { result ≡ segments_for a }
 {
+    // kept: numbers that are all 0, and no Option: the contract of segments_for says no_segments
     if bad_size(a) {
         return Segments {
             blocks: 0,
