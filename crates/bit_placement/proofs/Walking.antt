@@ -8,7 +8,7 @@ use native.Mathlib.Omega.{arith}
 use lib.ListN.{length, take}
 use Rattle.laws.specs.Lists.{tab, tab_from}
 use Rattle.laws.proofs.Tab.{tab_split}
-use Rattle.core.specs.declared.option.Option.TheVariants.{Some}
+use Rattle.std.specs.declared.option.Option.TheVariants.{Some}
 use Rattle.rate_matching.specs.declared.Turn.{Turn}
 use Rattle.rate_matching.specs.declared.Unit.{Unit}
 use Rattle.rate_matching.specs.SubBlocks.{rows}

@@ -12,7 +12,7 @@ use lib.Seq.{get_or-take, get_or-append-add, length-take-le}
 use borrow.Author.Tests.{eqb-true, leb-true, eq-eqb, le-leb}
 use Rattle.laws.specs.Bits.{bits_of}
 use Rattle.laws.proofs.Tab.{length_tab_from, get_or_tab_from}
-use Rattle.core.specs.declared.option.Option.TheVariants.{Some}
+use Rattle.std.specs.declared.option.Option.TheVariants.{Some}
 use Rattle.rate_matching.specs.declared.CirclePlace.{CirclePlace}
 use Rattle.rate_matching.specs.declared.MatrixPlace.{MatrixPlace}
 use Rattle.rate_matching.specs.Columns.{number_of, turned_round, column}

@@ -1,7 +1,7 @@
 use mathlib.Core.Path.{◌≡◌, ◌∙◌}
 use mathlib.Core.List.{◌++◌}
 use native.Mathlib.Omega.{arith}
-use Rattle.core.specs.Slice.Iter.{chunks_rest}
+use Rattle.std.specs.Slice.Iter.{chunks_rest}
 use Rattle.kept_bits.proofs.Lacking.{count_of, count_few, counted_next, counted_few}
 use Rattle.kept_bits.proofs.circle.count_missing.Goals.{After-from-n}
 use Rattle.kept_bits.proofs.circle.count_missing.Goals as goal

@@ -1,7 +1,7 @@
 -- `circle::count_missing` meets its contract: the bytes are added up part by part (`Lacking`).
 -- Assumes nothing.
 use mathlib.Core.Path.{◌≡◌}
-use Rattle.core.specs.Slice.Iter.{chunks_rest, chunks_size}
+use Rattle.std.specs.Slice.Iter.{chunks_rest, chunks_size}
 use Rattle.kept_bits.proofs.Lacking.{Counted}
 use Rattle.kept_bits.proofs.circle.count_missing.Given as goal
 

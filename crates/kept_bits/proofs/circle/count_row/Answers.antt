@@ -11,7 +11,7 @@ use Rattle.rate_matching.specs.Matrix.{heads_of}
 use Rattle.rate_matching.specs.Units.{column_unit, column_within}
 use Rattle.rate_matching.proofs.Columns.{column_rule}
 use Rattle.rate_matching.proofs.UnitPlaces.{column_there, column_first}
-use Rattle.core.specs.declared.option.Option.TheVariants.{Some}
+use Rattle.std.specs.declared.option.Option.TheVariants.{Some}
 use Rattle.kept_bits.specs.inner.Rows.{kept_below, missing_below}
 use Rattle.kept_bits.proofs.Bytes.{missing_le}
 use Rattle.kept_bits.proofs.Rows.{found_is}

@@ -1,7 +1,7 @@
 -- `mapping::column_unit_at` meets its contract: the test is that of the definition.
 -- Assumes nothing.
 use mathlib.Core.Path.{ap}
-use Rattle.core.specs.declared.option.Option.TheVariants.{Some}
+use Rattle.std.specs.declared.option.Option.TheVariants.{Some}
 use Rattle.rate_matching.specs.Units.{column_within}
 use Rattle.rate_matching.proofs.mapping.column_unit_at.Goals.{Else-not-there}
 use Rattle.rate_matching.proofs.mapping.column_unit_at.Goals as goal

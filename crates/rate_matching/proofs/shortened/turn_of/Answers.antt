@@ -2,7 +2,7 @@
 -- Assumes nothing.
 use mathlib.Core.Path.{◌≡◌, sym, ◌∙◌, ap}
 use mathlib.Core.Bool.{true}
-use Rattle.core.specs.declared.option.Option.TheVariants.{Some}
+use Rattle.std.specs.declared.option.Option.TheVariants.{Some}
 use Rattle.rate_matching.specs.Turns.{matchable}
 use Rattle.rate_matching.proofs.Turns.{turn_none, turn_told}
 use Rattle.rate_matching.proofs.shortened.turn_of.Goals.{Else-not-matchable}
