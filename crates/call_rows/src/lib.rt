@@ -1,38 +1,27 @@
 // The rows of the calls that give bits: Read, Streams and Build.
 #![tactic(auto)]
 
-ghost use Rattle.std.specs.Prelude.{◌≡◌, ◌+◌, ◌-◌, ◌*◌, ◌≤◌, length, take, drop, replicate};
+ghost use Rattle.std.specs.Prelude.{◌≡◌, ◌+◌, ◌-◌, ◌*◌, ◌≤◌, length, take, drop};
+ghost use Rattle.refusals.specs.Refusals.{number_in};
 ghost use Rattle.codeword.specs.Shares.{grant};
 ghost use Rattle.packing.specs.Store.{places_in};
 ghost use Rattle.lines.specs.Put.{put_at, end_at};
 ghost use Rattle.answers.specs.Rows.{runs_row};
-ghost use Rattle.call_rows.specs.Rooms.{read_room, streams_room, build_room};
 ghost use Rattle.call_rows.specs.Rows.{at, read_row, streams_row, built_row, build_row, build_down_row};
 
-use codeword::Grant;
+use codeword::{Grant, Receiver};
+use refusals::Refusal;
 use slot_calls::states;
 use slots::State;
 
 // Room for the largest block.
-fn block_room() -> [u8; 30576]
-    ensures { result ≡ replicate read_room 0 }
-{
-    [0; 30576]
-}
+const READ_ROOM: usize = 30576;
 
 // Room for the three streams of the largest code block.
-fn streams_room() -> [u8; 18444]
-    ensures { result ≡ replicate streams_room 0 }
-{
-    [0; 18444]
-}
+const STREAMS_ROOM: usize = 18444;
 
 // Room for the longest codeword.
-fn code_room() -> [u8; 172800]
-    ensures { result ≡ replicate build_room 0 }
-{
-    [0; 172800]
-}
+const BUILD_ROOM: usize = 172800;
 
 // The row of Read.
 pub fn put_read(
@@ -46,7 +35,7 @@ pub fn put_read(
     ensures value { result ≡ end_at 0 (read_row state (places_in four store.now) slot terminal) out.old }
     ensures out_after { out.new ≡ put_at 0 (read_row state (places_in four store.now) slot terminal) out.old }
 {
-    let mut block = block_room();
+    let mut block = [0u8; READ_ROOM];
     let outcome = room_calls::read_in(state, four, slot, terminal, store, &mut block);
     let answer = outcome.answer;
     if slot_calls::is_done(answer) {
@@ -71,7 +60,7 @@ pub fn put_streams(
     ensures value { result ≡ end_at 0 (streams_row state (places_in four store.now) slot terminal block) out.old }
     ensures out_after { out.new ≡ put_at 0 (streams_row state (places_in four store.now) slot terminal block) out.old }
 {
-    let mut runs = streams_room();
+    let mut runs = [0u8; STREAMS_ROOM];
     let outcome = room_calls::streams_in(state, four, slot, terminal, block, store, &mut runs);
     let answer = outcome.answer;
     if slot_calls::is_done(answer) {
@@ -99,9 +88,9 @@ pub fn put_codeword(block: &[u8], grant: Grant, out: &mut [u8]) -> usize
     ensures value { result ≡ end_at 0 (build_row block.now grant) out.old }
     ensures out_after { out.new ≡ put_at 0 (build_row block.now grant) out.old }
 {
-    let mut code = code_room();
-    let number = build_calls::build(block, grant, &mut code);
-    put_built(number, &code, grant.bits, out)
+    let mut code = [0u8; BUILD_ROOM];
+    let built = build_calls::build(block, grant, &mut code);
+    put_built(built, &code, grant.bits, out)
 }
 
 // The row of Build for a downlink.
@@ -109,25 +98,43 @@ pub fn put_codeword_down(block: &[u8], n: [usize; 9], out: &mut [u8]) -> usize
     ensures value { result ≡ end_at 0 (build_down_row block.now (at n 0) (at n 1) (at n 2) (at n 3) (at n 4) (grant (at n 5) (at n 6) (at n 7) (at n 8))) out.old }
     ensures out_after { out.new ≡ put_at 0 (build_down_row block.now (at n 0) (at n 1) (at n 2) (at n 3) (at n 4) (grant (at n 5) (at n 6) (at n 7) (at n 8))) out.old }
 {
-    let mut code = code_room();
-    let grant = Grant {
-        modulation: n[5],
-        layers: n[6],
-        version: n[7],
-        bits: n[8],
+    let mut code = [0u8; BUILD_ROOM];
+    let [
+        release,
+        mimo,
+        processes,
+        soft,
+        layers,
+        modulation,
+        streams,
+        version,
+        bits,
+    ] = n;
+    let receiver = Receiver {
+        release,
+        mimo,
+        processes,
+        soft,
+        layers,
     };
-    let number = build_calls::build_down(block, n[0], n[1], n[2], n[3], n[4], grant, &mut code);
-    put_built(number, &code, grant.bits, out)
+    let grant = Grant {
+        modulation,
+        layers: streams,
+        version,
+        bits,
+    };
+    let built = build_calls::build_down(block, receiver, grant, &mut code);
+    put_built(built, &code, bits, out)
 }
 
 // The row of what a Build gave: the codeword, or the refusal.
-fn put_built(number: u8, code: &[u8], g: usize, out: &mut [u8]) -> usize
-    requires { number ≡ 0 → g ≤ length code.now }
-    ensures value { result ≡ end_at 0 (built_row number (take g code.now)) out.old }
-    ensures out_after { out.new ≡ put_at 0 (built_row number (take g code.now)) out.old }
+fn put_built(built: Result<(), Refusal>, code: &[u8], g: usize, out: &mut [u8]) -> usize
+    requires { number_in built ≡ 0 → g ≤ length code.now }
+    ensures value { result ≡ end_at 0 (built_row (number_in built) (take g code.now)) out.old }
+    ensures out_after { out.new ≡ put_at 0 (built_row (number_in built) (take g code.now)) out.old }
 {
-    if number != 0 {
-        return answers::put_refusal(number as usize, out);
+    match built {
+        Ok(()) => answers::put_run(&code[..g], out),
+        Err(refusal) => answers::put_refusal(refusal, out),
     }
-    answers::put_run(&code[..g], out)
 }

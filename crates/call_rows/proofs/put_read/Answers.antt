@@ -1,14 +1,15 @@
 -- `call_rows::put_read` meets its contract: the answer decides.
 -- Assumes nothing.
-use mathlib.Core.Path.{◌≡◌, sym, ◌∙◌, ap}
+use mathlib.Core.Path.{◌≡◌, refl, sym, ◌∙◌, ap}
 use Prim.Native.Nat.{ℕ, ◌≤◌}
 use native.Mathlib.Omega.{arith}
-use lib.ListN.{length, take}
+use lib.ListN.{length, take, replicate}
 use Rattle.laws.proofs.Parts.{front_count}
 use Rattle.slots.specs.declared.Head.{Head}
 use Rattle.slots.specs.Calls.{size_at_head}
 use Rattle.packing.specs.Store.{places_in}
 use Rattle.answers.specs.Rows.{run_row}
+use Rattle.call_rows.specs.Rooms.{read_room}
 use Rattle.call_rows.specs.Rows.{read_row}
 use Rattle.call_rows.proofs.Wrote.{fresh, read_refused, read_row_lem}
 use Rattle.call_rows.proofs.put_read.Goals.{After-head_at-head}
@@ -20,7 +21,7 @@ given : (c : After-head_at-head) → let args = c.args in let out = c.read_in-ou
 unfolding size_at_head
 given c =
     let kept = c.read_in-outcome.auto.out in
-    let row = read_row_lem _ _ _ _ _ (fresh _ c.block_room-block.ensures) c.read_in-outcome.ensures.value (sym c.is_done.ensures ∙ c.if-is_done.true) c.read_in-outcome.ensures.out_after kept in
+    let row = read_row_lem _ _ _ _ _ (fresh read_room refl) c.read_in-outcome.ensures.value (sym c.is_done.ensures ∙ c.if-is_done.true) c.read_in-outcome.ensures.out_after kept in
     let size = ap (λ (h : Head). h.size) c.head_at-head.ensures in
     (omega (arith, row.0, kept, size), ap (λ (n : ℕ). run_row (take n c.read_in-outcome.new.out)) size ∙ row.1)
 
@@ -38,5 +39,5 @@ returns-then-is_done c =
 pub returns-else-is_done : goal.returns-else-is_done
 returns-else-is_done c =
     let args = c.args in
-    let row = read_refused args.state (places_in args.four args.store.now) args.slot args.terminal c.block_room-block.result (fresh _ c.block_room-block.ensures) c.read_in-outcome.ensures.value (sym c.is_done.ensures ∙ c.if-is_done.false) in
+    let row = read_refused args.state (places_in args.four args.store.now) args.slot args.terminal (replicate {A = ℕ} read_room 0) (fresh read_room refl) c.read_in-outcome.ensures.value (sym c.is_done.ensures ∙ c.if-is_done.false) in
     record { value = rw row at c.put_answer.ensures.value; out_after = rw row at c.put_answer.ensures.out_after }
