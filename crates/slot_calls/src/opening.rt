@@ -151,7 +151,8 @@ fn down_admitted(
     ensures { number_in result ≡ first_of (open_rules state lent slot size ++ (rule (too_short share (size + 24) (blocks (size + 24))) 21 ∷ [])) }
 {
     open_admitted(state, lent, slot, size)?;
-    applied(states::too_short(share, size), Refusal::BadReceiver)
+    let short = states::too_short(share, size);
+    applied(short, Refusal::BadReceiver)
 }
 
 // Open's refusals, for a store of `lent` bytes.
