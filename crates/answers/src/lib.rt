@@ -12,7 +12,7 @@ ghost use Rattle.answers.specs.WorstRow.{worst_row};
 
 use planning::Worst;
 use refusals::Refusal;
-use segmentation::SizesAnswer;
+use segmentation::Sizes;
 use slots::{Answer, Reason};
 
 // The numbers of the refusals that bring one with them.
@@ -51,33 +51,27 @@ pub fn put_number(number: usize, out: &mut [u8]) -> usize
 }
 
 // The row of a refusal by its number alone.
+#[tactic(auto, unfolding(crate::specs::Rows::refusal_row, crate::specs::Rows::refused_row, lines::specs::Row::row_of, lines::specs::Row::end_of))]
 pub fn put_refusal(refusal: Refusal, out: &mut [u8]) -> usize
     ensures value { result ≡ end_at 0 (refusal_row (number_of refusal)) out.old }
     ensures out_after { out.new ≡ put_at 0 (refusal_row (number_of refusal)) out.old }
 {
-    put_refused(u8::from(refusal), out)
-}
-
-#[tactic(auto, unfolding(crate::specs::Rows::refusal_row, crate::specs::Rows::refused_row, lines::specs::Row::row_of, lines::specs::Row::end_of))]
-fn put_refused(number: u8, out: &mut [u8]) -> usize
-    ensures value { result ≡ end_at 0 (refusal_row number) out.old }
-    ensures out_after { out.new ≡ put_at 0 (refusal_row number) out.old }
-{
-    put_told(b"refused\t", &[usize::from(number)], out)
+    let number = usize::from(u8::from(refusal));
+    put_told(b"refused\t", &[number], out)
 }
 
 // The row of what Sizes answers.
 #[tactic(auto, unfolding(crate::specs::SizesRow::sizes_row, crate::specs::Rows::accepted_row, crate::specs::Rows::refusal_row, segmentation::specs::Sizes::number_of, segmentation::specs::Sizes::values_of, lines::specs::Row::row_of, lines::specs::Row::end_of))]
-pub fn put_sizes(answer: SizesAnswer, out: &mut [u8]) -> usize
+pub fn put_sizes(answer: Result<Sizes, Refusal>, out: &mut [u8]) -> usize
     ensures value { result ≡ end_at 0 (sizes_row answer) out.old }
     ensures out_after { out.new ≡ put_at 0 (sizes_row answer) out.old }
 {
     match answer {
-        SizesAnswer::Given(s) => {
+        Ok(s) => {
             let numbers = [s.blocks, s.longs, s.long, s.shorts, s.short, s.filler];
             put_told(b"ok\t", &numbers, out)
         }
-        SizesAnswer::Refused(number) => put_refused(number, out),
+        Err(refusal) => put_refusal(refusal, out),
     }
 }
 

@@ -6,9 +6,10 @@ use Prim.Native.Nat.{ℕ, suc, ◌+◌, ◌-◌, ◌≤◌, ◌<◌, min}
 use native.Mathlib.Omega.{arith}
 use lib.ListN.{length, take, drop, drop_of_length-le}
 use borrow.Author.Tests.{le-leb, lt-leb}
-use Rattle.std.specs.Prelude.{Some, None}
+use Rattle.std.specs.Prelude.{Some, None, Result}
 use Rattle.laws.proofs.Writing.{Writing, start as begun, same, finish as written_out, count}
-use Rattle.segmentation.specs.declared.SizesAnswer.{SizesAnswer}
+use Rattle.refusals.specs.declared.Refusal.{Refusal}
+use Rattle.segmentation.specs.declared.Sizes.{Sizes}
 use Rattle.segmentation.specs.Sizes.{sizes_answer}
 use Rattle.lines.specs.declared.Progress.{Progress}
 use Rattle.lines.specs.Line.{line_of}
@@ -19,7 +20,7 @@ use Rattle.lines.proofs.Lines.{lines_at}
 use Rattle.lines.proofs.Putting.{wrote, over_room}
 
 -- the row of a line, by what the line says
-pub row_read : (l : List ℕ) {A : ℕ} {answer : SizesAnswer} → line_of 5 l ≡ Some A → answer ≡ sizes_answer A → row_of (answer_fields A answer) ≡ sizes_row l
+pub row_read : (l : List ℕ) {A : ℕ} {answer : Result Sizes Refusal} → line_of 5 l ≡ Some A → answer ≡ sizes_answer A → row_of (answer_fields A answer) ≡ sizes_row l
 unfolding sizes_row line_fields
 row_read l e f = rw (e, f)
 

@@ -1,9 +1,9 @@
 -- The row that answers a line: tab-parted fields and a newline (01, "The sizes program").
 -- Assumes nothing.
-use Rattle.std.specs.Prelude.{true, false, Option, None, Some, List, [], ◌∷◌, ◌++◌, map, ℕ, zero, suc, ◌/◌, ltb}
+use Rattle.std.specs.Prelude.{true, false, Option, None, Some, Result, Ok, Err, List, [], ◌∷◌, ◌++◌, map, ℕ, zero, suc, ◌/◌, ltb}
 use Rattle.lines.specs.Digits.{last_digits}
-use Rattle.segmentation.specs.declared.SizesAnswer.{SizesAnswer}
-use Rattle.segmentation.specs.declared.SizesAnswer.TheVariants.{Given, Refused}
+use Rattle.refusals.specs.declared.Refusal.{Refusal}
+use Rattle.segmentation.specs.declared.Sizes.{Sizes}
 use Rattle.segmentation.specs.Sizes.{sizes_answer, number_of, values_of}
 use Rattle.lines.specs.Line.{line_of}
 
@@ -41,9 +41,9 @@ abbrev pub refused : List ℕ
 refused = 114 ∷ 101 ∷ 102 ∷ 117 ∷ 115 ∷ 101 ∷ 100 ∷ []
 
 -- a refused number prints itself, `refused` and the refusal's number
-unfoldable pub answer_fields : ℕ → SizesAnswer → List (List ℕ)
-answer_fields A (Given s) = map decimal_of (A ∷ values_of (Given s))
-answer_fields A (Refused n) = decimal_of A ∷ refused ∷ decimal_of (number_of (Refused n)) ∷ []
+unfoldable pub answer_fields : ℕ → Result Sizes Refusal → List (List ℕ)
+answer_fields A (Ok s) = map decimal_of (A ∷ values_of (Ok s))
+answer_fields A (Err refusal) = decimal_of A ∷ refused ∷ decimal_of (number_of (Err refusal)) ∷ []
 
 -- an unreadable line is number 15
 unfoldable pub line_fields : Option ℕ → List (List ℕ)

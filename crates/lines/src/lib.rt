@@ -2,6 +2,7 @@
 #![tactic(auto)]
 
 ghost use Rattle.std.specs.Prelude.{◌≡◌, cond, ◌∷◌, [], map, ◌+◌, ◌*◌, ◌<◌, ◌≤◌, min, length, take, drop};
+ghost use Rattle.refusals.specs.Refusals.{number_of};
 ghost use Rattle.lines.specs.Digits.{last_digits, hex_digit_ascii, IsDigitCount};
 ghost use Rattle.lines.specs.Line.{line_of, read_on};
 ghost use Rattle.lines.specs.Numbers.{put_numbers, end_numbers};
@@ -9,7 +10,8 @@ ghost use Rattle.lines.specs.Put.{put_over, put_at, end_at};
 ghost use Rattle.lines.specs.Row.{decimal_of, row_of, tab, newline, refused, answer_fields, sizes_row};
 ghost use Rattle.lines.specs.Text.{line_end, header, row_room, progress_of, rows_over};
 
-use segmentation::SizesAnswer;
+use refusals::Refusal;
+use segmentation::Sizes;
 
 // Where a call of sizes_rows stopped: the first line that it has not answered, and the bytes that it wrote.
 #[derive(Clone, Copy)]
@@ -23,9 +25,6 @@ const MOST_DIGITS: usize = 5;
 
 // Every number of so many digits fits a usize.
 const DIGITS_HELD: usize = 19;
-
-// The number of a line that can't be read.
-const UNREADABLE: usize = 15;
 
 // No number with its tab or newline is longer: 20 digits at most.
 const NUMBER_ROOM: usize = 21;
@@ -195,30 +194,30 @@ fn field_end(more: bool) -> u8
 }
 
 // Ends the row of a refusal, after a first field that ends at `at`.
-fn put_refusal(no: usize, out: &mut [u8], at: usize) -> usize
+fn put_refusal(refusal: Refusal, out: &mut [u8], at: usize) -> usize
     requires { at + 30 ≤ length out.old }
-    ensures value { result ≡ at + length (tab ∷ row_of (refused ∷ decimal_of no ∷ [])) }
-    ensures out_after { out.new ≡ put_over at (tab ∷ row_of (refused ∷ decimal_of no ∷ [])) out.old }
+    ensures value { result ≡ at + length (tab ∷ row_of (refused ∷ decimal_of (number_of refusal) ∷ [])) }
+    ensures out_after { out.new ≡ put_over at (tab ∷ row_of (refused ∷ decimal_of (number_of refusal) ∷ [])) out.old }
 {
     let number = put_bytes(b"\trefused\t", out, at);
-    let end = put_decimal(no, out, number);
+    let end = put_decimal(usize::from(u8::from(refusal)), out, number);
     put_bytes(b"\n", out, end)
 }
 
 // The row of a number's answer.
-fn put_answer(a: usize, answer: SizesAnswer, out: &mut [u8], at: usize) -> usize
+fn put_answer(a: usize, answer: Result<Sizes, Refusal>, out: &mut [u8], at: usize) -> usize
     requires { at + row_room ≤ length out.old }
     ensures value { result ≡ at + length (row_of (answer_fields a answer)) }
     ensures out_after { out.new ≡ put_over at (row_of (answer_fields a answer)) out.old }
 {
     match answer {
-        SizesAnswer::Given(s) => {
+        Ok(s) => {
             let numbers = [a, s.blocks, s.longs, s.long, s.shorts, s.short, s.filler];
             put_numbers(&numbers, out, at)
         }
-        SizesAnswer::Refused(no) => {
+        Err(refusal) => {
             let end = put_decimal(a, out, at);
-            put_refusal(no as usize, out, end)
+            put_refusal(refusal, out, end)
         }
     }
 }
@@ -233,7 +232,7 @@ fn put_row(line: &[u8], out: &mut [u8], at: usize) -> usize
         Some(a) => put_answer(a, segmentation::sizes_for(a), out, at),
         None => {
             let end = put_bytes(b"-", out, at);
-            put_refusal(UNREADABLE, out, end)
+            put_refusal(Refusal::Unreadable, out, end)
         }
     }
 }

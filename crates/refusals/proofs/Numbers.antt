@@ -1,6 +1,7 @@
 -- Laws of the numbers given back: no refusal has the number 0, which is kept for an accepted call, and no two have the same.
 -- Assumes nothing.
-use Rattle.std.specs.Prelude.{◌≡◌, refl, Bool, false, cond, ℕ, eqb, ⊤}
+use native.Mathlib.Omega.{arith}
+use Rattle.std.specs.Prelude.{◌≡◌, refl, ◌≤◌, Bool, false, cond, ℕ, eqb, ⊤}
 use mathlib.Core.Path.{sym, ◌∙◌, ap}
 use Rattle.std.specs.declared.result.Result.{Result}
 use Rattle.std.specs.declared.result.Result.TheVariants.{Ok, Err}
@@ -29,6 +30,28 @@ refusal_ne0 BadControl = refl
 refusal_ne0 Tied = refl
 refusal_ne0 BadPayload = refl
 refusal_ne0 BadReceiver = refl
+
+-- none has a number above 21
+pub number_most : (refusal : Refusal) → number_of refusal ≤ 21
+number_most BadLength = omega arith
+number_most BadBit = omega arith
+number_most BadAllocation = omega arith
+number_most BadVersion = omega arith
+number_most TooShort = omega arith
+number_most NoSlot = omega arith
+number_most OpenAlready = omega arith
+number_most Closed = omega arith
+number_most OtherTerminal = omega arith
+number_most TooManyBlocks = omega arith
+number_most WrongCheck = omega arith
+number_most BadState = omega arith
+number_most NoCodeBlock = omega arith
+number_most Unreadable = omega arith
+number_most BadReport = omega arith
+number_most BadControl = omega arith
+number_most Tied = omega arith
+number_most BadPayload = omega arith
+number_most BadReceiver = omega arith
 
 -- the refusal that has a refusal's number is that refusal
 pub back : (refusal : Refusal) → refusal_of (number_of refusal) ≡ refusal

@@ -4,7 +4,7 @@ use Rattle.std.specs.Prelude.{true, List, ◌++◌, ℕ, length}
 use Rattle.std.specs.declared.result.Result.{Result}
 use Rattle.refusals.specs.declared.Refusal.{Refusal}
 use Rattle.refusals.specs.Refusals.{number_in}
-use Rattle.segmentation.specs.declared.SizesAnswer.{SizesAnswer}
+use Rattle.segmentation.specs.declared.Sizes.{Sizes}
 use Rattle.segmentation.specs.Sizes.{sizes_answer}
 use Rattle.codeword.specs.declared.Grant.{Grant}
 use Rattle.codeword.specs.Build.{build_number, build_output}
@@ -22,7 +22,7 @@ use Rattle.packing.specs.Store.{places_in, in_form}
 use Rattle.statements.specs.Outcome.{Given, Gives}
 
 -- Sizes and New lend nothing
-abbrev pub SizesStatement : ℕ → Given SizesAnswer (Unit {0}) → Type 0
+abbrev pub SizesStatement : ℕ → Given (Result Sizes Refusal) (Unit {0}) → Type 0
 SizesStatement A = Gives (sizes_answer A) tt
 
 abbrev pub BuildStatement : List ℕ → Grant → List ℕ → Given ℕ (List ℕ) → Type 0

@@ -15,14 +15,14 @@ put_refusal-requires c =
     let is_put = looked args.at (decimal_of args.a) args.out.now (omega (arith, short)) (c.put_decimal-end.ensures.value, c.put_decimal-end.ensures.out_after) in
     omega (arith, short, is_put.0, c.put_decimal-end.auto.out)
 
-pub returns-in-Given : goal.returns-in-Given
+pub returns-in-Ok : goal.returns-in-Ok
 unfolding answer_fields values_of
-returns-in-Given c = record { value = rw c.in-Given.is c.put_numbers.ensures.value; out_after = rw c.in-Given.is c.put_numbers.ensures.out_after }
+returns-in-Ok c = record { value = rw c.in-Ok.is c.put_numbers.ensures.value; out_after = rw c.in-Ok.is c.put_numbers.ensures.out_after }
 
-pub returns-in-Refused : goal.returns-in-Refused
+pub returns-in-Err : goal.returns-in-Err
 unfolding answer_fields number_of
-returns-in-Refused c =
+returns-in-Err c =
     let args = c.args in
     let short = decimal_length args.a c.ranges.a.fits in
     let told = row_put args.at (decimal_of args.a) _ args.out.now (omega (arith, short)) (c.put_decimal-end.ensures.value, c.put_decimal-end.ensures.out_after) (c.put_refusal.ensures.value, c.put_refusal.ensures.out_after) c.put_refusal.auto.out in
-    record { value = rw c.in-Refused.is told.0; out_after = rw c.in-Refused.is told.1 }
+    record { value = rw c.in-Err.is told.0; out_after = rw c.in-Err.is told.1 }
