@@ -82,7 +82,7 @@ fn granted(q: usize, n: usize, version: usize, bits: &[u8]) -> Grant
 
 // The answer by what the owner's rules gave and whether a byte among the bits is no bit, for a store of either form whose rooms have so many code blocks. The
 // state itself is not handed on: all of it would be copied.
-// kept: the form is a flag, constant at each public call, as packing's functions and the definitions (`places_in`) have it; a type for each form would need a trait to say the same.
+// kept: the form is a flag, as in packing's functions and in the definitions (`places_in`); a type for each form would need a trait to say the same.
 fn receive_by(
     four: bool,
     owner: Result<Head, Refusal>,

@@ -15,7 +15,7 @@ fn agreed(old: u8, new: u8) -> u8
 }
 
 // Puts bits at the front of a run in which something was heard everywhere.
-// kept: beside bit_placement's run for any place, whose test is longer for each bit; a function for both would take the test and its law, for a loop of one line.
+// kept: beside bit_placement's run for any place, whose test is longer; one function for both would take a test with its law, for a loop of one line.
 fn agree_run(bits: &[u8], run: &mut [u8])
     requires { (length bits.now ≤ length run.old) × AllKnown bits.now × AllKnown run.old }
     ensures { run.new ≡ put_first (tab (length bits.now) itself) bits.now run.old }

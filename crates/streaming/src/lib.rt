@@ -71,7 +71,7 @@ pub fn streams_packed(
 }
 
 // Its answer for a store of either form. The state stays as it came, and is not handed back with it: all of it would be copied.
-// kept: the form is a flag, constant at each public call, as packing's functions and the definitions (`places_in`) have it; a type for each form would need a trait to say the same.
+// kept: the form is a flag, as in packing's functions and in the definitions (`places_in`); a type for each form would need a trait to say the same.
 fn streams_form(
     four: bool,
     state: State,
