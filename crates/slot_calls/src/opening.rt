@@ -37,11 +37,10 @@ pub fn new(slots: usize, blocks: usize) -> Outcome
 fn all_closed(slots: usize, blocks: usize) -> State
     ensures { result ≡ new_state slots blocks }
 {
-    let head = states::closed_head();
     State {
         slots,
         blocks,
-        heads: [head; 8],
+        heads: [Head::default(); 8],
     }
 }
 
@@ -185,7 +184,7 @@ pub fn close(state: State, slot: usize, terminal: u16) -> Outcome
     match close_admitted(state, slot, terminal) {
         Ok(()) => Outcome {
             answer: Ok(None),
-            state: states::with_head(state, slot, states::closed_head()),
+            state: states::with_head(state, slot, Head::default()),
         },
         Err(refusal) => refused(refusal, state),
     }

@@ -4,7 +4,7 @@ ghost use Rattle.refusals.specs.Refusals.{number_in, rule, first_of};
 ghost use Rattle.segmentation.specs.Segmentation.{blocks};
 ghost use Rattle.segmentation.specs.Sizes.{bad_size};
 ghost use Rattle.codeword.specs.Downlink.{too_short};
-ghost use Rattle.slots.specs.State.{room_length, room_start, closed_head, head_at, too_many, broken, bad_shape, bad_state};
+ghost use Rattle.slots.specs.State.{room_length, room_start, head_at, too_many, broken, bad_shape, bad_state};
 ghost use Rattle.slots.specs.Calls.{store_rules, with_head};
 ghost use Rattle.slot_calls.specs.Owner.{owner_of};
 
@@ -33,19 +33,8 @@ pub(crate) fn room_start(m: usize, slot: usize) -> usize
     slot * room_length(m)
 }
 
-// A closed head: its other numbers are 0.
-pub(crate) fn closed_head() -> Head
-    ensures { result ≡ closed_head }
-{
-    Head {
-        opened: false,
-        terminal: 0,
-        size: 0,
-        share: 0,
-    }
-}
-
-// The head of a slot; a closed one where there is no such slot. Each is read where it stands: for one at a computed place all eight would be copied first.
+// The head of a slot; a closed one where there is no such slot.
+// kept: (b) each is read where it stands: for one at a computed place all eight would be copied first.
 pub fn head_at(state: State, slot: usize) -> Head
     ensures { result ≡ head_at state slot }
 {
@@ -58,7 +47,7 @@ pub fn head_at(state: State, slot: usize) -> Head
         5 => state.heads[5],
         6 => state.heads[6],
         7 => state.heads[7],
-        _ => closed_head(),
+        _ => Head::default(),
     }
 }
 
@@ -80,6 +69,7 @@ pub fn block_count(a: usize) -> usize
 }
 
 // Outside 1 to `most`.
+// kept: (d) `!(1..=most).contains(&x)` is longer, and says less of which end is asked first.
 fn outside(x: usize, most: usize) -> bool
     ensures { result ≡ (eqb x 0 || ltb most x) }
 {

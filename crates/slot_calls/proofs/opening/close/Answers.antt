@@ -6,6 +6,7 @@ use Rattle.refusals.proofs.Numbers.{refusal_ne0}
 use Rattle.slots.specs.Answers.{unless_refused}
 use Rattle.slots.specs.Calls.{close_outcome}
 use Rattle.slots.proofs.Accepted.{closing}
+use Rattle.slot_calls.proofs.Closed.{closed}
 use Rattle.slot_calls.proofs.opening.close.Goals as goal
 
 pub with_head-requires : goal.with_head-requires
@@ -16,7 +17,7 @@ with_head-requires c =
 
 pub returns-in-Ok : goal.returns-in-Ok
 unfolding close_outcome unless_refused
-returns-in-Ok c = rw (c.with_head.ensures, c.closed_head.ensures, ← c.in-Ok.ensures)
+returns-in-Ok c = rw (c.with_head.ensures, closed c.default.ensures, ← c.in-Ok.ensures)
 
 pub returns-in-Err : goal.returns-in-Err
 unfolding close_outcome unless_refused

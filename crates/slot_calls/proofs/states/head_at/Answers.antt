@@ -8,6 +8,7 @@ use Rattle.std.proofs.Common.{rules}
 use Rattle.slots.specs.declared.Head.{Head}
 use Rattle.slots.specs.declared.State.{State}
 use Rattle.slots.specs.State.{closed_head, head_at}
+use Rattle.slot_calls.proofs.Closed.{closed}
 use Rattle.slot_calls.proofs.states.head_at.Goals as goal
 
 -- the head at a place
@@ -51,4 +52,4 @@ unfolding head_at
 returns-in_default c =
     let past : 8 ≤ c.args.slot = omega (arith, c.in_default) in
     let eight : length c.args.state.heads ≡ 8 = search rules in
-    c.closed_head.ensures ∙ sym (get_or-eq_default c.args.state.heads closed_head (omega (arith, past, eight)))
+    closed c.default.ensures ∙ sym (get_or-eq_default c.args.state.heads closed_head (omega (arith, past, eight)))
