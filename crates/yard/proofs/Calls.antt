@@ -13,6 +13,8 @@ use Rattle.packing.specs.Store.{places_in}
 use Rattle.lines.specs.Put.{put_at, end_at}
 use Rattle.requests.specs.declared.Verb.{Verb}
 use Rattle.requests.specs.declared.Verb.TheVariants.{New, Open, OpenDown, Close, Receive, Read, Streams, Build, BuildDown, Sizes, Worst, Pack, Unpack, Nothing, Unreadable}
+use Rattle.std.specs.Prelude.{Some}
+use Rattle.requests.specs.declared.Form.{Form}
 use Rattle.requests.specs.declared.Request.{Request}
 use Rattle.requests.specs.Verbs.{form_of}
 use Rattle.requests.specs.Request.{longest_line, request_of, bits_from}
@@ -33,21 +35,21 @@ unfolding step_made row_made
 made v n terminal bits state four store out e t put = rw (← e, ← t, ← put.0) (refl, (refl, put.1))
 
 -- a terminal and bits make no difference to a verb that has none
-by_form : (v : Verb) (n : List ℕ) {t t' : ℕ} {bits bits' : List ℕ} → ((form_of v).known ≡ true → (form_of v).terminal ≡ true → t ≡ t') → ((form_of v).known ≡ true → (form_of v).bits ≡ true → bits ≡ bits')
+by_form : (v : Verb) (n : List ℕ) {t t' : ℕ} {bits bits' : List ℕ} → ((f : Form) → form_of v ≡ Some f → f.terminal ≡ true → t ≡ t') → ((f : Form) → form_of v ≡ Some f → f.bits ≡ true → bits ≡ bits')
     → (state : State) (four : Bool) (store : List ℕ)
     → (outcome_by v n t bits state (places_in four store) ≡ outcome_by v n t' bits' state (places_in four store))
     × (store_by v n t bits state four store ≡ store_by v n t' bits' state four store)
     × ((o : Outcome) (places : List ℕ) → row_by v n t bits o places ≡ row_by v n t' bits' o places)
 unfolding form_of outcome_by store_by row_by
 by_form New n f g state four store = (refl, refl, λ o places. refl)
-by_form Open n f g state four store = rw (f refl refl) (refl, refl, λ o places. refl)
-by_form OpenDown n f g state four store = rw (f refl refl) (refl, refl, λ o places. refl)
-by_form Close n f g state four store = rw (f refl refl) (refl, refl, λ o places. refl)
-by_form Receive n f g state four store = rw (f refl refl, g refl refl) (refl, refl, λ o places. refl)
-by_form Read n f g state four store = rw (f refl refl) (refl, refl, λ o places. refl)
-by_form Streams n f g state four store = rw (f refl refl) (refl, refl, λ o places. refl)
-by_form Build n f g state four store = rw (g refl refl) (refl, refl, λ o places. refl)
-by_form BuildDown n f g state four store = rw (g refl refl) (refl, refl, λ o places. refl)
+by_form Open n f g state four store = rw (f _ refl refl) (refl, refl, λ o places. refl)
+by_form OpenDown n f g state four store = rw (f _ refl refl) (refl, refl, λ o places. refl)
+by_form Close n f g state four store = rw (f _ refl refl) (refl, refl, λ o places. refl)
+by_form Receive n f g state four store = rw (f _ refl refl, g _ refl refl) (refl, refl, λ o places. refl)
+by_form Read n f g state four store = rw (f _ refl refl) (refl, refl, λ o places. refl)
+by_form Streams n f g state four store = rw (f _ refl refl) (refl, refl, λ o places. refl)
+by_form Build n f g state four store = rw (g _ refl refl) (refl, refl, λ o places. refl)
+by_form BuildDown n f g state four store = rw (g _ refl refl) (refl, refl, λ o places. refl)
 by_form Sizes n f g state four store = (refl, refl, λ o places. refl)
 by_form Worst n f g state four store = (refl, refl, λ o places. refl)
 by_form Pack n f g state four store = (refl, refl, λ o places. refl)
@@ -61,11 +63,11 @@ module _ (line : List ℕ) {request : Request} (read : request ≡ request_of li
   verb_is : (request_of line).verb ≡ request.verb
   verb_is = ap (λ (r : Request). r.verb) (sym read)
 
-  terminal_is : (form_of request.verb).known ≡ true → (form_of request.verb).terminal ≡ true → at request.numbers 1 % 65536 ≡ at request.numbers 1
-  terminal_is known has = omega (arith, rw (← read) at (terminal_fits line request.verb verb_is known has))
+  terminal_is : (f : Form) → form_of request.verb ≡ Some f → f.terminal ≡ true → at request.numbers 1 % 65536 ≡ at request.numbers 1
+  terminal_is f known has = omega (arith, rw (← read) at (terminal_fits line request.verb f verb_is known has))
 
-  bits_are : (form_of request.verb).known ≡ true → (form_of request.verb).bits ≡ true → bits ≡ bits_from line request.bits
-  bits_are known has = given (asked line request.verb verb_is known).short
+  bits_are : (f : Form) → form_of request.verb ≡ Some f → f.bits ≡ true → bits ≡ bits_from line request.bits
+  bits_are f known has = given (asked line request.verb f verb_is known).short
 
   pub line_called : {step : Step} {store' out' : List ℕ}
       → (step ≡ step_made request.verb request.numbers (at request.numbers 1 % 65536) bits state four store out)

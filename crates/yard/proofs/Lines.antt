@@ -5,6 +5,7 @@ use mathlib.Core.Bool.{Bool, true, false, cond}
 use mathlib.Core.List.{List}
 use Prim.Native.Nat.{ℕ, ◌≤◌, ◌<◌}
 use native.Mathlib.Omega.{arith}
+use Rattle.std.specs.Prelude.{Option, None, Some}
 use lib.Dec.{ltb}
 use lib.ListN.{length}
 use borrow.Author.Tests.{lt-ltb, le-ltb}
@@ -14,13 +15,12 @@ use Rattle.lines.proofs.Putting.{end_within}
 use Rattle.requests.specs.declared.Request.{Request}
 use Rattle.requests.specs.Request.{request_of}
 use Rattle.yard.specs.declared.Step.{Step}
-use Rattle.form_changes.specs.declared.Change.{Change}
 use Rattle.form_changes.specs.declared.FormStep.{FormStep}
 use Rattle.form_changes.specs.Change.{plain_changed, packed_changed}
 use Rattle.form_changes.specs.Line.{change_of, change_row, change_made}
 use Rattle.yard.specs.Step.{step_made, call_row, call_step, call_store, row_of_line, change_step, step_of, plain_after, packed_after, out_after, longest_row, step_within, plain_within, packed_within, out_within}
 
-module _ (state : State) (four : Bool) (plain packed line out : List ℕ) {request : Request} (read : request ≡ request_of line) {change : Change} (asks : change ≡ change_of request.verb) where
+module _ (state : State) (four : Bool) (plain packed line out : List ℕ) {request : Request} (read : request ≡ request_of line) {change : Option Bool} (asks : change ≡ change_of request.verb) where
   -- the step, both stores and the output
   abbrev Told : Step → List ℕ → List ℕ → List ℕ → Type 0
   Told step plain' packed' out' =
@@ -31,22 +31,22 @@ module _ (state : State) (four : Bool) (plain packed line out : List ℕ) {reque
   verb_is : (request_of line).verb ≡ request.verb
   verb_is = ap (λ (r : Request). r.verb) (sym read)
 
-  pub by_change : change.changes ≡ true → {changed : FormStep} (plain' packed' out' : List ℕ)
-      → (changed ≡ change_made state four change.packs (length plain) (length packed) out)
-      × ((plain' ≡ plain_changed state four change.packs plain packed)
-      × ((packed' ≡ packed_changed state four change.packs plain packed) × (out' ≡ put_at 0 (change_row state (length plain) (length packed)) out)))
+  pub by_change : {to : Bool} → change ≡ Some to → {changed : FormStep} (plain' packed' out' : List ℕ)
+      → (changed ≡ change_made state four to (length plain) (length packed) out)
+      × ((plain' ≡ plain_changed state four to plain packed)
+      × ((packed' ≡ packed_changed state four to plain packed) × (out' ≡ put_at 0 (change_row state (length plain) (length packed)) out)))
       → Told (record { state = state; four = changed.four; written = changed.written }) plain' packed' out'
   unfolding step_of plain_after packed_after out_after row_of_line change_step change_made
   by_change does plain' packed' out' made = rw (verb_is, ← asks, does)
       (ap (λ (x : FormStep). record { state = state; four = x.four; written = x.written }) made.0, made.1)
 
-  pub by_packed_call : change.changes ≡ false → four ≡ true → (step : Step) (packed' out' : List ℕ)
+  pub by_packed_call : change ≡ None → four ≡ true → (step : Step) (packed' out' : List ℕ)
       → (step ≡ call_step state true packed line out) × ((packed' ≡ call_store state true packed line) × (out' ≡ put_at 0 (call_row state true packed line) out))
       → Told step plain packed' out'
   unfolding step_of plain_after packed_after out_after row_of_line
   by_packed_call none f step packed' out' made = rw (verb_is, ← asks, none, f) (made.0, (refl, (made.1.0, made.1.1)))
 
-  pub by_plain_call : change.changes ≡ false → four ≡ false → (step : Step) (plain' out' : List ℕ)
+  pub by_plain_call : change ≡ None → four ≡ false → (step : Step) (plain' out' : List ℕ)
       → (step ≡ call_step state false plain line out) × ((plain' ≡ call_store state false plain line) × (out' ≡ put_at 0 (call_row state false plain line) out))
       → Told step plain' packed out'
   unfolding step_of plain_after packed_after out_after row_of_line
@@ -56,11 +56,11 @@ module _ (state : State) (four : Bool) (plain packed line out : List ℕ) {reque
 pub step_row : (state : State) (four : Bool) (plain packed line out : List ℕ)
     → (step_of state four plain packed line out).written ≡ end_at 0 (row_of_line state four plain packed line) out
 unfolding step_of row_of_line change_step call_step call_row step_made
-step_row state four plain packed line out = go (change_of (request_of line).verb).changes refl
+step_row state four plain packed line out = go (change_of (request_of line).verb) refl
   where
-    go : (t : Bool) → (change_of (request_of line).verb).changes ≡ t → (step_of state four plain packed line out).written ≡ end_at 0 (row_of_line state four plain packed line) out
-    go true e = simp e
-    go false e = simp e
+    go : (asked : Option Bool) → change_of (request_of line).verb ≡ asked → (step_of state four plain packed line out).written ≡ end_at 0 (row_of_line state four plain packed line) out
+    go None e = simp e
+    go (Some to) e = simp e
 
 -- ---- only where the answer is sure to fit
 

@@ -1,7 +1,7 @@
 -- A line of the yard's log as one call of 01 on a state and the rooms in one of two stores, or as a change of their form (02, E7): the answer's row,
 -- and the state, the form and both stores afterwards.
 -- Assumes nothing.
-use Rattle.std.specs.Prelude.{Bool, false, true, cond, List, ℕ, ltb, length}
+use Rattle.std.specs.Prelude.{Bool, false, true, cond, Option, None, Some, List, ℕ, ltb, length}
 use Rattle.slots.specs.declared.State.{State}
 use Rattle.packing.specs.Store.{places_in}
 use Rattle.lines.specs.Put.{put_at, end_at}
@@ -50,11 +50,16 @@ call_store state four store line =
 
 -- ---- a line on both stores: the rooms stand in the plain one, or with four places a byte in the packed one
 
+-- what a change of form gives, where a line asks for one, else what its call gives
+abbrev pub by_change : {A : Type 0} → Option Bool → (Bool → A) → A → A
+by_change None changed called = called
+by_change (Some to) changed called = changed to
+
 -- the row that answers a line
 unfoldable pub row_of_line : State → Bool → List ℕ → List ℕ → List ℕ → List ℕ
 row_of_line state four plain packed line =
-    cond (change_of (request_of line).verb).changes
-    (change_row state (length plain) (length packed))
+    by_change (change_of (request_of line).verb)
+    (λ to. change_row state (length plain) (length packed))
     (call_row state four (cond four packed plain) line)
 
 -- the step that a change of form makes
@@ -69,21 +74,21 @@ change_step state four to plain packed out =
 -- the step that a line makes
 unfoldable pub step_of : State → Bool → List ℕ → List ℕ → List ℕ → List ℕ → Step
 step_of state four plain packed line out =
-    cond (change_of (request_of line).verb).changes
-    (change_step state four (change_of (request_of line).verb).packs (length plain) (length packed) out)
+    by_change (change_of (request_of line).verb)
+    (λ to. change_step state four to (length plain) (length packed) out)
     (call_step state four (cond four packed plain) line out)
 
 -- the two stores afterwards
 unfoldable pub plain_after : State → Bool → List ℕ → List ℕ → List ℕ → List ℕ
 plain_after state four plain packed line =
-    cond (change_of (request_of line).verb).changes
-    (plain_changed state four (change_of (request_of line).verb).packs plain packed)
+    by_change (change_of (request_of line).verb)
+    (λ to. plain_changed state four to plain packed)
     (cond four plain (call_store state false plain line))
 
 unfoldable pub packed_after : State → Bool → List ℕ → List ℕ → List ℕ → List ℕ
 packed_after state four plain packed line =
-    cond (change_of (request_of line).verb).changes
-    (packed_changed state four (change_of (request_of line).verb).packs plain packed)
+    by_change (change_of (request_of line).verb)
+    (λ to. packed_changed state four to plain packed)
     (cond four (call_store state true packed line) packed)
 
 -- the output with the row over its front, where it fits

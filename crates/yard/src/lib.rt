@@ -64,20 +64,23 @@ fn line_on(
     ensures out_after { out.new ≡ out_after state four plain.old packed.old line.now out.old }
 {
     let request = requests::read_request(line);
-    let verb = request.verb;
-    let change = form_changes::change_of(verb);
-    if change.changes {
-        let changed = form_changes::change_line(state, four, change.packs, plain, packed, out);
-        return Step {
-            state,
-            four: changed.four,
-            written: changed.written,
-        };
+    match form_changes::change_of(request.verb) {
+        Some(to) => {
+            let changed = form_changes::change_line(state, four, to, plain, packed, out);
+            Step {
+                state,
+                four: changed.four,
+                written: changed.written,
+            }
+        }
+        None => {
+            if four {
+                call_line(state, true, request, line, packed, out)
+            } else {
+                call_line(state, false, request, line, plain, out)
+            }
+        }
     }
-    if four {
-        return call_line(state, true, request, line, packed, out);
-    }
-    call_line(state, false, request, line, plain, out)
 }
 
 // Makes a call on the store that has the rooms, in its form, with the line's BITS where it has them. A line's terminal has no more than 16 bits, and of
