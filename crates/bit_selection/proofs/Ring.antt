@@ -29,47 +29,58 @@ use Rattle.bit_selection.proofs.UnitBits.{unit_few}
 
 -- ---- a column: row q is so far below the first
 
-pub column_next : (y : List ℕ) (from : ℕ) {part₀ part : List ℕ} {q : ℕ} → q < length part → length part ≡ length part₀
+pub column_next : (y : List ℕ) (from : ℕ) {part₀ part : List ℕ} {below q : ℕ} → below ≡ 32 * q → q < length part → length part ≡ length part₀
     → Writing part₀ part q (tab_from q (length part₀ - q) (every_row y from)) (tab (length part₀) (every_row y from))
-    → Writing part₀ (set part q (get_or y (from + 32 * q) 0)) (q + 1) (tab_from (q + 1) (length part₀ - (q + 1)) (every_row y from)) (tab (length part₀) (every_row y from))
+    → Writing part₀ (set part q (get_or y (from + below) 0)) (q + 1) (tab_from (q + 1) (length part₀ - (q + 1)) (every_row y from)) (tab (length part₀) (every_row y from))
 unfolding every_row
-column_next y from {part₀} {part} {q} h l w = push h (same (rest_more q (length part₀) (every_row y from) (omega arith)) w)
+column_next y from {part₀} {part} {below} {q} e h l w =
+    push h (same (rest_more q (length part₀) (every_row y from) (omega arith) ∙ ap (λ (a : ℕ). get_or y (from + a) 0 ∷ tab_from (q + 1) (length part₀ - (q + 1)) (every_row y from)) (sym e)) w)
 
--- ---- two columns by turns
+-- ---- two columns by turns: k entries are written, k even
 
-pair_first : (d1 d2 : List ℕ) (from q : ℕ) → pair_row d1 d2 from (2 * q) ≡ get_or d1 (from + 32 * q) 0
+pair_first : (d1 d2 : List ℕ) (from k : ℕ) → k % 2 ≡ 0 → pair_row d1 d2 from k ≡ get_or d1 (from + 16 * k) 0
 unfolding pair_row every_row
-pair_first d1 d2 from q =
-    let i : from + 32 * (2 * q / 2) ≡ from + 32 * q = omega arith in
-    simp (eq-eqb (2 * q % 2) 0 (omega arith)) (ap (λ (n : ℕ). get_or d1 n 0) i)
+pair_first d1 d2 from k e =
+    let i : from + 32 * (k / 2) ≡ from + 16 * k = omega arith in
+    simp (eq-eqb (k % 2) 0 e) (ap (λ (n : ℕ). get_or d1 n 0) i)
 
-pair_second : (d1 d2 : List ℕ) (from q : ℕ) → pair_row d1 d2 from (2 * q + 1) ≡ get_or d2 (from + 32 * q + 1) 0
+pair_second : (d1 d2 : List ℕ) (from k : ℕ) → k % 2 ≡ 0 → pair_row d1 d2 from (k + 1) ≡ get_or d2 (from + 16 * k + 1) 0
 unfolding pair_row every_row
-pair_second d1 d2 from q =
-    let i : from + 1 + 32 * ((2 * q + 1) / 2) ≡ from + 32 * q + 1 = omega arith in
-    simp (ne_eqb ((2 * q + 1) % 2) 0 (λ z. omega arith)) (ap (λ (n : ℕ). get_or d2 n 0) i)
+pair_second d1 d2 from k e =
+    let i : from + 1 + 32 * ((k + 1) / 2) ≡ from + 16 * k + 1 = omega arith in
+    simp (ne_eqb ((k + 1) % 2) 0 (λ z. omega arith)) (ap (λ (n : ℕ). get_or d2 n 0) i)
 
--- q rows of both are written
-pub record Pairing (d1 d2 : List ℕ) (from : ℕ) (part₀ part : List ℕ) (q : ℕ) : Type 0 where
-  pub wrote : Writing part₀ part (2 * q) (tab_from (2 * q) (length part₀ - 2 * q) (pair_row d1 d2 from)) (tab (length part₀) (pair_row d1 d2 from))
+pub record Pairing (d1 d2 : List ℕ) (from : ℕ) (part₀ part : List ℕ) (below k : ℕ) : Type 0 where
+  pub even : k % 2 ≡ 0
+  pub place : below ≡ 16 * k
+  pub within : k ≤ length part₀
+  pub wrote : Writing part₀ part k (tab_from k (length part₀ - k) (pair_row d1 d2 from)) (tab (length part₀) (pair_row d1 d2 from))
 
-pub pairing_start : {d1 d2 : List ℕ} {from : ℕ} {part : List ℕ} → Pairing d1 d2 from part part 0
-pairing_start {d1} {d2} {from} {part} = record { wrote = same (sym (tab_rest (length part) (pair_row d1 d2 from))) start }
+pub pairing_start : {d1 d2 : List ℕ} {from : ℕ} {part : List ℕ} → Pairing d1 d2 from part part 0 0
+pairing_start {d1} {d2} {from} {part} = record { even = refl; place = omega arith; within = omega arith; wrote = same (sym (tab_rest (length part) (pair_row d1 d2 from))) start }
 
-module _ {d1 d2 : List ℕ} {from : ℕ} {part₀ part : List ℕ} {q : ℕ} (p : Pairing d1 d2 from part₀ part q) where
-  -- `part[2 * q] = d1[from.1 + 32 * q]`
-  pub pair_one : 2 * q < length part
-      → Writing part₀ (set part (2 * q) (get_or d1 (from + 32 * q) 0)) (2 * q + 1) (tab_from (2 * q + 1) (length part₀ - (2 * q + 1)) (pair_row d1 d2 from)) (tab (length part₀) (pair_row d1 d2 from))
-  pair_one h = push h (same (rest_more (2 * q) (length part₀) (pair_row d1 d2 from) (omega (arith, p.wrote.long)) ∙ ap (λ (x : ℕ). x ∷ tab_from (2 * q + 1) (length part₀ - (2 * q + 1)) (pair_row d1 d2 from)) (pair_first d1 d2 from q)) p.wrote)
+module _ {d1 d2 : List ℕ} {from : ℕ} {part₀ part : List ℕ} {below k : ℕ} (p : Pairing d1 d2 from part₀ part below k) where
+  -- `part[k] = d1[from.1 + below]`
+  pub pair_one : k < length part → Writing part₀ (set part k (get_or d1 (from + below) 0)) (k + 1) (tab_from (k + 1) (length part₀ - (k + 1)) (pair_row d1 d2 from)) (tab (length part₀) (pair_row d1 d2 from))
+  pair_one h = push h (same (rest_more k (length part₀) (pair_row d1 d2 from) (omega (arith, p.wrote.long)) ∙ ap (λ (x : ℕ). x ∷ tab_from (k + 1) (length part₀ - (k + 1)) (pair_row d1 d2 from)) entry) p.wrote)
+    where
+      entry : pair_row d1 d2 from k ≡ get_or d1 (from + below) 0
+      entry = pair_first d1 d2 from k p.even ∙ ap (λ (n : ℕ). get_or d1 (from + n) 0) (sym p.place)
 
-  -- `part[2 * q + 1] = d2[from.1 + 32 * q + 1]` after it
-  pub pair_next : 2 * q + 1 < length part → Pairing d1 d2 from part₀ (set (set part (2 * q) (get_or d1 (from + 32 * q) 0)) (2 * q + 1) (get_or d2 (from + 32 * q + 1) 0)) (q + 1)
+  -- `part[k + 1] = d2[from.1 + below + 1]; below += 32; k += 2` after it
+  pub pair_next : k + 1 < length part → Pairing d1 d2 from part₀ (set (set part k (get_or d1 (from + below) 0)) (k + 1) (get_or d2 (from + below + 1) 0)) (below + 32) (k + 2)
   pair_next h = record {
-    wrote = rw two (push (rw length-set h) (same (rest_more (2 * q + 1) (length part₀) (pair_row d1 d2 from) (omega (arith, p.wrote.long)) ∙ ap (λ (x : ℕ). x ∷ tab_from (2 * q + 1 + 1) (length part₀ - (2 * q + 1 + 1)) (pair_row d1 d2 from)) (pair_second d1 d2 from q)) (pair_one (omega arith))));
+    even = omega (arith, p.even);
+    place = omega (arith, p.place);
+    within = omega (arith, p.wrote.long);
+    wrote = rw two (push (rw length-set h) (same (rest_more (k + 1) (length part₀) (pair_row d1 d2 from) (omega (arith, p.wrote.long)) ∙ ap (λ (x : ℕ). x ∷ tab_from (k + 1 + 1) (length part₀ - (k + 1 + 1)) (pair_row d1 d2 from)) entry) (pair_one (omega arith))));
   }
     where
-      two : 2 * (q + 1) ≡ 2 * q + 1 + 1
+      two : k + 2 ≡ k + 1 + 1
       two = omega arith
+
+      entry : pair_row d1 d2 from (k + 1) ≡ get_or d2 (from + below + 1) 0
+      entry = pair_second d1 d2 from k p.even ∙ ap (λ (n : ℕ). get_or d2 (from + n + 1) 0) (sym p.place)
 
 -- ---- a part of the ring
 

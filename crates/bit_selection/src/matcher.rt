@@ -37,27 +37,36 @@ struct Streams<'a> {
 }
 
 // One column of a stream: every 32nd entry from a place on.
+// kept: the entry is counted beside the row, since with a `for` over the rows here and below a short block, whose columns have few rows, took a fourth longer.
 fn read_column(d: &[u8], from: StreamPlace, part: &mut [u8])
     requires { from.1 + 32 * length part.old ≤ length d.now + 31 }
     ensures { part.new ≡ tab (length part.old) (every_row d.now from.1) }
 {
-    for q in 0..part.len() {
-        part[q] = d[from.1 + 32 * q];
+    let mut below = 0;
+    let mut q = 0;
+    while q < part.len() {
+        part[q] = d[from.1 + below];
+        below += 32;
+        q += 1;
     }
 }
 
 // A column of d(1) and the same column of d(2), one further, by turns.
+// kept: the same.
 fn read_pairs(d1: &[u8], d2: &[u8], from: StreamPlace, part: &mut [u8])
     requires { (from.1 + 32 * ((length part.old + 1) / 2) ≤ length d1.now + 31) × (from.1 + 32 * (length part.old / 2) ≤ length d2.now + 30) }
     ensures { part.new ≡ tab (length part.old) (pair_row d1.now d2.now from.1) }
 {
-    let pairs = part.len() / 2;
-    for q in 0..pairs {
-        part[2 * q] = d1[from.1 + 32 * q];
-        part[2 * q + 1] = d2[from.1 + 32 * q + 1];
+    let mut below = 0;
+    let mut k = 0;
+    while k + 1 < part.len() {
+        part[k] = d1[from.1 + below];
+        part[k + 1] = d2[from.1 + below + 1];
+        below += 32;
+        k += 2;
     }
-    if part.len() % 2 == 1 {
-        part[2 * pairs] = d1[from.1 + 32 * pairs];
+    if k < part.len() {
+        part[k] = d1[from.1 + below];
     }
 }
 
@@ -92,12 +101,14 @@ fn put_columns(of: Streams, from: usize, to: usize, ring: &mut [u8], n: usize, m
         (unit_start (rows (length of.entry.d0.now)) to - unit_start (rows (length of.entry.d0.now)) from)
         ring.old n ring.new result }
 {
+    let d = of.d0.len();
+    let filler = of.filler;
     let mut end = n;
     for u in from..to {
         if most <= end {
             return end;
         }
-        let unit = column_unit_at(of.d0.len(), of.filler, u).unwrap();
+        let unit = column_unit_at(d, filler, u).unwrap();
         end = put_column(of, unit, ring, end);
     }
     end
@@ -111,12 +122,14 @@ fn put_pairs(of: Streams, from: usize, to: usize, ring: &mut [u8], n: usize, mos
         (unit_start (rows (length of.entry.d0.now)) to - unit_start (rows (length of.entry.d0.now)) from)
         ring.old n ring.new result }
 {
+    let d = of.d0.len();
+    let filler = of.filler;
     let mut end = n;
     for u in from..to {
         if most <= end {
             return end;
         }
-        let unit = pair_unit_at(of.d0.len(), of.filler, u - 32).unwrap();
+        let unit = pair_unit_at(d, filler, u - 32).unwrap();
         end = put_pair(of, unit, ring, end);
     }
     end

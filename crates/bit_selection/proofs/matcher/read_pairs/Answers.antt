@@ -1,23 +1,28 @@
-use mathlib.Core.Path.{◌≡◌, sym}
-use Prim.Native.Nat.{◌/◌}
+use mathlib.Core.Path.{◌∙◌}
 use native.Mathlib.Omega.{arith}
-use lib.ListN.{length, length-set}
+use lib.ListN.{length-set}
 use Rattle.laws.proofs.Tab.{rest_none}
 use Rattle.laws.proofs.Writing.{finish_all}
 use Rattle.bit_selection.proofs.Ring.{pairing_start, pair_one, pair_next}
 use Rattle.bit_selection.proofs.matcher.read_pairs.Goals as goal
 
-pub loop-q-init : goal.loop-q-init
-loop-q-init c = pairing_start
+pub loop-k-init : goal.loop-k-init
+loop-k-init c = pairing_start
 
-pub loop-q-preserved : goal.loop-q-preserved
-loop-q-preserved c = pair_next c.loop-q.invariant (omega arith)
+pub bounds-part-k-in-loop-k : goal.bounds-part-k-in-loop-k
+bounds-part-k-in-loop-k c = simp length-set (omega arith)
 
-pub returns-then-part-eq1 : goal.returns-then-part-eq1
-returns-then-part-eq1 c =
-    let l = c.loop-q in
-    let all : l.q ≡ length c.args.part.now / 2 = omega arith in
-    rw (sym all) (finish_all (simp length-set (omega arith)) (rest_none _ _ _ (omega (arith, l.invariant.wrote.long))) (pair_one l.invariant (omega arith)))
+pub loop-k-preserved : goal.loop-k-preserved
+loop-k-preserved c = pair_next c.loop-k.invariant (omega arith)
 
-pub returns-else-part-eq1 : goal.returns-else-part-eq1
-returns-else-part-eq1 c = finish_all (omega arith) (rest_none _ _ _ (omega (arith, c.loop-q.invariant.wrote.long))) c.loop-q.invariant.wrote
+pub shape_of-part-then-k-part : goal.shape_of-part-then-k-part
+shape_of-part-then-k-part c = let l = c.loop-k in length-set l.part l.k _ ∙ l.invariant.wrote.long
+
+pub returns-then-k-part : goal.returns-then-k-part
+returns-then-k-part c = let l = c.loop-k in finish_all (simp length-set (omega arith)) (rest_none _ _ _ (omega (arith, l.invariant.wrote.long))) (pair_one l.invariant (omega arith))
+
+pub shape_of-part-else-k-part : goal.shape_of-part-else-k-part
+shape_of-part-else-k-part c = c.loop-k.invariant.wrote.long
+
+pub returns-else-k-part : goal.returns-else-k-part
+returns-else-k-part c = finish_all (omega arith) (rest_none _ _ _ (omega (arith, c.loop-k.invariant.wrote.long))) c.loop-k.invariant.wrote
