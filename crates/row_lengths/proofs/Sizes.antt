@@ -9,18 +9,20 @@ use native.Mathlib.Omega.{arith}
 use lib.Dec.{eqb}
 use lib.ListN.{length}
 use borrow.Author.Tests.{eqb-true}
-use Rattle.segmentation.specs.declared.SizesAnswer.TheVariants.{Given, Refused}
+use Rattle.std.specs.Prelude.{Ok, Err}
+use Rattle.refusals.specs.declared.Refusal.TheVariants.{BadLength}
+use Rattle.refusals.specs.Refusals.{refusal_of, number_of as number}
+use Rattle.refusals.proofs.Numbers.{number_most}
 use Rattle.segmentation.specs.Segmentation.{blocks, longs, long, shorts, short, filler}
 use Rattle.segmentation.specs.Sizes.{bad_size, sizes_of, sizes_answer, number_of, values_of}
 use Rattle.segmentation.proofs.Segmentation.{in_range, blocks_most, shorts_fewer, long_most, short_is, no_shorts, filler_most}
-use Rattle.planning.specs.declared.WorstAnswer.TheVariants.{Given as WorstGiven, Refused as WorstRefused}
 use Rattle.planning.specs.Least.{least_bits}
-use Rattle.planning.specs.Worst.{least_of_three, least_of_one, worst_number, worst_answer, need_in, number_of as worstNumberOf, values_of as worstValuesOf}
+use Rattle.planning.specs.Worst.{least_of_three, least_of_one, worst_number, worst_answer, need_in, values_of as worst_values_of}
 use Rattle.planning.proofs.Numbers.{planned, small}
+use Rattle.answers.specs.Rows.{refusal_row}
 use Rattle.answers.specs.SizesRow.{sizes_row}
 use Rattle.answers.specs.WorstRow.{worst_row}
 use Rattle.row_lengths.proofs.Numbers.{accepted_length, refused_length}
-use Rattle.row_lengths.proofs.Refusals.{worst_most}
 
 -- ---- Sizes
 
@@ -35,7 +37,7 @@ module _ (B : ℕ) (high : B ≤ 30600) where
   unfolding longs
   longs_most = omega (arith, blocks_most B high)
 
-  given_length : length (sizes_row (Given (record { blocks = blocks B; longs = longs B; long = long B; shorts = shorts B; short = short B; filler = filler B }))) ≤ 129
+  given_length : length (sizes_row (Ok (record { blocks = blocks B; longs = longs B; long = long B; shorts = shorts B; short = short B; filler = filler B }))) ≤ 129
   unfolding sizes_row values_of
   given_length =
       omega (
@@ -56,7 +58,7 @@ pub sizes_length : (A : ℕ) → length (sizes_row (sizes_answer A)) ≤ 129
 unfolding sizes_answer sizes_of sizes_row number_of values_of
 sizes_length A = go (bad_size A) refl
   where
-    go : (t : Bool) → bad_size A ≡ t → length (sizes_row (cond t (Refused 1) (Given (sizes_of A)))) ≤ 129
+    go : (t : Bool) → bad_size A ≡ t → length (sizes_row (cond t (Err BadLength) (Ok (sizes_of A)))) ≤ 129
     go true e = omega (arith, refused_length 1 [] (omega arith) tt)
     go false e = given_length (A + 24) (omega (arith, in_range A e))
 
@@ -72,15 +74,15 @@ module _ (A Q N : ℕ) (accepted : worst_number A Q N ≡ 0) where
   one_most = small A (N * Q) true (planned A Q N accepted) refl
 
 pub worst_length : (A Q N : ℕ) → length (worst_row (worst_answer A Q N)) ≤ 129
-unfolding worst_answer worst_row worstNumberOf worstValuesOf
+unfolding worst_answer worst_row worst_values_of refusal_row
 worst_length A Q N = go (eqb (worst_number A Q N) 0) refl
   where
     go : (t : Bool) → eqb (worst_number A Q N) 0 ≡ t
-        → length (worst_row (cond t (WorstGiven (record { three = least_of_three A Q N; one = least_of_one A Q N })) (WorstRefused (worst_number A Q N)))) ≤ 129
+        → length (worst_row (cond t (Ok (record { three = least_of_three A Q N; one = least_of_one A Q N })) (Err (refusal_of (worst_number A Q N))))) ≤ 129
     go true e =
         let accepted : worst_number A Q N ≡ 0 = eqb-true (worst_number A Q N) 0 e in
         omega (
           arith,
           accepted_length (least_of_three A Q N ∷ least_of_one A Q N ∷ []) (omega (arith, three_most A Q N accepted), (omega (arith, one_most A Q N accepted), tt)),
         )
-    go false e = omega (arith, refused_length (worst_number A Q N) [] (omega (arith, worst_most A Q N)) tt)
+    go false e = omega (arith, refused_length (number (refusal_of (worst_number A Q N))) [] (omega (arith, number_most (refusal_of (worst_number A Q N)))) tt)

@@ -1,7 +1,7 @@
 -- `turns::meet_turns` meets its contract: the turns passed have met in the ring, and the others are left (`Left`).
 -- Assumes nothing.
 use mathlib.Core.Path.{◌≡◌}
-use Rattle.core.specs.Slice.Iter.{chunks_rest, chunks_size}
+use Rattle.std.specs.Slice.Iter.{chunks_rest, chunks_size}
 use Rattle.reception.proofs.Left.{Left}
 use Rattle.reception.proofs.turns.meet_turns.Given as goal
 
