@@ -1,9 +1,9 @@
 // The answers to a log as it comes in: a turn takes what a read brought, answers the line that stands there and goes on to the next one.
 #![tactic(auto)]
 
-ghost use Rattle.std.specs.Prelude.{◌≡◌, ◌≤◌, ◌<◌, length};
+ghost use Rattle.std.specs.Prelude.{◌≡◌, ◌≤◌, length};
 ghost use Rattle.log_input.specs.Line.{Stands};
-ghost use Rattle.log_answers.specs.Turn.{first_log, step_answered, plain_answered, packed_answered, out_answered, log_turned, text_turned, plain_turned, packed_turned, out_turned, turns_left};
+ghost use Rattle.log_answers.specs.Turn.{first_log, step_answered, plain_answered, packed_answered, out_answered, log_turned, text_turned, plain_turned, packed_turned, out_turned};
 
 use log_input::Line;
 use yard::Step;
@@ -86,18 +86,4 @@ fn answer_line(
         };
     }
     yard::replay_line(state, four, &text[from..to], plain, packed, out)
-}
-
-// How many turns are left after one of so many: none where its answer could not be written or no line is left.
-pub fn turns_left(turns: u64, going: bool, line: Line) -> u64
-    ensures value { result ≡ turns_left turns going line }
-    ensures upper_bound { 0 < turns → result < turns }
-{
-    if turns == 0 {
-        return 0;
-    }
-    if log_input::nothing_is_left(line) {
-        return 0;
-    }
-    if going { turns - 1 } else { 0 }
 }
