@@ -4,6 +4,7 @@
 ghost use Rattle.std.specs.Prelude.{◌≤◌, length};
 
 use log_input::Line;
+use std::io;
 use std::io::Read;
 
 fn main(rt: HostRuntime) {
@@ -11,7 +12,10 @@ fn main(rt: HostRuntime) {
     let mut plain = plain_store();
     let mut packed = packed_store();
     let mut out = answer_buffer();
-    replay_log(&rt, &mut text, &mut plain, &mut packed, &mut out);
+    // So that a replay cut short does not look whole, it says so.
+    if replay_log(&rt, &mut text, &mut plain, &mut packed, &mut out).is_err() {
+        let _ = eprintln!(rt; "replay: the output can't be written; answers are missing");
+    }
 }
 
 // For the longest line that is read, and what comes behind it.
@@ -34,26 +38,26 @@ fn answer_buffer() -> [u8; 172804] {
     [0; 172804]
 }
 
-// Answers the log's lines. A proved loop has to end, and nothing says that an input does: so it counts its turns down, from a number that no run uses
-// up.
+// Answers the log's lines, until no line is left or the output can't be written. A proved loop has to end, and nothing says that an input does: so it
+// has as many turns as no run uses up.
 fn replay_log(
     rt: &HostRuntime,
     text: &mut [u8],
     plain: &mut [u8],
     packed: &mut [u8],
     out: &mut [u8],
-) {
+) -> io::Result<()> {
     let mut log = log_answers::begun();
-    let mut first = true;
-    let mut turns = u64::MAX;
-    while 0 < turns {
-        let count = read_on(rt, log.line, first, text);
+    for turn in 0..u64::MAX {
+        let count = read_on(rt, log.line, turn == 0, text);
         log = log_answers::turn(log, count, text, plain, packed, out);
         let written = log.step.written;
-        let going = put_out(rt, &out[..written]);
-        first = false;
-        turns = log_answers::turns_left(turns, going, log.line);
+        rt.write_all(&out[..written])?;
+        if log_input::nothing_is_left(log.line) {
+            break;
+        }
     }
+    Ok(())
 }
 
 // One read behind a line that goes on: how many bytes came, 0 at the end and where the input can't be read. The first of a log tells of its line ends.
@@ -78,13 +82,4 @@ fn tell_line_ends(rt: &HostRuntime, text: &[u8]) {
             "replay: the log's lines end in carriage returns; they are refused with 15"
         );
     }
-}
-
-// Writes to standard output. So that a replay cut short does not look whole, it says so.
-fn put_out(rt: &HostRuntime, row: &[u8]) -> bool {
-    let going = rt.write_all(row).is_ok();
-    if !going {
-        let _ = eprintln!(rt; "replay: the output can't be written; answers are missing");
-    }
-    going
 }

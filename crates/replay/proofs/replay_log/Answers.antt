@@ -4,6 +4,6 @@ use Rattle.log_answers.specs.declared.Log.{Log}
 use Rattle.log_answers.specs.Turn.{first_log}
 use Rattle.replay.proofs.replay_log.Goals as goal
 
-pub loop-turns-init : goal.loop-turns-init
+pub loop-turn-init : goal.loop-turn-init
 unfolding first_log
-loop-turns-init c = omega (arith, ap (λ (l : Log). l.line.end) c.begun-log.ensures)
+loop-turn-init c = omega (arith, ap (λ (l : Log). l.line.end) c.begun-log.ensures)
