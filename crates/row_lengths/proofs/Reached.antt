@@ -16,8 +16,8 @@ use Rattle.lines.specs.Text.{onto}
 use Rattle.requests.specs.declared.Verb.TheVariants.{Build}
 use Rattle.line_words.specs.Words.{words_of, word_at, same_bytes, all_digits, is_run, bit_of}
 use Rattle.requests.specs.Verbs.{stateless, verb_of, form_of}
-use Rattle.requests.specs.Numbers.{is_number, value_of, digits_at, says_number, number_at, said_from, field, fields}
-use Rattle.requests.specs.Request.{is_silent, right_words, right_terminal, right_bits, well_formed, asked_for, request_of, bits_from}
+use Rattle.requests.specs.Numbers.{digits_at, read_word, says_number, number_at, said_from, field, fields}
+use Rattle.requests.specs.Request.{is_silent, right_words, right_terminal, right_bits, well_formed, asked_by, asked_for, request_of, bits_from}
 use Rattle.call_rows.specs.Rooms.{build_room}
 use Rattle.line_rows.specs.Row.{row_by}
 use Rattle.form_changes.specs.Line.{change_of}
@@ -30,7 +30,7 @@ longest_answered =
     98 ∷ 117 ∷ 105 ∷ 108 ∷ 100 ∷ 32 ∷ 50 ∷ 32 ∷ 49 ∷ 32 ∷ 48 ∷ 32 ∷ 49 ∷ 55 ∷ 50 ∷ 56 ∷ 48 ∷ 48 ∷ 32 ∷ 48 ∷ []
 
 asks : request_of longest_answered ≡ record { verb = Build; numbers = 2 ∷ 1 ∷ 0 ∷ 172800 ∷ 0 ∷ 0 ∷ 0 ∷ 0 ∷ 0 ∷ []; bits = 19 }
-unfolding longest_answered request_of is_silent asked_for well_formed right_words right_terminal right_bits words_of word_at onto same_bytes all_digits is_run is_digit stateless verb_of form_of fields field number_at said_from says_number digits_at is_number value_of line_of leading_zero too_long read_on
+unfolding longest_answered request_of is_silent asked_for asked_by well_formed right_words right_terminal right_bits words_of word_at onto same_bytes all_digits is_run is_digit stateless verb_of form_of fields field number_at said_from says_number digits_at read_word line_of leading_zero too_long read_on
 asks = refl
 
 accepted : build_number (0 ∷ []) (grant 2 1 0 172800) build_room ≡ 0

@@ -26,7 +26,8 @@ use Rattle.line_calls.specs.Call.{outcome_by, store_by}
 use Rattle.line_rows.specs.Row.{row_by}
 use Rattle.form_changes.specs.Change.{form_number}
 use Rattle.form_changes.specs.Line.{change_of, change_row}
-use Rattle.yard.specs.Step.{row_made, bits_of, call_row, row_of_line, out_after, longest_row, step_within, out_within}
+use Rattle.std.specs.Prelude.{Option, None, Some}
+use Rattle.yard.specs.Step.{by_change, row_made, bits_of, call_row, row_of_line, out_after, longest_row, step_within, out_within}
 use Rattle.yard.proofs.Lines.{step_row}
 use Rattle.row_lengths.proofs.Refusals.{form_most}
 use Rattle.row_lengths.proofs.Answers.{done_length}
@@ -71,11 +72,11 @@ module _ (state : State) (four : Bool) (plain packed line : List ℕ) where
   -- No row is longer, `longest_row` being 172,804.
   pub row_within : length (row_of_line state four plain packed line) ≤ longest_row
   unfolding row_of_line call_row
-  row_within = go (change_of (request_of line).verb).changes
+  row_within = go (change_of (request_of line).verb)
     where
-      go : (t : Bool) → length (cond t (change_row state (length plain) (length packed)) (call_row state four (cond four packed plain) line)) ≤ longest_row
-      go true = change_within state (length plain) (length packed)
-      go false =
+      go : (asked : Option Bool) → length (by_change asked (λ to. change_row state (length plain) (length packed)) (call_row state four (cond four packed plain) line)) ≤ longest_row
+      go (Some to) = change_within state (length plain) (length packed)
+      go None =
           made_within (request_of line).verb (request_of line).numbers (at (request_of line).numbers 1) (bits_of line) state four (cond four packed plain) (soft_small line)
 
   -- In the words of the contract of `replay_line`, for an output that is long enough.
