@@ -1,6 +1,6 @@
 -- A turn of a log as it comes in: what a read brought, the answer to the line that stands there, and the line after it. An unfinished line waits.
 -- Assumes nothing.
-use Rattle.std.specs.Prelude.{Bool, false, cond, List, ℕ, ◌-◌, eqb, take, drop}
+use Rattle.std.specs.Prelude.{false, cond, List, ℕ, ◌-◌, eqb, take, drop}
 use Rattle.slots.specs.Calls.{new_outcome}
 use Rattle.log_input.specs.declared.Line.{Line}
 use Rattle.log_input.specs.Line.{unread_line, line_now, text_now, line_after, text_after}

@@ -9,6 +9,6 @@ pub returns-in-Pack-clause-out_after : goal.returns-in-Pack-clause-out_after
 unfolding row_by
 returns-in-Pack-clause-out_after c =
     elim c.in-Pack.is [
-      inl e ↦ rw e (nothing _).1
-    | inr other ↦ elim other [ inl e ↦ rw e (nothing _).1 | inr e ↦ rw e (nothing _).1 ]
+      | inl e ↦ rw e (nothing _).1
+      | inr other ↦ elim other [ inl e ↦ rw e (nothing _).1 | inr e ↦ rw e (nothing _).1 ]
     ]
