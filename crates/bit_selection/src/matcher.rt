@@ -71,24 +71,24 @@ fn read_pairs(d1: &[u8], d2: &[u8], from: StreamPlace, part: &mut [u8])
 }
 
 // Puts the bits of a column of d(0) into the ring from its place n on, and tells where they end.
-fn put_column(of: Streams, unit: Unit, ring: &mut [u8], n: usize) -> usize
-    requires { Reads (length of.d0.now) unit × (unit.first.0 ≡ 0) × (n + (alone_count unit + both_count unit) ≤ length ring.old) }
-    ensures { Put (column_bits of.entry.d0.now unit) ring.old n ring.new result }
+fn put_column(d0: &[u8], unit: Unit, ring: &mut [u8], n: usize) -> usize
+    requires { Reads (length d0.now) unit × (unit.first.0 ≡ 0) × (n + (alone_count unit + both_count unit) ≤ length ring.old) }
+    ensures { Put (column_bits d0.now unit) ring.old n ring.new result }
 {
     let end = n + (unit.end.0 - unit.both.0);
-    read_column(of.d0, unit.first, &mut ring[n..end]);
+    read_column(d0, unit.first, &mut ring[n..end]);
     end
 }
 
 // The same of a column of d(1) and d(2): those of d(2) alone, and then of both by turns.
-fn put_pair(of: Streams, unit: Unit, ring: &mut [u8], n: usize) -> usize
-    requires { Reads (length of.d0.now) unit × (unit.first.0 ≡ 0 → ⊥) × (n + (alone_count unit + both_count unit) ≤ length ring.old) }
-    ensures { Put (pair_bits of.entry.d1.now of.entry.d2.now unit) ring.old n ring.new result }
+fn put_pair(d1: &[u8], d2: &[u8], unit: Unit, ring: &mut [u8], n: usize) -> usize
+    requires { (length d2.now ≡ length d1.now) × Reads (length d1.now) unit × (unit.first.0 ≡ 0 → ⊥) × (n + (alone_count unit + both_count unit) ≤ length ring.old) }
+    ensures { Put (pair_bits d1.now d2.now unit) ring.old n ring.new result }
 {
     let mid = n + (unit.both.0 + 1 - unit.alone.0) / 2;
-    read_column(of.d2, unit.early, &mut ring[n..mid]);
+    read_column(d2, unit.early, &mut ring[n..mid]);
     let end = mid + (unit.end.0 - unit.both.0);
-    read_pairs(of.d1, of.d2, unit.first, &mut ring[mid..end]);
+    read_pairs(d1, d2, unit.first, &mut ring[mid..end]);
     end
 }
 
@@ -109,7 +109,7 @@ fn put_columns(of: Streams, from: usize, to: usize, ring: &mut [u8], n: usize, m
             return end;
         }
         let unit = column_unit_at(d, filler, u).unwrap();
-        end = put_column(of, unit, ring, end);
+        end = put_column(of.d0, unit, ring, end);
     }
     end
 }
@@ -130,7 +130,7 @@ fn put_pairs(of: Streams, from: usize, to: usize, ring: &mut [u8], n: usize, mos
             return end;
         }
         let unit = pair_unit_at(d, filler, u - 32).unwrap();
-        end = put_pair(of, unit, ring, end);
+        end = put_pair(of.d1, of.d2, unit, ring, end);
     }
     end
 }
@@ -163,7 +163,7 @@ fn put_rest(of: Streams, unit: Unit, rest: usize, ring: &mut [u8], n: usize, mos
     if most <= n {
         return n;
     }
-    put_pair(of, unit, ring, n);
+    put_pair(of.d1, of.d2, unit, ring, n);
     n + rest
 }
 

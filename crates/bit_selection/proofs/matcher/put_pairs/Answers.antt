@@ -1,4 +1,4 @@
-use mathlib.Core.Path.{◌≡◌, refl, ◌∙◌}
+use mathlib.Core.Path.{◌≡◌, refl, sym, ◌∙◌}
 use Prim.Native.Nat.{◌+◌, ◌-◌, ◌≤◌, ◌<◌}
 use native.Mathlib.Omega.{arith}
 use lib.ListN.{length}
@@ -35,7 +35,8 @@ put_pair-end-requires c =
     let f = c.args.of.fits in
     let at = (goal.at.put_pair-end-requires c).Else-most-end in
     let is = found (goal.at.put_pair-end-requires c).After-unwrap-unit in (
-      unit_reads _ f.most f.filler is (high at).1,
+      f.second ∙ sym f.first,
+      rw f.first (unit_reads _ f.most f.filler is (high at).1),
       pair_stream _ f.most f.filler is (high at).0,
       omega (arith, unit_few _ f.most f.filler is (high at).1, room at),
     )
