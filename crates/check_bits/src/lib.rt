@@ -100,6 +100,7 @@ impl Generator {
     {
         let mut s = from;
         let mut left = bits;
+        // kept: no `chunks_exact`, since the bits from the first that is none on go one by one, and those are what is left.
         while 48 <= left.len() {
             let (Some(x), Some(y)) = (gathered(left, 0), gathered(left, 24)) else {
                 break;

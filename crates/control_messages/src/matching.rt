@@ -19,7 +19,7 @@ pub(crate) fn rate_matching(coded: &[u8; 80], d: usize, out: &mut [u8])
 }
 
 // The first `d` bytes of `coded` in the order of the sub-block interleaver, dummies left out.
-// kept: one loop that counts column and row by hand (d): `for` over the columns and over their rows would be two functions that hand `n` and `taken` to
+// kept: one loop that counts column and row by hand: `for` over the columns and over their rows would be two functions that hand `n` and `taken` to
 // and fro, and `for` over all places would divide at each.
 fn interleave(coded: &[u8; 80], d: usize, taken: &mut [u8])
     requires { Sized d × (length taken.old ≡ 80) }

@@ -1,5 +1,5 @@
 // What a C program links of the face: each export calls the function of its name in `face`, and its clauses are the same.
-// kept: the same exports twice (a): C links a static library, and `face` is a library that crates above cite.
+// kept: the same exports twice: C links a static library, and `face` is a library that crates above cite.
 #![tactic(auto)]
 
 mod control;

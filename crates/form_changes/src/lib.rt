@@ -1,4 +1,5 @@
 // Every room of a state changes its form, from one of two stores into the other (02, E7), and the line of the yard's log that asks for it is answered.
+// kept: the two stores and the output one by one: each is lent for itself, and what it holds afterwards is a clause of its own.
 #![tactic(auto)]
 
 mod line;

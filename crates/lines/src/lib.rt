@@ -1,4 +1,5 @@
 // Lines of decimal numbers in, tab-parted rows out: the text side of the sizes program of 01.
+// kept: an output with the place where to go on, and no writer of its own: each contract says what is put at which place, and that nothing is where it does not fit.
 #![tactic(auto)]
 
 ghost use Rattle.std.specs.Prelude.{◌≡◌, cond, ◌∷◌, [], map, ◌+◌, ◌*◌, ◌<◌, ◌≤◌, min, length, take, drop};

@@ -1,4 +1,5 @@
 // The answers to a log as it comes in: a turn takes what a read brought, answers the line that stands there and goes on to the next one.
+// kept: the two stores and the output one by one: each is lent for itself, and what it holds afterwards is a clause of its own.
 #![tactic(auto)]
 
 ghost use Rattle.std.specs.Prelude.{◌≡◌, ◌≤◌, length};

@@ -84,7 +84,7 @@ fn apart(b: u8) -> u64
 }
 
 // Unpacks bytes over the front of `to`, as many as there are places for.
-// kept: (b) by `to_le_bytes` of the word a room takes three times as long.
+// kept: by `to_le_bytes` of the word a room takes three times as long.
 pub fn unpack_places(from: &[u8], to: &mut [u8])
     ensures { to.new ≡ unpacked_over (min (length from.now) (length to.old / 4)) from.now to.old }
 {
@@ -100,7 +100,7 @@ pub fn unpack_places(from: &[u8], to: &mut [u8])
 }
 
 // M out of range.
-// kept: (d) `!(1..=5).contains(&m)` is longer, and says less of which end is asked first.
+// kept: `!(1..=5).contains(&m)` is longer, and says less of which end is asked first.
 fn bad_blocks(m: usize) -> bool
     ensures { result ≡ bad_blocks m }
 {

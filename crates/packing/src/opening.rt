@@ -1,4 +1,5 @@
 // Open on a store with four places a byte.
+// kept: state, slot, terminal, size and store one by one, as the rules list a call's arguments and the definitions take them: a struct would be taken apart in each contract.
 ghost use Rattle.std.specs.Prelude.{◌≡◌, true, cond, ◌+◌, ◌≤◌, length};
 ghost use Rattle.slots.specs.State.{room_length, room_start};
 ghost use Rattle.slots.specs.Room.{cleared};

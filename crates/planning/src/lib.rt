@@ -59,7 +59,7 @@ fn least_symbols(a: usize, step: usize, alone: bool) -> usize
 }
 
 // What a code block of `k` bits with `f` filler bits needs.
-// kept: a bool for which of two needs is meant (d): it picks one of two formulas that stand side by side, and a closure in its place would be longer.
+// kept: a bool for which of two needs is meant: it picks one of two formulas that stand side by side, and a closure in its place would be longer.
 #[tactic(auto, unfolding(crate::specs::Worst::need_by, crate::specs::Needs::whole, crate::specs::Needs::quarter, rate_matching::specs::SubBlocks::rows))]
 fn need_of(k: usize, f: usize, alone: bool) -> usize
     requires { (k ≤ 6144) × (f ≤ k) }

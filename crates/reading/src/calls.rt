@@ -1,4 +1,5 @@
 // The call Read.
+// kept: state, slot, terminal, size and store one by one, as the rules list a call's arguments and the definitions take them: a struct would be taken apart in each contract.
 ghost use Rattle.std.specs.Prelude.{◌≡◌, length, true};
 ghost use Rattle.packing.specs.Store.{places_in};
 ghost use Rattle.slots.specs.Outcome.{answer_of, told};

@@ -1,4 +1,5 @@
 // The call Receive of 01, for an uplink and, with a circle that is cut, for a downlink (02).
+// kept: state, slot, terminal, size and store one by one, as the rules list a call's arguments and the definitions take them: a struct would be taken apart in each contract.
 #![tactic(auto)]
 
 mod code_blocks;

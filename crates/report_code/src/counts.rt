@@ -9,7 +9,7 @@ ghost use Rattle.report_code.specs.inner.Counted.{Counted};
 use super::block::{packed, turn_end};
 
 // The counts of a 1 and of a 0 at each of the 32 places.
-// kept: two arrays side by side, not one of pairs (d): a plane is made of all counts of one kind, which then stand next to one another.
+// kept: two arrays side by side, not one of pairs: a plane is made of all counts of one kind, which then stand next to one another.
 #[derive(Clone, Copy)]
 pub struct Counts {
     pub ones: [u16; 32],

@@ -8,7 +8,7 @@ use super::block::coded_word;
 use super::counts::{counted, plane_distance, planes_of};
 
 // The nearest message, how far it is, and whether another is as near.
-// kept: a flag beside the values, no Option (a): of a tie too the nearest message and its distance are said, by `nearest_of` and the laws of `Least`.
+// kept: a flag beside the values, no Option: of a tie too the nearest message and its distance are said, by `nearest_of` and the laws of `Least`.
 #[derive(Clone, Copy)]
 pub struct Found {
     pub message: u32,

@@ -62,7 +62,7 @@ fn accept_build(
 }
 
 // The number of a report: o_0 is its lowest bit.
-// kept: what `packed` of report_code does for 32 bits (a): a public function has no `requires`, and without one neither can promise the number.
+// kept: what `packed` of report_code does for 32 bits: a public function has no `requires`, and without one neither can promise the number.
 fn number_of(report: &[u8]) -> u32
     requires { AreBits report.now × (length report.now ≤ 11) }
     ensures { result ≡ number_of report.now }

@@ -1,7 +1,8 @@
 // The calls on rooms in either form: a place a byte, or four places a byte.
+// kept: state, slot, terminal, size and store one by one, as the rules list a call's arguments and the definitions take them: a struct would be taken apart in each contract.
 #![tactic(auto, unfolding(packing::specs::Store::places_in, packing::specs::Store::in_form))]
 
-// kept: (d) the calls of a trait with one impl a form would be ten bodies, and the form of a log's rooms is known only as it runs: one `if` in each call
+// kept: the calls of a trait with one impl a form would be ten bodies, and the form of a log's rooms is known only as it runs: one `if` in each call
 // stays either way.
 
 ghost use Rattle.std.specs.Prelude.{◌≡◌, length};

@@ -1,4 +1,5 @@
 // The calls New, Open, Open for a downlink, and Close.
+// kept: state, slot, terminal, size and store one by one, as the rules list a call's arguments and the definitions take them: a struct would be taken apart in each contract.
 ghost use Rattle.std.specs.Prelude.{◌≡◌, true, cond, [], ◌∷◌, ◌++◌, ◌+◌, ◌≤◌, ◌<◌, length};
 ghost use Rattle.codeword.specs.Downlink.{too_short};
 ghost use Rattle.refusals.specs.Refusals.{number_of, number_in, rule, first_of};

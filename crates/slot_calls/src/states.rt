@@ -34,7 +34,7 @@ pub(crate) fn room_start(m: usize, slot: usize) -> usize
 }
 
 // The head of a slot; a closed one where there is no such slot.
-// kept: (b) each is read where it stands: for one at a computed place all eight would be copied first.
+// kept: each is read where it stands: for one at a computed place all eight would be copied first.
 pub fn head_at(state: State, slot: usize) -> Head
     ensures { result ≡ head_at state slot }
 {
@@ -69,7 +69,7 @@ pub fn block_count(a: usize) -> usize
 }
 
 // Outside 1 to `most`.
-// kept: (d) `!(1..=most).contains(&x)` is longer, and says less of which end is asked first.
+// kept: `!(1..=most).contains(&x)` is longer, and says less of which end is asked first.
 fn outside(x: usize, most: usize) -> bool
     ensures { result ≡ (eqb x 0 || ltb most x) }
 {

@@ -8,6 +8,7 @@ use refusals::Refusal;
 
 // A slot's head: closed, or open for a terminal with a block of `size` bits (A), each code block having `share` places of the soft buffer:
 // 18,528 in an uplink, the floor of N_IR / C in a downlink, 0 in a closed head.
+// kept: a flag beside its values, since they are the four numbers that C keeps of a head (`head_of` of state_bytes), and the edit close_keeps_size speaks of a closed head's size.
 #[derive(Clone, Copy, Default)]
 pub struct Head {
     pub opened: bool,

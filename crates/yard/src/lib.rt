@@ -1,4 +1,5 @@
 // A line of the yard's log made one call of 01, or a change of form, and its answer a row.
+// kept: the two stores and the output one by one: each is lent for itself, and what it holds afterwards is a clause of its own.
 #![tactic(auto)]
 
 ghost use Rattle.std.specs.Prelude.{◌≡◌, length, replicate};
