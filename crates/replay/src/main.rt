@@ -8,34 +8,17 @@ use std::io;
 use std::io::Read;
 
 fn main(rt: HostRuntime) {
-    let mut text = text_buffer();
-    let mut plain = plain_store();
-    let mut packed = packed_store();
-    let mut out = answer_buffer();
+    // for the longest line that is read, and what comes behind it
+    let mut text = [0u8; 262144];
+    // for rooms with S·M at most 3, in either form; a larger S·M meets number 5
+    let mut plain = [0u8; 55584];
+    let mut packed = [0u8; 13896];
+    // for the longest answer: a codeword of 172,800 bits with `ok`, a tab and a newline
+    let mut out = [0u8; 172804];
     // So that a replay cut short does not look whole, it says so.
     if replay_log(&rt, &mut text, &mut plain, &mut packed, &mut out).is_err() {
         let _ = eprintln!(rt; "replay: the output can't be written; answers are missing");
     }
-}
-
-// For the longest line that is read, and what comes behind it.
-fn text_buffer() -> [u8; 262144] {
-    [0; 262144]
-}
-
-// For rooms with S·M at most 3; a larger S·M meets number 5.
-fn plain_store() -> [u8; 55584] {
-    [0; 55584]
-}
-
-// The same for rooms with four places a byte.
-fn packed_store() -> [u8; 13896] {
-    [0; 13896]
-}
-
-// For the longest answer: a codeword of 172,800 bits with `ok`, a tab and a newline.
-fn answer_buffer() -> [u8; 172804] {
-    [0; 172804]
 }
 
 // Answers the log's lines, until no line is left or the output can't be written. A proved loop has to end, and nothing says that an input does: so it
