@@ -35,7 +35,7 @@ pub fn put_answer(answer: Answer, out: &mut [u8]) -> usize
     match answer {
         Ok(None) => lines::put_bytes(b"ok\n", out, 0),
         Ok(Some(lacking)) => put_told(b"ok\t", &[lacking], out),
-        Err(Reason::Rule(refusal)) => put_refusal(refusal, out),
+        Err(Reason::Rule(refusal)) => put_refused(refusal, out),
         Err(Reason::Lacking(places)) => put_told(b"refused\t", &[LACKING, places], out),
         Err(Reason::WrongCodeBlock(block)) => put_told(b"refused\t", &[WRONG_BLOCK, block], out),
     }
@@ -52,12 +52,19 @@ pub fn put_number(number: usize, out: &mut [u8]) -> usize
 
 // The row of a refusal by its number alone.
 #[tactic(auto, unfolding(crate::specs::Rows::refusal_row, crate::specs::Rows::refused_row, lines::specs::Row::row_of, lines::specs::Row::end_of))]
-pub fn put_refusal(refusal: Refusal, out: &mut [u8]) -> usize
+pub fn put_refusal(number: usize, out: &mut [u8]) -> usize
+    ensures value { result ≡ end_at 0 (refusal_row number) out.old }
+    ensures out_after { out.new ≡ put_at 0 (refusal_row number) out.old }
+{
+    put_told(b"refused\t", &[number], out)
+}
+
+// The row of a refusal.
+pub fn put_refused(refusal: Refusal, out: &mut [u8]) -> usize
     ensures value { result ≡ end_at 0 (refusal_row (number_of refusal)) out.old }
     ensures out_after { out.new ≡ put_at 0 (refusal_row (number_of refusal)) out.old }
 {
-    let number = usize::from(u8::from(refusal));
-    put_told(b"refused\t", &[number], out)
+    put_refusal(usize::from(u8::from(refusal)), out)
 }
 
 // The row of what Sizes answers.
@@ -71,7 +78,7 @@ pub fn put_sizes(answer: Result<Sizes, Refusal>, out: &mut [u8]) -> usize
             let numbers = [s.blocks, s.longs, s.long, s.shorts, s.short, s.filler];
             put_told(b"ok\t", &numbers, out)
         }
-        Err(refusal) => put_refusal(refusal, out),
+        Err(refusal) => put_refused(refusal, out),
     }
 }
 
@@ -83,7 +90,7 @@ pub fn put_worst(answer: Result<Worst, Refusal>, out: &mut [u8]) -> usize
 {
     match answer {
         Ok(worst) => put_told(b"ok\t", &[worst.three, worst.one], out),
-        Err(refusal) => put_refusal(refusal, out),
+        Err(refusal) => put_refused(refusal, out),
     }
 }
 

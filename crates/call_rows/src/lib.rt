@@ -136,6 +136,6 @@ fn put_built(built: Result<(), Refusal>, code: &[u8], g: usize, out: &mut [u8]) 
 {
     match built {
         Ok(()) => answers::put_run(&code[..g], out),
-        Err(refusal) => answers::put_refusal(refusal, out),
+        Err(refusal) => answers::put_refused(refusal, out),
     }
 }

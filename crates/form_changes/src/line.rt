@@ -42,7 +42,7 @@ pub fn change_line(
         },
         Err(refusal) => FormStep {
             four,
-            written: answers::put_refusal(refusal, out),
+            written: answers::put_refused(refusal, out),
         },
     }
 }

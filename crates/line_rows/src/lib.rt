@@ -50,7 +50,7 @@ pub fn put_row(
         Verb::Sizes => answers::put_sizes(segmentation::sizes_for(n[0]), out),
         Verb::Worst => answers::put_worst(planning::worst_for(n[0], n[1], n[2]), out),
         Verb::Pack | Verb::Unpack | Verb::Nothing => 0,
-        Verb::Unreadable => answers::put_refusal(Refusal::Unreadable, out),
+        Verb::Unreadable => answers::put_refused(Refusal::Unreadable, out),
     }
 }
 

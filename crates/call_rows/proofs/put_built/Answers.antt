@@ -18,6 +18,6 @@ pub returns-in-Err : goal.returns-in-Err
 unfolding built_row
 returns-in-Err c =
     record {
-      value = rw (c.in-Err.is, refusal_ne0 c.in-Err.refusal) c.put_refusal.ensures.value;
-      out_after = rw (c.in-Err.is, refusal_ne0 c.in-Err.refusal) c.put_refusal.ensures.out_after;
+      value = rw (c.in-Err.is, refusal_ne0 c.in-Err.refusal) c.put_refused.ensures.value;
+      out_after = rw (c.in-Err.is, refusal_ne0 c.in-Err.refusal) c.put_refused.ensures.out_after;
     }
