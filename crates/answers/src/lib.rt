@@ -1,4 +1,5 @@
 // The answers of a replayed log as rows of text: `ok` or `refused`, and what comes with it, parted by tabs.
+// kept: an output with the place where to go on, as in lines.
 #![tactic(auto)]
 
 ghost use Rattle.std.specs.Prelude.{◌≡◌, ◌∷◌, [], ◌++◌, ◌+◌, ◌≤◌, leb, length};

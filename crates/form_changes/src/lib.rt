@@ -16,6 +16,7 @@ use slot_calls::states::PER_BLOCK;
 use slots::State;
 
 // The form of the rooms after such a line, and the length of the row that answers it.
+// kept: the form is a flag with no value of its own beside it, as in packing's functions and in the definitions.
 #[derive(Clone, Copy)]
 pub struct FormStep {
     pub four: bool,

@@ -78,7 +78,7 @@ fn line_next(text: &[u8], end: usize) -> usize
     requires { end ≤ length text.now }
     ensures { result ≡ min (end + 1) (length text.now) }
 {
-    if end < text.len() { end + 1 } else { end }
+    (end + 1).min(text.len())
 }
 
 // Puts the bytes into out at a place and answers the place after them; where they do not fit, it does nothing and answers `at`.

@@ -1,4 +1,5 @@
 // The lines of a log as they come in from standard input: where the next one stands, what is kept of an unfinished one, what a read adds to it.
+// kept: one text that is read into piece by piece, with a line's places beside it: a slice of it could not be lent while it is read into.
 #![tactic(auto)]
 
 ghost use Rattle.std.specs.Prelude.{◌≡◌, ◌≤◌, ◌<◌, length};

@@ -1,4 +1,5 @@
 // The text of a log that is read in pieces: its unfinished line goes to the front, and the next read goes on behind it.
+// kept: one text that is read into piece by piece, with the places of its unfinished line beside it: no slice of it could be read into behind its end.
 #![tactic(auto)]
 
 ghost use Rattle.std.specs.Prelude.{◌≡◌, ◌++◌, ◌-◌, ◌≤◌, min, length, take, drop};

@@ -31,6 +31,7 @@ pub enum Verb {
 
 // What follows a verb: so many numbers, the second of them a terminal or not, one of them soft bits (its word) or none, and then
 // BITS or not.
+// kept: these flags have no value beside them; and that there are at most nine numbers stands in contracts, since a ghost field would add a proof to each form of specs/.
 #[derive(Clone, Copy)]
 pub struct Form {
     pub numbers: usize,

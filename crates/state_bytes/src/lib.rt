@@ -95,6 +95,7 @@ pub fn finish(outcome: Outcome, slot: usize, bytes: &mut [u8]) -> u32
 {
     let answer = outcome.answer;
     let found = number(answer);
+    // kept: C is told the number
     if found != 0 {
         return found;
     }

@@ -12,6 +12,7 @@ use requests::Request;
 use slots::State;
 
 // The state and the form of the rooms to hand to the next line, and the length of the row that answers this one.
+// kept: the form is a flag with no value of its own beside it, as in packing's functions and in the definitions.
 #[derive(Clone, Copy)]
 pub struct Step {
     pub state: State,

@@ -8,8 +8,5 @@ loop-k-init c = start (omega arith)
 pub loop-k-preserved : goal.loop-k-preserved
 loop-k-preserved c = next c.three.ensures (omega arith) c.loop-k.invariant
 
-pub shape_of-coded : goal.shape_of-coded
-shape_of-coded c = c.loop-k.invariant.told.long
-
 pub returns : goal.returns
 returns c = finish (omega arith) c.loop-k.invariant

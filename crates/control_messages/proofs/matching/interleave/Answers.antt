@@ -1,10 +1,9 @@
 use mathlib.Core.Logic.{inl, inr}
-use Prim.Native.Nat.{◌+◌, ◌*◌, ◌%◌}
+use Prim.Native.Nat.{◌+◌, ◌*◌}
 use native.Mathlib.Nat.{zero-mul}
 use native.Mathlib.Omega.{arith}
 use Rattle.rate_matching.specs.SubBlocks.{rows, dummies}
-use Rattle.rate_matching.proofs.Columns.{table_below}
-use Rattle.control_messages.proofs.Interleaving.{Taking, taking_start, taking_ends, index_lt, room_lt, met, next_row, next_column, fewer_row, fewer_column, all_passed}
+use Rattle.control_messages.proofs.Interleaving.{Taking, taking_start, taking_ends, index_lt, room_lt, met, next_row, next_column, all_passed}
 use Rattle.control_messages.proofs.matching.interleave.Goals.{Joined-dummies-y, then-dummies-y, else-dummies-y}
 use Rattle.control_messages.proofs.matching.interleave.Goals as goal
 
@@ -21,12 +20,6 @@ after c =
 pub loop-c-init : goal.loop-c-init
 loop-c-init c = (c.columns-columns.ensures, omega arith, omega arith, rw zero-mul (taking_start c.requires.0 c.requires.1))
 
-pub overflow_cast-y : goal.overflow_cast-y
-overflow_cast-y c = omega (arith, table_below ((c.loop-c.c + 16) % 32) c.loop-c.invariant.0 (omega arith))
-
-pub overflow_add-y-in-loop-c : goal.overflow_add-y-in-loop-c
-overflow_add-y-in-loop-c c = omega (arith, table_below ((c.loop-c.c + 16) % 32) c.loop-c.invariant.0 (omega arith))
-
 pub bounds-coded-y : goal.bounds-coded-y
 unfolding rows dummies
 bounds-coded-y c =
@@ -41,29 +34,17 @@ bounds-taken-n c =
     let size = c.requires.0 in
     omega (arith, size.most, inv.3.room, room_lt size inv.0 c.loop-c-test.true inv.2 inv.3 c.if-dummies-y.true)
 
-pub overflow_add-n : goal.overflow_add-n
-overflow_add-n c = omega (arith, c.loop-c.invariant.3.few, c.requires.0.most)
-
-pub loop-c-smaller-then-q-rows : goal.loop-c-smaller-then-q-rows
-loop-c-smaller-then-q-rows c = let inv = c.loop-c.invariant in fewer_column _ _ _ c.loop-c-test.true inv.2 c.if-q-rows.true
-
 pub loop-c-preserved-then-q-rows : goal.loop-c-preserved-then-q-rows
 unfolding rows
 loop-c-preserved-then-q-rows c =
     let inv = c.loop-c.invariant in
     (inv.0, omega arith, omega arith, next_column _ _ c.if-q-rows.true (after (goal.at.loop-c-preserved-then-q-rows c).Joined-dummies-y))
 
-pub loop-c-smaller : goal.loop-c-smaller
-loop-c-smaller c = let inv = c.loop-c.invariant in fewer_row _ _ _ c.loop-c-test.true inv.2
-
 pub loop-c-preserved : goal.loop-c-preserved
 unfolding rows
 loop-c-preserved c =
     let inv = c.loop-c.invariant in
     (inv.0, inv.1, omega arith, next_row _ _ (after (goal.at.loop-c-preserved c).Joined-dummies-y))
-
-pub shape_of-taken : goal.shape_of-taken
-shape_of-taken c = c.loop-c.invariant.3.told.long
 
 pub returns : goal.returns
 unfolding rows

@@ -11,8 +11,5 @@ pub loop-i-preserved : goal.loop-i-preserved
 unfolding bit_at
 loop-i-preserved c = next (and_mask _ 1) (omega arith) c.loop-i.invariant
 
-pub shape_of-part : goal.shape_of-part
-shape_of-part c = c.loop-i.invariant.told.long
-
 pub returns : goal.returns
 returns c = finish (omega arith) c.loop-i.invariant

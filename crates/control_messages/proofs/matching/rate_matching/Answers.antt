@@ -1,15 +1,10 @@
 -- `matching::rate_matching` meets its contract: the columns, the turn, the turn over and over.
 -- Assumes nothing.
 use mathlib.Core.Path.{◌∙◌, ap}
-use borrow.Author.Rules.{rules}
-use Rattle.laws.proofs.Parts.{front_count}
 use Rattle.control_messages.specs.Working.{in_columns, one_turn}
 use Rattle.control_messages.proofs.Interleaving.{length_in_columns}
 use Rattle.control_messages.proofs.Turn.{turn_front, repeated}
 use Rattle.control_messages.proofs.matching.rate_matching.Goals as goal
-
-pub slice_bounds-turn_after_turn-end : goal.slice_bounds-turn_after_turn-end
-slice_bounds-turn_after_turn-end c = front_count _ c.put_streams.new.ring (search rules)
 
 pub returns : goal.returns
 returns c =

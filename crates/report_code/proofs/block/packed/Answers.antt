@@ -1,6 +1,6 @@
-use Prim.Native.Nat.{ℕ, ◌+◌, ◌-◌, ◌*◌, ◌<◌}
+use Prim.Native.Nat.{◌+◌, ◌-◌, ◌*◌, ◌<◌}
 use native.Mathlib.Omega.{arith}
-use mathlib.Core.Path.{◌≡◌, sym, ◌∙◌, ap}
+use mathlib.Core.Path.{◌≡◌, sym, ap}
 use lib.ListN.{get_or, drop, drop_of_length-le}
 use Rattle.report_code.specs.Words.{number_of}
 use Rattle.report_code.proofs.Words.{packed_more}
@@ -25,6 +25,3 @@ overflow_add-word c = omega (arith, (turn (goal.at.overflow_add-word c).In-loop-
 
 pub loop-i-preserved : goal.loop-i-preserved
 loop-i-preserved c = rw c.from.ensures (omega arith, (turn (goal.at.loop-i-preserved c).In-loop-i).0)
-
-pub returns : goal.returns
-returns c = let none : c.loop-i.i ≡ 0 = omega arith in c.loop-i.invariant.1 ∙ ap (λ (k : ℕ). number_of (drop k c.args.bits.now)) none

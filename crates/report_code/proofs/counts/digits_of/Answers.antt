@@ -10,12 +10,6 @@ use Rattle.report_code.proofs.counts.digits_of.Goals as goal
 pub loop-i-init : goal.loop-i-init
 loop-i-init c = (omega arith, refl, same (sym (tab_rest _ _)) start)
 
-pub overflow_cast-bits : goal.overflow_cast-bits
-overflow_cast-bits c = omega (arith, c.requires.0)
-
-pub overflow_shr-bits : goal.overflow_shr-bits
-overflow_shr-bits c = omega (arith, c.requires.0)
-
 pub loop-i-preserved : goal.loop-i-preserved
 unfolding digit_at
 loop-i-preserved c = (

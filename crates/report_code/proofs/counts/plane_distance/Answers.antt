@@ -1,5 +1,5 @@
-use mathlib.Core.Path.{◌≡◌, refl, sym, ◌∙◌, ap}
-use Prim.Native.Nat.{ℕ, ◌-◌, ◌<◌}
+use mathlib.Core.Path.{◌≡◌, sym, ◌∙◌, ap}
+use Prim.Native.Nat.{ℕ, ◌<◌}
 use native.Mathlib.Omega.{arith}
 use borrow.Author.Rules.{rules}
 use Rattle.report_code.proofs.Planes.{above_small, heard_zeros_lem, heard_ones_lem, above_more, plane_step}
@@ -9,27 +9,6 @@ use Rattle.report_code.proofs.counts.plane_distance.Goals as goal
 
 word_fits : (c : Start) → c.args.word < 4294967296
 word_fits c = search rules
-
-pub loop-p-init : goal.loop-p-init
-loop-p-init c = (omega arith, refl, let none : c.args.count - c.args.count ≡ 0 = omega arith in rw none (omega arith))
-
-pub overflow_mul-above : goal.overflow_mul-above
-overflow_mul-above c = omega (arith, above_small _ c.args.ones.now c.args.zeros.now _ _ _ (word_fits (goal.at.overflow_mul-above c).Start) c.requires (omega arith) c.loop-p.invariant.0 c.loop-p.invariant.2)
-
-pub offset_bounds-zeros-p : goal.offset_bounds-zeros-p
-offset_bounds-zeros-p c = omega (arith, c.requires)
-
-pub bounds-zeros-p : goal.bounds-zeros-p
-bounds-zeros-p c = omega (arith, c.requires)
-
-pub overflow_add-above : goal.overflow_add-above
-overflow_add-above c = omega (arith, above_small _ c.args.ones.now c.args.zeros.now _ _ _ (word_fits (goal.at.overflow_add-above c).Start) c.requires (omega arith) c.loop-p.invariant.0 c.loop-p.invariant.2, heard_zeros_lem _ c.args.ones.now c.args.zeros.now _ _ _ (word_fits (goal.at.overflow_add-above c).Start) c.requires (omega arith) c.loop-p.invariant.0 c.loop-p.invariant.2)
-
-pub offset_bounds-ones-p : goal.offset_bounds-ones-p
-offset_bounds-ones-p c = omega (arith, c.requires)
-
-pub bounds-ones-p : goal.bounds-ones-p
-bounds-ones-p c = omega (arith, c.requires)
 
 pub overflow_add-above-in-loop-p : goal.overflow_add-above-in-loop-p
 overflow_add-above-in-loop-p c = omega (arith, above_small _ c.args.ones.now c.args.zeros.now _ _ _ (word_fits (goal.at.overflow_add-above-in-loop-p c).Start) c.requires (omega arith) c.loop-p.invariant.0 c.loop-p.invariant.2, heard_zeros_lem _ c.args.ones.now c.args.zeros.now _ _ _ (word_fits (goal.at.overflow_add-above-in-loop-p c).Start) c.requires (omega arith) c.loop-p.invariant.0 c.loop-p.invariant.2, heard_ones_lem _ c.args.ones.now c.args.zeros.now _ _ _ (word_fits (goal.at.overflow_add-above-in-loop-p c).Start) c.requires (omega arith) c.loop-p.invariant.0 c.loop-p.invariant.2)

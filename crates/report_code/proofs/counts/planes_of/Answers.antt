@@ -12,14 +12,8 @@ use Rattle.report_code.proofs.counts.planes_of.Goals as goal
 pub loop-p-init : goal.loop-p-init
 loop-p-init c = (omega arith, refl, same (sym (tab_rest _ _)) start)
 
-pub digits_of-requires : goal.digits_of-requires
-digits_of-requires c = (omega (arith, c.requires.0), c.requires.1)
-
 pub packed-requires : goal.packed-requires
 packed-requires c = (rw c.digits_of.ensures (digits_bits _ _), ap length c.digits_of.ensures ∙ length_digits _ _ ∙ c.requires.1)
-
-pub bounds-planes-p : goal.bounds-planes-p
-bounds-planes-p c = omega (arith, c.requires.0)
 
 pub loop-p-preserved : goal.loop-p-preserved
 unfolding plane

@@ -1,7 +1,7 @@
 use mathlib.Core.Path.{refl, sym, ◌∙◌, ap}
 use native.Mathlib.Omega.{arith}
 use lib.ListN.{length-set}
-use Rattle.report_code.proofs.CountingUp.{last_more, last_small}
+use Rattle.report_code.proofs.CountingUp.{last_more}
 use Rattle.report_code.proofs.Entries.{entry_next, entries_kept}
 use Rattle.laws.proofs.Tab.{tab_rest}
 use Rattle.laws.proofs.Writing.{start, same}
@@ -11,18 +11,6 @@ use Rattle.report_code.proofs.search.steps_for.Goals as goal
 
 pub loop-k-init : goal.loop-k-init
 loop-k-init c = (omega arith, refl, refl, same (sym (tab_rest _ _)) start)
-
-pub offset_bounds-steps-k : goal.offset_bounds-steps-k
-offset_bounds-steps-k c = omega (arith, c.requires)
-
-pub bounds-steps-k : goal.bounds-steps-k
-bounds-steps-k c = omega (arith, c.requires)
-
-pub overflow_mul-last : goal.overflow_mul-last
-overflow_mul-last c = omega (arith, last_small _ _ (omega (arith, c.requires)) c.loop-k.invariant.2)
-
-pub overflow_add-last : goal.overflow_add-last
-overflow_add-last c = omega (arith, last_small _ _ (omega (arith, c.requires)) c.loop-k.invariant.2)
 
 pub loop-k-preserved : goal.loop-k-preserved
 unfolding step_word
