@@ -112,13 +112,6 @@ module _ {D F from to : ℕ} {bits part₀ : List ℕ} (w : Walked D F (length p
           ≡ bit_places (shape D F) (unit_start (rows D) from) (unit_start (rows D) (u + 1))
       whole = sym (bit_places_split (shape D F) (unit_start (rows D) from) (unit_start (rows D) (u + 1)) (unit_start (rows D) u) (starts_rise (rows D) from u s.passed.0) (starts_rise (rows D) u (u + 1) (omega arith)))
 
-pub units_finish : {D F from to : ℕ} {bits part₀ part : List ℕ} {n u : ℕ} → to ≤ u → Units D F from to bits part₀ part n u
-    → Put (bit_places (shape D F) (unit_start (rows D) from) (unit_start (rows D) to)) bits part₀ part n
-units_finish {D} {F} {from} {to} {u = u} h s = put_as (ap (λ (m : ℕ). bit_places (shape D F) (unit_start (rows D) from) (unit_start (rows D) m)) all) s.put
-  where
-    all : u ≡ to
-    all = omega (arith, s.passed)
-
 -- a column has no place of stream 2 alone
 pub column_put : (D F u : ℕ) {U : Unit} {bits part part' : List ℕ} {r : ℕ} → u < 32 → U ≡ unit_at D F u
     → Put (tab_from U.both.0 (U.end.0 - U.both.0) itself) bits part part' r → Put (unit_places U) bits part part' r

@@ -6,7 +6,7 @@ use Prim.Native.Nat.{ℕ, ◌+◌, ◌*◌, ◌≤◌, ◌<◌}
 use native.Mathlib.Decide.{dec_lt}
 use native.Mathlib.Omega.{arith}
 use lib.ListN.{length, take, length-append, length-take}
-use lib.Seq.{length-take-le, take-append-le, take-append-add, take-take}
+use lib.Seq.{length-take-le, take-append-add, take-take}
 use Rattle.bit_selection.specs.inner.Ring.{Holds, Put, PutTo}
 
 -- nothing is put where there is no bit, or enough is there
@@ -15,13 +15,6 @@ rest_none bits {most} {rest} {n} {ring} h z = record {
   within = omega arith;
   inside = h;
   told = ap (take most) (sym (append-nil (take n ring)) ∙ ap (λ (k : ℕ). take n ring ++ take k bits) (sym z));
-}
-
-pub rest_enough : (xs : List ℕ) {most q n : ℕ} {ring : List ℕ} → n ≤ length ring → most ≤ n → PutTo most xs q ring n ring n
-rest_enough xs {most} {q} {n} {ring} h g = record {
-  within = omega arith;
-  inside = h;
-  told = sym (take-append-le most (take n ring) xs (omega (arith, length-take-le n ring h)));
 }
 
 -- there is room for the whole unit

@@ -274,7 +274,7 @@ fn match_block(of: Streams, ncb: usize, version: usize, out: &mut [u8])
 // Rate matching of one code block: fills `out` with the bits that redundancy version `version` sends of the streams d(0), d(1) and d(2),
 // where the first `filler` places of d(0) and d(1) are <NULL> and the circle is cut at `ncb`. Of streams that are no code block's, an `ncb` that is
 // not from 32·R to 96·R, or another version, it leaves `out` as it is.
-// kept: the streams one by one, as `send_in` of build_calls lends them.
+// kept: the streams one by one, as `send` of build_calls lends them.
 pub fn rate_match(
     d0: &[u8],
     d1: &[u8],

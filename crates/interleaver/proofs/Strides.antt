@@ -15,12 +15,9 @@ pub record Stride (K f1 f2 i p g : ℕ) : Type 0 where
   pub within : p < K
   pub short : g ≤ K
 
--- what `back` is asked, of p less g and of g less step
+-- what `back` is asked, of p less g
 pub both_within : {K f1 f2 i p g : ℕ} → K ≤ 6144 → Stride K f1 f2 i p g → (p ≤ K) × (g ≤ K) × (K ≤ 6144)
 both_within most s = (omega (arith, s.within), s.short, most)
-
-pub both_short : {K f1 f2 step i p g : ℕ} → K ≤ 6144 → step < K → Stride K f1 f2 i p g → (g ≤ K) × (step ≤ K) × (K ≤ 6144)
-both_short most low s = (s.short, omega arith, most)
 
 module _ (K f1 f2 : ℕ) (some : 0 < K) where
   pub start : {i p g : ℕ} → p ≡ quadratic K f1 f2 i → g ≡ back_from K f1 f2 i → Stride K f1 f2 i p g

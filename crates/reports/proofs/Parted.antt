@@ -4,7 +4,6 @@ use mathlib.Core.Path.{◌≡◌, refl, sym, ◌∙◌, ap}
 use mathlib.Core.Bool.{true, false, ◌||◌}
 use mathlib.Core.List.{List, [], ◌∷◌, ◌++◌}
 use Prim.Native.Nat.{ℕ, suc, ◌+◌, ◌-◌, ◌*◌, ◌/◌, ◌%◌, ◌≤◌, ◌<◌}
-use native.Mathlib.Nat.{sub-zero}
 use native.Mathlib.Omega.{arith}
 use lib.ListN.{length, take, drop, length-drop, take-append-drop}
 use lib.Seq.{length-take-le, take-length}
@@ -138,6 +137,3 @@ message_none n i m h = ap (λ (k : ℕ). message_bits k m) none
   where
     none : n - i ≡ 0
     none = omega arith
-
-pub message_all : (n m : ℕ) → message_bits n m ≡ message_bits (n - 0) m
-message_all n m = ap (λ (k : ℕ). message_bits k m) (sym (sub-zero n))

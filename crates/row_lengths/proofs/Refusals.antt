@@ -11,7 +11,6 @@ use Rattle.refusals.specs.Refusals.{Rule, rule, first_of}
 use Rattle.codeword.specs.declared.Grant.{Grant}
 use Rattle.codeword.specs.Build.{build_rules, build_number}
 use Rattle.codeword.specs.Downlink.{build_down_rules, build_down_number}
-use Rattle.planning.specs.Worst.{worst_rules, worst_number}
 use Rattle.slots.specs.declared.State.{State}
 use Rattle.slots.specs.State.{bad_shape}
 use Rattle.slots.specs.Calls.{store_rules, owner_rules, open_rules, open_number, open_down_number, receive_number, read_number, streams_number, close_number}
@@ -71,10 +70,6 @@ build_most a g size = first_most 21 _ tt
 pub build_down_most : (a : List ℕ) (release k_mimo processes Nsoft layers : ℕ) (g : Grant) (size : ℕ) → build_down_number a release k_mimo processes Nsoft layers g size ≤ 21
 unfolding build_down_number build_down_rules
 build_down_most a release k_mimo processes Nsoft layers g size = first_most 21 _ tt
-
-pub worst_most : (A Q N : ℕ) → worst_number A Q N ≤ 21
-unfolding worst_number worst_rules
-worst_most A Q N = first_most 21 _ tt
 
 pub form_most : (state : State) (plain packed : ℕ) → form_number state plain packed ≤ 21
 unfolding form_number rooms_number change_number

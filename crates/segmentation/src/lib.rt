@@ -44,7 +44,7 @@ pub struct Sizes {
 pub fn segments_for(a: usize) -> Segments
     ensures { result ≡ segments_for a }
 {
-    // kept: numbers that are all 0, and no Option: the contract of segments_for says no_segments
+    // kept: numbers that are all 0, and no Option: the definition of segments_for gives no_segments there
     if bad_size(a) {
         return Segments {
             blocks: 0,
