@@ -21,7 +21,7 @@ use Rattle.rate_matching.proofs.Circle.{start_below}
 use Rattle.rate_matching.proofs.ShapeTurn.{bit_places_none, length_shape}
 use Rattle.rate_matching.proofs.ShapeColumns.{bit_places_split}
 use Rattle.rate_matching.proofs.Units.{low_start, starts_rise}
-use Rattle.rate_matching.proofs.UnitPlaces.{unit_low, unit_lies, unit_ends, unit_named}
+use Rattle.rate_matching.proofs.UnitPlaces.{unit_low, unit_lies, unit_ends, named_at}
 use Rattle.rate_matching.proofs.Cut.{cut_place, whole_most, rest_before, shortened_few, start_head, start_whole, rest_bits, no_rest, none_cut, turn_cut}
 use Rattle.rate_matching.proofs.MatchableBlocks.{Matchable, matchable_is}
 use Rattle.rate_matching.proofs.Turns.{turn_told, rest_taken}
@@ -105,7 +105,7 @@ module _ {D F from to : ℕ} {bits part₀ : List ℕ} (w : Walked D F (length p
       → Put (unit_places U) (left_of n bits) part part' r → Units D F from to bits part₀ part' (n + r) (u + 1)
   units_next {u = u} h s is p = record {
     passed = (omega (arith, s.passed), omega arith);
-    put = put_as whole (put_append s.put (put_as (unit_named u w.most w.filler is w.some (omega (arith, few))) p));
+    put = put_as whole (put_append s.put (put_as (named_at u w.most w.filler is w.some (omega (arith, few))) p));
   }
     where
       whole : bit_places (shape D F) (unit_start (rows D) from) (unit_start (rows D) u) ++ bit_places (shape D F) (unit_start (rows D) u) (unit_start (rows D) (u + 1))
@@ -173,7 +173,7 @@ module _ {D F soft v long : ℕ} (ok : Sends D F soft v long) where
     shortened : {U : Unit} → U ≡ unit_at D F T.whole → take T.rest (unit_places U) ≡ bit_places (shape D F) (unit_start R T.whole) Ncb
     shortened {U} found = elim (dec_lt T.whole 64) [
       | yes l ↦
-          ap (take T.rest) (unit_named T.whole ok.walked.most ok.walked.filler found ok.walked.some l)
+          ap (take T.rest) (named_at T.whole ok.walked.most ok.walked.filler found ok.walked.some l)
           ∙ rw (rest_told, whole_told) (rest_taken D F ok.walked.some ok.walked.filler ok.walked.most ok.cut)
       | no l ↦
           let all : 64 ≤ whole_units Ncb R = omega (arith, whole_told) in

@@ -27,7 +27,7 @@ use Rattle.rate_matching.proofs.Circle.{start_below}
 use Rattle.rate_matching.proofs.ShapeTurn.{bit_places_none, length_shape}
 use Rattle.rate_matching.proofs.ShapeColumns.{bit_places_split}
 use Rattle.rate_matching.proofs.Units.{some_dummies, low_start, starts_rise, unit_last}
-use Rattle.rate_matching.proofs.UnitPlaces.{column_rowed, alone_none, alone_count_lem, column_count, pair_count, told_low, told_high, unit_named}
+use Rattle.rate_matching.proofs.UnitPlaces.{column_rowed, alone_none, alone_count_lem, column_count, pair_count, told_low, told_high, named_at}
 use Rattle.rate_matching.proofs.Cut.{cut_place, rest_bits, shortened_count, turn_cut}
 use Rattle.rate_matching.proofs.MatchableBlocks.{Matchable, matchable_is}
 
@@ -115,7 +115,7 @@ module _ {D F : ℕ} (most : D ≤ longest) (few : F < D) (some : D % 8 ≡ 4) w
   pub one_unit : (u : ℕ) {U : Unit} → U ≡ unit_at D F u → u < 64 → units_to (u + 1) ≡ units_to u + (alone_count U + both_count U)
   one_unit u {U} is l =
       more (unit_start R u) (unit_start R (u + 1)) (starts_rise R u (u + 1) (omega arith))
-      ∙ ap (λ (n : ℕ). units_to u + n) (ap length (sym (unit_named u most few is some l)) ∙ unit_long U)
+      ∙ ap (λ (n : ℕ). units_to u + n) (ap length (sym (named_at u most few is some l)) ∙ unit_long U)
 
   -- ---- of stream 0, and of all
 

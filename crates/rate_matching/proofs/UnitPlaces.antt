@@ -2,7 +2,7 @@
 -- Assumes nothing.
 use mathlib.Core.Path.{◌≡◌, refl, sym, ◌∙◌, ap, ap₂, subst}
 use mathlib.Core.Bool.{Bool, true, false, cond, ◌&&◌}
-use mathlib.Core.List.{◌++◌, map, map-append}
+use mathlib.Core.List.{List, ◌++◌, map, map-append}
 use Prim.Native.Nat.{ℕ, ◌+◌, ◌-◌, ◌*◌, ◌/◌, ◌%◌, ◌≤◌, ◌<◌}
 use native.Mathlib.Nat.{add-zero, mul-le-mul_right}
 use native.Mathlib.Omega.{arith}
@@ -13,6 +13,7 @@ use Rattle.laws.specs.Lists.{tab, tab_from}
 use Rattle.laws.proofs.Tab.{tab_from_shift, map_tab_from, tab_ext}
 use Rattle.std.specs.declared.option.Option.{Option}
 use Rattle.std.specs.declared.option.Option.TheVariants.{Some, None}
+use Rattle.rate_matching.specs.declared.CirclePlace.{CirclePlace}
 use Rattle.rate_matching.specs.declared.Unit.{Unit}
 use Rattle.rate_matching.specs.Columns.{column}
 use Rattle.rate_matching.specs.SubBlocks.{rows, dummies, rows_before}
@@ -20,7 +21,7 @@ use Rattle.rate_matching.specs.Circle.{circle_length}
 use Rattle.rate_matching.specs.Places.{circle_place, longest}
 use Rattle.rate_matching.specs.Walk.{itself}
 use Rattle.rate_matching.specs.Shape.{shape, bit_places, second, pair_places, last_place}
-use Rattle.rate_matching.specs.Matrix.{column_head, head_by, heads_of}
+use Rattle.rate_matching.specs.Matrix.{column_head, head_by, heads_of, heads_within}
 use Rattle.rate_matching.specs.Units.{column_unit, pair_unit, unit_at, unit_within, column_within, pair_within, alone_place, alone_count, both_count, unit_places, unit_start, Lies}
 use Rattle.rate_matching.proofs.Columns.{column_rule}
 use Rattle.rate_matching.proofs.Matrix.{first_head, pair_head, head_at}
@@ -96,14 +97,34 @@ pair_found D F {u} told is high = some_is _ (sym is ∙ told) ∙ sym (unit_high
 -- ---- where stream 0's units begin and end
 
 -- a unit begins where its column's first place is
-pub column_first : (D p : ℕ) → p < 32 → (column_unit D 0 (column p)).begin ≡ get_or (heads_of (rows D) 0) p (circle_place 0)
+pub unit_first : (D p : ℕ) → p < 32 → (column_unit D 0 (column p)).begin ≡ get_or (heads_of (rows D) 0) p (circle_place 0)
 unfolding column_unit head_by
-column_first D p h = sym (head_at (rows D) 0 p h)
+unit_first D p h = sym (head_at (rows D) 0 p h)
 
 -- and the last one ends where stream 0 does
-pub stream_ends : (D : ℕ) → (column_unit D 0 31).end.0 ≡ 32 * rows D
+pub unit_last : (D : ℕ) → (column_unit D 0 31).end.0 ≡ 32 * rows D
 unfolding column_unit
-stream_ends D = omega (arith, first_head (rows D) 31)
+unit_last D = omega (arith, first_head (rows D) 31)
+
+-- where a unit begins, and head p, if there is one
+abbrev pub begin_in : Option Unit → Option CirclePlace
+begin_in o = elim o [ None ↦ None | Some U ↦ Some U.begin ]
+
+abbrev pub head_in : ℕ → Option (List CirclePlace) → Option CirclePlace
+head_in p o = elim o [ None ↦ None | Some heads ↦ Some (get_or heads p (circle_place 0)) ]
+
+-- the same of what the mapping gives, which has the units of stream 0 where it has the heads
+pub column_first : (D p : ℕ) → p < 32 → begin_in (column_within D 0 (column p)) ≡ head_in p (heads_within D 0)
+unfolding column_within heads_within
+column_first D p h = rw (lt-ltb (column p) 32 (column_rule p h).0) (go (leb D longest && ltb 0 D))
+  where
+    go : (t : Bool) → begin_in (cond (t && true) (Some (column_unit D 0 (column p))) None) ≡ head_in p (cond (t && true) (Some (heads_of (rows D) 0)) None)
+    go true = ap (λ (x : CirclePlace). Some x) (unit_first D p h)
+    go false = refl
+
+pub stream_ends : {D : ℕ} → D ≤ longest → 0 < D → {U : Unit} → Some U ≡ column_within D 0 31 → U.end.0 ≡ 32 * rows D
+unfolding column_within
+stream_ends {D} most some is = ap (λ (x : Unit). x.end.0) (some_is _ is) ∙ unit_last D
 
 -- ---- the rows of a column
 
@@ -253,9 +274,9 @@ module _ {D F : ℕ} (u : ℕ) (most : D ≤ longest) (few : F < D) {U : Unit} (
   told_high h = is ∙ unit_high D F h
 
   -- the units lie one after another
-  pub unit_begins : U.begin.0 ≡ unit_start (rows D) u
+  pub begins_at : U.begin.0 ≡ unit_start (rows D) u
   unfolding column_unit pair_unit
-  unit_begins = go (ltb u 32) refl
+  begins_at = go (ltb u 32) refl
     where
       go : (a : Bool) → ltb u 32 ≡ a → U.begin.0 ≡ unit_start (rows D) u
       go true s = let h : u < 32 = ltb-true u 32 s in ap (λ (x : Unit). x.begin.0) (told_low h) ∙ first_head (rows D) u ∙ sym (low_start (rows D) u h)
@@ -277,8 +298,8 @@ module _ {D F : ℕ} (u : ℕ) (most : D ≤ longest) (few : F < D) {U : Unit} (
   unit_ends l = by_kind (λ (x : Unit). x.end.0 ≤ circle_length (rows D)) l (column_ends most few) (pair_ends most few)
 
   -- the places that it names are those of the unit that hold a bit
-  pub unit_named : D % 8 ≡ 4 → u < 64 → unit_places U ≡ bit_places (shape D F) (unit_start (rows D) u) (unit_start (rows D) (u + 1))
-  unit_named some l = go (ltb u 32) refl
+  pub named_at : D % 8 ≡ 4 → u < 64 → unit_places U ≡ bit_places (shape D F) (unit_start (rows D) u) (unit_start (rows D) (u + 1))
+  named_at some l = go (ltb u 32) refl
     where
       go : (a : Bool) → ltb u 32 ≡ a → unit_places U ≡ bit_places (shape D F) (unit_start (rows D) u) (unit_start (rows D) (u + 1))
       go true s =
@@ -287,3 +308,14 @@ module _ {D F : ℕ} (u : ℕ) (most : D ≤ longest) (few : F < D) {U : Unit} (
       go false s =
           let h : 32 ≤ u = ltb-false u 32 s in
           ap unit_places (told_high h) ∙ rw (high_next (rows D) u h, high_start (rows D) u h) (pair_named most few (omega arith) some)
+
+-- ---- of the unit that the mapping gives
+
+module _ {D F : ℕ} (u : ℕ) (most : D ≤ longest) (few : F < D) {U : Unit} (is : Some U ≡ unit_within D F u) where
+  -- the units lie one after another
+  pub unit_begins : U.begin.0 ≡ unit_start (rows D) u
+  unit_begins = begins_at u most few (unit_found D F u is refl)
+
+  -- the places that it names are those of the unit that hold a bit
+  pub unit_named : D % 8 ≡ 4 → u < 64 → unit_places U ≡ bit_places (shape D F) (unit_start (rows D) u) (unit_start (rows D) (u + 1))
+  unit_named some l = named_at u most few (unit_found D F u is refl) some l

@@ -10,7 +10,7 @@ use Rattle.rate_matching.specs.Places.{circle_place}
 use Rattle.rate_matching.specs.Matrix.{heads_of}
 use Rattle.rate_matching.specs.Units.{column_unit, column_within}
 use Rattle.rate_matching.proofs.Columns.{column_rule}
-use Rattle.rate_matching.proofs.UnitPlaces.{column_there, column_first}
+use Rattle.rate_matching.proofs.UnitPlaces.{column_there, unit_first}
 use Rattle.std.specs.declared.option.Option.TheVariants.{Some}
 use Rattle.kept_bits.specs.inner.Rows.{kept_below, missing_below}
 use Rattle.kept_bits.proofs.Bytes.{missing_le}
@@ -38,7 +38,7 @@ head c =
     let w = c.requires.0 in
     let below : c.loop-p.p < 32 = omega (arith, c.loop-p-test.true, c.requires.2.most) in
     let is = c.column_unit_at.ensures ∙ ap (column_within c.args.d 0) c.column_at.ensures ∙ column_there w.most (omega (arith, w.least)) (column_rule c.loop-p.p below).0 in
-    ap (λ (u : Unit). u.begin) (found_is _ c.unwrap.ensures is) ∙ column_first c.args.d c.loop-p.p below
+    ap (λ (u : Unit). u.begin) (found_is _ c.unwrap.ensures is) ∙ unit_first c.args.d c.loop-p.p below
 
 found : (c : After-unwrap) → c.unwrap.result.begin.0 + c.args.row < length c.args.circle.now
 found c =

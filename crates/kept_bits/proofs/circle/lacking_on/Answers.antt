@@ -8,7 +8,7 @@ use Rattle.std.specs.declared.option.Option.TheVariants.{Some}
 use Rattle.rate_matching.specs.declared.Unit.{Unit}
 use Rattle.rate_matching.specs.SubBlocks.{rows}
 use Rattle.rate_matching.specs.Matrix.{matrix_within}
-use Rattle.rate_matching.proofs.UnitPlaces.{column_there, stream_ends}
+use Rattle.rate_matching.proofs.UnitPlaces.{column_there, unit_last}
 use Rattle.slots.specs.Circle.{lacking_on}
 use Rattle.kept_bits.proofs.Rows.{found_is, matrix_some}
 use Rattle.kept_bits.proofs.Lacking.{tail_last, bits_first, stream_fits, front_needs, back_needs, all_parts}
@@ -20,7 +20,7 @@ end_is : (c : After-unwrap) → c.unwrap.result.end.0 ≡ 32 * rows (c.args.k + 
 end_is c =
     let w = c.requires.1.sized in
     let there = column_there {F = 0} {c = 31} w.most (omega (arith, w.least)) (omega arith) in
-    ap (λ (u : Unit). u.end.0) (found_is _ c.unwrap.ensures (c.column_unit_at.ensures ∙ there)) ∙ stream_ends (c.args.k + 4)
+    ap (λ (u : Unit). u.end.0) (found_is _ c.unwrap.ensures (c.column_unit_at.ensures ∙ there)) ∙ unit_last (c.args.k + 4)
 
 -- where the data places begin, and the tail bits
 data_is : (c : After-unwrap-data) → Some c.unwrap-data.result ≡ matrix_within (c.args.k + 4) (0, c.args.f)
@@ -34,7 +34,7 @@ parts : (c : After-count_row-back) → c.count_missing-all.result ≡ c.count_be
 parts c =
     let w = c.requires.1.sized in
     let there = column_there {F = 0} {c = 31} w.most (omega (arith, w.least)) (omega arith) in
-    let end = ap (λ (u : Unit). u.end.0) (found_is _ c.unwrap.ensures (c.column_unit_at.ensures ∙ there)) ∙ stream_ends (c.args.k + 4) in
+    let end = ap (λ (u : Unit). u.end.0) (found_is _ c.unwrap.ensures (c.column_unit_at.ensures ∙ there)) ∙ unit_last (c.args.k + 4) in
     all_parts c.args.circle.now c.requires.0 c.requires.1 (sym c.unwrap-tail.ensures ∙ c.matrix_place-2.ensures) (sym c.unwrap-data.ensures ∙ c.matrix_place.ensures)
     end c.count_missing-all.ensures c.count_before-front.ensures c.count_row-back.ensures
 
