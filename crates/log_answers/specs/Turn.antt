@@ -1,9 +1,9 @@
 -- A turn of a log as it comes in: what a read brought, the answer to the line that stands there, and the line after it. An unfinished line waits.
 -- Assumes nothing.
-use Rattle.std.specs.Prelude.{false, cond, List, ℕ, ◌-◌, eqb, take, drop}
+use Rattle.std.specs.Prelude.{Bool, false, cond, List, ℕ, ◌-◌, eqb, take, drop}
 use Rattle.slots.specs.Calls.{new_outcome}
 use Rattle.log_input.specs.declared.Line.{Line}
-use Rattle.log_input.specs.Line.{unread_line, line_now, text_now, line_after, text_after}
+use Rattle.log_input.specs.Line.{unread_line, line_now, text_now, line_after, text_after, none_left}
 use Rattle.yard.specs.declared.Step.{Step}
 use Rattle.yard.specs.Step.{step_within, plain_within, packed_within, out_within}
 use Rattle.log_answers.specs.declared.Log.{Log}
@@ -63,3 +63,7 @@ packed_turned log count text plain packed size =
 unfoldable pub out_turned : Log → ℕ → List ℕ → List ℕ → List ℕ → List ℕ → List ℕ
 out_turned log count text plain packed out =
     out_answered log.step (line_now log.line count text) (text_now log.line count text) plain packed out
+
+-- how many turns are left after one of so many: none where the answer could not be written (`going` is false) or no line is left
+unfoldable pub turns_left : ℕ → Bool → Line → ℕ
+turns_left turns going line = cond (eqb turns 0) 0 (cond (none_left line) 0 (cond going (turns - 1) 0))

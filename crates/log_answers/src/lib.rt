@@ -2,9 +2,9 @@
 // kept: the two stores and the output one by one: each is lent for itself, and what it holds afterwards is a clause of its own.
 #![tactic(auto)]
 
-ghost use Rattle.std.specs.Prelude.{◌≡◌, ◌≤◌, length};
+ghost use Rattle.std.specs.Prelude.{◌≡◌, ◌≤◌, ◌<◌, length};
 ghost use Rattle.log_input.specs.Line.{Stands};
-ghost use Rattle.log_answers.specs.Turn.{first_log, step_answered, plain_answered, packed_answered, out_answered, log_turned, text_turned, plain_turned, packed_turned, out_turned};
+ghost use Rattle.log_answers.specs.Turn.{first_log, step_answered, plain_answered, packed_answered, out_answered, log_turned, text_turned, plain_turned, packed_turned, out_turned, turns_left};
 
 use log_input::Line;
 use yard::Step;
@@ -87,4 +87,18 @@ fn answer_line(
         };
     }
     yard::replay_line(state, four, &text[from..to], plain, packed, out)
+}
+
+// How many turns are left after one of so many: none where its answer could not be written or no line is left.
+pub fn turns_left(turns: u64, going: bool, line: Line) -> u64
+    ensures value { result ≡ turns_left turns going line }
+    ensures upper_bound { 0 < turns → result < turns }
+{
+    if turns == 0 {
+        return 0;
+    }
+    if log_input::nothing_is_left(line) {
+        return 0;
+    }
+    if going { turns - 1 } else { 0 }
 }

@@ -35,9 +35,9 @@ fn replay_log(
         let count = read_on(rt, log.line, turn == 0, text);
         log = log_answers::turn(log, count, text, plain, packed, out);
         let written = log.step.written;
-        rt.write_all(&out[..written])?;
-        if log_input::nothing_is_left(log.line) {
-            break;
+        let row = rt.write_all(&out[..written]);
+        if log_answers::turns_left(u64::MAX - turn, row.is_ok(), log.line) == 0 {
+            return row;
         }
     }
     Ok(())
