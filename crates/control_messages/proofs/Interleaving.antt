@@ -158,6 +158,13 @@ pub next_column : {D : ℕ} {x taken₀ taken : List ℕ} {n : ℕ} (c q : ℕ) 
     → Taking D x taken₀ taken n ((c + 1) * rows D + 0)
 next_column {D} c q h w = let e : (c + 1) * rows D + 0 ≡ c * rows D + q + 1 = omega arith in rw e w
 
+-- the places still to be read grow fewer
+pub fewer_row : (R c q : ℕ) → c < 32 → q < R → 32 * R - (c * R + (q + 1)) < 32 * R - (c * R + q)
+fewer_row R c q hc hq = omega (arith, digits_lt hc hq)
+
+pub fewer_column : (R c q : ℕ) → c < 32 → q < R → q + 1 ≡ R → 32 * R - ((c + 1) * R + 0) < 32 * R - (c * R + q)
+fewer_column R c q hc hq e = omega (arith, digits_lt hc hq)
+
 -- behind the last column
 pub all_passed : (R c q : ℕ) → 32 ≤ c → 32 * R ≤ c * R + q
 all_passed R c q h = omega (arith, mul-le-mul_right R h)

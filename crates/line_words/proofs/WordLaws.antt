@@ -1,10 +1,16 @@
 -- Laws of the words of a line (`words_of`): they are the parts between its blanks.
 -- Assumes nothing.
 use Rattle.std.proofs.Common.{◌≡◌, ℕ, zero, suc, ◌+◌, ◌≤◌, Bool, true, false, cond, List, [], ◌∷◌, length, get_or, refl, sym, ◌∙◌, ap, eqb, count_by, arith}
+use mir.Val.{bool_byte}
 use Rattle.std.specs.List.{slice_split, onto_first}
 use Rattle.std.proofs.lemmas.List.Splits.{length-slice_split}
 use Rattle.lines.specs.Text.{onto}
 use Rattle.line_words.specs.Words.{blank, words_of, word_at}
+
+-- a test as a number is at most 1
+pub byte_le : (b : Bool) → bool_byte b ≤ 1
+byte_le true = omega arith
+byte_le false = omega arith
 
 onto_is : (b : ℕ) (ws : List (List ℕ)) → onto b ws ≡ onto_first b ws
 unfolding onto

@@ -1,5 +1,6 @@
 pub mod Reading
 pub mod Decimal
+pub mod Powers
 pub mod Putting
 pub mod Numbers
 pub mod Refusals

@@ -83,6 +83,9 @@ next_word m p h =
 pub last_more : (k last : ℕ) → last ≡ 2 ^ suc k - 1 → 2 * last + 1 ≡ 2 ^ suc (k + 1) - 1
 last_more k last e = rw (add-one k) (let some : 0 < 2 ^ suc k = pow_pos (suc k) in omega (arith, pow-suc 2 (suc k)))
 
+pub last_small : (k last : ℕ) → k < 11 → last ≡ 2 ^ suc k - 1 → last < 2048
+last_small k last h e = let most : 2 ^ suc k ≤ 2048 = pow_mono {i = suc k} {j = 11} (omega arith) in let some : 0 < 2 ^ suc k = pow_pos (suc k) in omega arith
+
 -- the number of messages of O bits, as a shift gives it
 few_messages : (O : ℕ) → O ≤ 11 → 2 ^ O ≤ 2048
 few_messages O h = pow_mono {i = O} {j = 11} h

@@ -91,6 +91,24 @@ whole_over n xs out some full = rw (div-eq_of_eq-mul_right some full, drop_of_le
 
 -- ---- reading
 
+-- the first m bytes and the n after them
+pub split : (m n : ℕ) (bytes : List ℕ) (at : ℕ) → number_from (m + n) bytes at ≡ number_from m bytes at + 256 ^ m * number_from n bytes (at + m)
+unfolding number_from
+split zero n bytes at = ap (λ (k : ℕ). number_from k bytes at) none ∙ omega (arith, ap (number_from n bytes) here)
+  where
+    none : 0 + n ≡ n
+    none = omega arith
+
+    here : at + 0 ≡ at
+    here = omega arith
+split (suc m) n bytes at = ap (λ (k : ℕ). number_from k bytes at) one ∙ rw (pow-suc 256 m) (omega (arith, rw there at (split m n bytes (at + 1))))
+  where
+    one : suc m + n ≡ suc (m + n)
+    one = omega arith
+
+    there : at + 1 + m ≡ at + suc m
+    there = omega arith
+
 -- the terms of eight bytes
 pub eight_from : (bytes : List ℕ) (at : ℕ) → number_from 8 bytes at
     ≡ get_or bytes at 0
