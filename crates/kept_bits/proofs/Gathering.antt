@@ -79,6 +79,10 @@ module _ (heads : List CirclePlace) (step r : ℕ) where
 pub record Rowing (circle : List ℕ) (heads : List CirclePlace) (step row : ℕ) (out₀ out : List ℕ) (r : ℕ) : Type 0 where
   pub wrote : Writing out₀ out (32 * r) (tab_from (32 * row + 32 * r) (length out₀ - 32 * r) (kept_by circle heads step)) (tab_from (32 * row) (length out₀) (kept_by circle heads step))
 
+-- a row further down
+pub row_further : (step row r : ℕ) {below : ℕ} → below ≡ step * (row + r) → below + step ≡ step * (row + (r + 1))
+row_further step row r e = omega (arith, e)
+
 module _ {circle : List ℕ} {heads : List CirclePlace} {step row : ℕ} {out₀ : List ℕ} where
   pub rowing_start : Rowing circle heads step row out₀ out₀ 0
   rowing_start = record { wrote = same (rw (add-zero (32 * row), sub-zero (length out₀))) start }

@@ -70,13 +70,16 @@ fn gather_rows(of: Columns, row: usize, out: &mut [u8])
     ensures { out.new ≡ tab_from (32 * row) (length out.old) (kept_by of.entry.circle.now of.entry.heads.now of.entry.step) }
 {
     let whole = out.len() / 32;
+    // counted up, for by a product of the row each of the 32 columns would have a counter of its own
+    let mut below = of.step * row;
     for r in 0..whole {
         let at = 32 * r;
         let end = at + 32;
-        gather_row(of, of.step * (row + r), 0, &mut out[at..end]);
+        gather_row(of, below, 0, &mut out[at..end]);
+        below += of.step;
     }
     let last = 32 * whole;
-    gather_row(of, of.step * (row + whole), 0, &mut out[last..]);
+    gather_row(of, below, 0, &mut out[last..]);
 }
 
 // Fills `out` with what the circle keeps for the entries of the matrix from a place on.
