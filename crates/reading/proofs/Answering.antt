@@ -24,7 +24,7 @@ use Rattle.codeword.specs.Build.{output_rule}
 use Rattle.slots.specs.Calls.{store_rules, owner_rules, size_at_head, read_number, read_outcome, released, read_output}
 use Rattle.slots.specs.Reading.{heard_answer, heard_block}
 use Rattle.slots.proofs.Accepted.{Fitting, Stored, stored, owned}
-use Rattle.slot_calls.specs.Owner.{owner_of}
+use Rattle.slot_calls.specs.Owner.{admitted_by}
 use Rattle.slot_calls.proofs.OwnerParts.{owned_number, owner_refused}
 use Rattle.slot_calls.proofs.Rules.{Settled, failed_all, passed_all}
 use Rattle.reading.specs.inner.Room.{room_fits, room_output}
@@ -36,12 +36,12 @@ fitting_good {M} {A} w = good_size A w.size_some w.size_most
 -- ---- the owner's rules, and those that are asked after them
 
 module _ (state : State) (room slot terminal : ℕ) where
-  pub refused_first : (r : Refusal) (ss : List Rule) → Err r ≡ owner_of state room slot terminal
+  pub refused_first : (r : Refusal) (ss : List Rule) → Err r ≡ admitted_by state room slot terminal
       → Settled (number_of r) ((store_rules state room slot ++ owner_rules state slot terminal) ++ ss)
   unfolding store_rules owner_rules
   refused_first r ss e = failed_all (store_rules state room slot ++ owner_rules state slot terminal) r ss tt (owner_refused state room slot terminal e)
 
-  pub passed_first : {head : Head} {m : ℕ} {ss : List Rule} → Ok head ≡ owner_of state room slot terminal → Settled m ss
+  pub passed_first : {head : Head} {m : ℕ} {ss : List Rule} → Ok head ≡ admitted_by state room slot terminal → Settled m ss
       → Settled m ((store_rules state room slot ++ owner_rules state slot terminal) ++ ss)
   unfolding store_rules owner_rules
   passed_first e w = passed_all (store_rules state room slot ++ owner_rules state slot terminal) tt (owned_number state room slot terminal e) w

@@ -50,7 +50,8 @@ fn read_form(
     ensures out_after { out.new ≡ read_output state (places_in four store.now) slot terminal out.old }
 {
     let asked = packing::places_asked(four, store.len());
-    let head = states::owner(state, asked, slot, terminal)?;
+    let owner = states::owner(state, asked, slot, terminal);
+    let head = owner.admitted?;
     applied(out.len() < head.size, Refusal::TooShort)?;
     let long = state.blocks * packing::bytes_a_block(four);
     let from = slot * long;

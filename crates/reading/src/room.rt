@@ -39,23 +39,33 @@ fn right_after(lacking: usize, check: usize, right: usize, r: usize, bits: &[u8]
     if passed { r + 1 } else { right }
 }
 
-// Fills `out` with what the circle of code block r keeps for the places of stream 0 from `f` on, of streams of k + 4 places: from the room,
-// or where it keeps four places a byte from an array, in which the first of them are unpacked: stream 0 has 32 a row, 8 bytes.
+// Fills `out` with what the circle of code block r keeps for the places of stream 0 from `f` on, of streams of k + 4 places.
 fn read_data(four: bool, r: usize, k: usize, f: usize, room: &[u8], out: &mut [u8])
     requires { HasCircle four r room.now × Stretch per_block (k + 4) 0 f (length out.old) }
     ensures { out.new ≡ heard_on (circle_at r (places_in four room.now)) k f (length out.old) }
 {
+    if four {
+        read_packed_data(r, k, f, room, out);
+        return;
+    }
     let long = bytes_a_block(four);
     let from = r * long;
-    if four {
-        let mut circle = [0u8; STREAM_MOST];
-        let to = from + 8 * ((k + 35) / 32);
-        unpack_places(&room[from..to], &mut circle);
-        kept_bits::read_stream(&circle, k + 4, StreamPlace(0, f), out);
-    } else {
-        let to = from + long;
-        kept_bits::read_stream(&room[from..to], k + 4, StreamPlace(0, f), out);
-    }
+    let to = from + long;
+    kept_bits::read_stream(&room[from..to], k + 4, StreamPlace(0, f), out);
+}
+
+// The same of a room that keeps four places a byte: the first places of the circle are unpacked in an array, stream 0's, 32 a row, 8 bytes. Never a part of
+// its caller, on whose stack a plain Read would have the array too.
+#[inline(never)]
+fn read_packed_data(r: usize, k: usize, f: usize, room: &[u8], out: &mut [u8])
+    requires { HasCircle true r room.now × Stretch per_block (k + 4) 0 f (length out.old) }
+    ensures { out.new ≡ heard_on (circle_at r (places_in true room.now)) k f (length out.old) }
+{
+    let mut circle = [0u8; STREAM_MOST];
+    let from = r * bytes_a_block(true);
+    let to = from + 8 * ((k + 35) / 32);
+    unpack_places(&room[from..to], &mut circle);
+    kept_bits::read_stream(&circle, k + 4, StreamPlace(0, f), out);
 }
 
 // Puts the sequence as it was heard, the block and its transport check, over the front of `b`, and tells what lacks and, where nothing does, which code block

@@ -35,7 +35,7 @@ use Rattle.slots.proofs.Acceptance.{receives}
 use Rattle.slots.proofs.Accepted.{good, room_within}
 use Rattle.packing.specs.Store.{places_in, in_form, places_asked}
 use Rattle.packing.proofs.Stores.{form_back, asked_enough}
-use Rattle.slot_calls.specs.Owner.{owner_of}
+use Rattle.slot_calls.specs.Owner.{admitted_by}
 use Rattle.slot_calls.proofs.OwnerParts.{owned_head}
 use Rattle.slot_calls.proofs.Rules.{Settled, known}
 use Rattle.reading.proofs.Answering.{refused_first, passed_first}
@@ -104,14 +104,14 @@ module _ (four : Bool) (state : State) (slot terminal Q N v : ℕ) (bits store :
       ∙ asked_enough four state store slot (owner_rules state slot terminal ++ grant_rules (size_at_head state slot) (grant Q N v (length bits)) (bad_bits bits))
 
   -- by what the owner's rules gave
-  module _ (refusal : Refusal) (e : Err refusal ≡ owner_of state asked slot terminal) where
+  module _ (refusal : Refusal) (e : Err refusal ≡ admitted_by state asked slot terminal) where
     refused_is : number_of refusal ≡ number
     refused_is = numbered refl (refused_first state asked slot terminal refusal (grant_rules (size_at_head state slot) (grant Q N v (length bits)) bad) e)
 
     refused_ne0 : eqb number 0 ≡ false
     refused_ne0 = ap (λ (n : ℕ). eqb n 0) (sym refused_is) ∙ refusal_ne0 refusal
 
-  module _ (head : Head) (e : Ok head ≡ owner_of state asked slot terminal) where
+  module _ (head : Head) (e : Ok head ≡ admitted_by state asked slot terminal) where
     sized : head.size ≡ size_at_head state slot
     unfolding size_at_head
     sized = ap (λ (h : Head). h.size) (owned_head state asked slot terminal e)
@@ -136,10 +136,10 @@ module _ (four : Bool) (state : State) (slot terminal Q N v : ℕ) (bits store :
   Ready o = IfOk o (λ head. first_of (grant_rules head.size (grant Q N v (length bits)) bad) ≡ 0
       → InSlot state.blocks slot head.size head.share (grant Q N v (length bits)) bits (length (places_in four store)))
 
-  pub by_ready : {o : Result Head Refusal} → o ≡ owner_of state asked slot terminal → Ready o
+  pub by_ready : {o : Result Head Refusal} → o ≡ admitted_by state asked slot terminal → Ready o
   by_ready {o} e = go o e
     where
-      go : (o : Result Head Refusal) → o ≡ owner_of state asked slot terminal → Ready o
+      go : (o : Result Head Refusal) → o ≡ admitted_by state asked slot terminal → Ready o
       go (Ok head) e = ready head e
       go (Err refusal) e = tt
 
@@ -147,7 +147,7 @@ module _ (four : Bool) (state : State) (slot terminal Q N v : ℕ) (bits store :
   unfolding receive_store
   stays z = rw z refl
 
-  pub by_answer : {o : Result Head Refusal} → o ≡ owner_of state asked slot terminal → {answer : Answer}
+  pub by_answer : {o : Result Head Refusal} → o ≡ admitted_by state asked slot terminal → {answer : Answer}
       → answer ≡ answer_by o bad state.blocks slot (grant Q N v (length bits)) bits (places_in four store) → answer ≡ (receive_outcome state slot terminal Q N v bits (places_in four store)).answer
   unfolding answer_by receive_outcome unless_refused
   by_answer {o} e {answer} h = go o e h
@@ -155,17 +155,17 @@ module _ (four : Bool) (state : State) (slot terminal Q N v : ℕ) (bits store :
       Told : Type 0
       Told = answer ≡ (receive_outcome state slot terminal Q N v bits (places_in four store)).answer
 
-      by_number : (head : Head) → Ok head ≡ owner_of state asked slot terminal → (t : Bool) → eqb number 0 ≡ t
+      by_number : (head : Head) → Ok head ≡ admitted_by state asked slot terminal → (t : Bool) → eqb number 0 ≡ t
           → answer ≡ answer_by (Ok head) bad state.blocks slot (grant Q N v (length bits)) bits (places_in four store) → Told
       by_number head e true z h = h ∙ (rw (number_is head e, z, places_are head e z, sized head e) refl)
       by_number head e false z h = h ∙ (rw (number_is head e, z) refl)
 
-      go : (o : Result Head Refusal) → o ≡ owner_of state asked slot terminal
+      go : (o : Result Head Refusal) → o ≡ admitted_by state asked slot terminal
           → answer ≡ answer_by o bad state.blocks slot (grant Q N v (length bits)) bits (places_in four store) → Told
       go (Ok head) e h = by_number head e (eqb number 0) refl h
       go (Err refusal) e h = h ∙ (rw (refused_is refusal e, refused_ne0 refusal e) refl)
 
-  pub by_store : {o : Result Head Refusal} → o ≡ owner_of state asked slot terminal → {store' : List ℕ} → EachBelow 256 store'
+  pub by_store : {o : Result Head Refusal} → o ≡ admitted_by state asked slot terminal → {store' : List ℕ} → EachBelow 256 store'
       → store' ≡ store_by four o bad state.blocks slot (grant Q N v (length bits)) bits store → store' ≡ in_form four (receive_store state slot terminal Q N v bits (places_in four store))
   unfolding store_by
   by_store {o} e {store'} below h = go o e h
@@ -176,12 +176,12 @@ module _ (four : Bool) (state : State) (slot terminal Q N v : ℕ) (bits store :
       kept : store' ≡ store → eqb number 0 ≡ false → Stored
       kept same z = same ∙ sym (form_back four store (subst (EachBelow 256) same below)) ∙ ap (in_form four) (stays z)
 
-      by_number : (head : Head) → Ok head ≡ owner_of state asked slot terminal → (t : Bool) → eqb number 0 ≡ t
+      by_number : (head : Head) → Ok head ≡ admitted_by state asked slot terminal → (t : Bool) → eqb number 0 ≡ t
           → store' ≡ store_by four (Ok head) bad state.blocks slot (grant Q N v (length bits)) bits store → Stored
       by_number head e true z h = h ∙ (rw (number_is head e, z) (ap (in_form four) (places_are head e z)))
       by_number head e false z h = kept (h ∙ (rw (number_is head e, z) refl)) z
 
-      go : (o : Result Head Refusal) → o ≡ owner_of state asked slot terminal
+      go : (o : Result Head Refusal) → o ≡ admitted_by state asked slot terminal
           → store' ≡ store_by four o bad state.blocks slot (grant Q N v (length bits)) bits store → Stored
       go (Ok head) e h = by_number head e (eqb number 0) refl h
       go (Err refusal) e h = kept h (refused_ne0 refusal e)

@@ -20,7 +20,7 @@ ghost use Rattle.codeword.specs.Shares.{grant};
 ghost use Rattle.reception.specs.inner.Parts.{grant_rules, answer_by, store_by, InSlot};
 
 use codeword::Grant;
-use refusals::{Refusal, applied};
+use refusals::{Refusal, applied, or_else};
 use slot_calls::states;
 use slots::{Answer, Head, Outcome, State};
 
@@ -42,7 +42,16 @@ pub fn receive(
     let bad = codeword::bad_bits(bits);
     let owner = states::owner(state, store.len(), slot, terminal);
     let grant = granted(q, n, version, bits);
-    let answer = receive_by(false, owner, bad, state.blocks, slot, grant, bits, store);
+    let answer = receive_by(
+        false,
+        owner.admitted,
+        bad,
+        state.blocks,
+        slot,
+        grant,
+        bits,
+        store,
+    );
     Outcome { answer, state }
 }
 
@@ -65,7 +74,16 @@ pub fn receive_packed(
     let asked = packing::places_asked(true, store.len());
     let owner = states::owner(state, asked, slot, terminal);
     let grant = granted(q, n, version, bits);
-    let answer = receive_by(true, owner, bad, state.blocks, slot, grant, bits, store);
+    let answer = receive_by(
+        true,
+        owner.admitted,
+        bad,
+        state.blocks,
+        slot,
+        grant,
+        bits,
+        store,
+    );
     Outcome { answer, state }
 }
 
@@ -111,9 +129,9 @@ fn admitted(size: usize, grant: Grant, bad: bool) -> Result<(), Refusal>
 {
     let blocks = states::block_count(size);
     let misfits = codeword::bad_allocation(blocks, grant.modulation, grant.layers, grant.bits);
-    applied(misfits, Refusal::BadAllocation)?;
-    applied(grant.version > 3, Refusal::BadVersion)?;
-    applied(bad, Refusal::BadBit)
+    let allocated = applied(misfits, Refusal::BadAllocation);
+    let versioned = or_else(allocated, grant.version > 3, Refusal::BadVersion);
+    or_else(versioned, bad, Refusal::BadBit)
 }
 
 // Puts the bits in a slot's room for so many code blocks, in a store of either form, and counts the data places of its block that then lack one.

@@ -1,17 +1,18 @@
--- Laws of refusals in order: the first of two lists of rules; what 0 says, and what another number says.
+-- Laws of refusals in order: a chain of `or_else` is `first_of`; the first of two lists of rules; what 0 says, and what another number says.
+-- In an answer `chained (next c.or_else.ensures (next c.or_else-2.ensures done)) tt`, one `next` a rule, proves `r ≡ first_of rules` under `unfolding rules`.
 -- In an answer `passed rules e z tt (size_rule A) (search listed)`, of a number that is `first_of rules` and 0, proves that the test of the rule so named is false, wherever it stands
 -- among the rules. A rule's test is written as the code has it: `a >= 7` is `leb 7 a`.
 -- Assumes nothing.
-use mathlib.Core.Path.{◌≡◌, refl, sym, ◌∙◌, ap₂}
+use mathlib.Core.Path.{◌≡◌, refl, sym, ◌∙◌, ap, ap₂}
 use mathlib.Core.Bool.{Bool, true, false, cond}
 use mathlib.Core.List.{List, [], ◌∷◌, ◌++◌}
 use Prim.Native.Nat.{ℕ, zero, suc, ◌<◌}
 use native.Mathlib.Nat.{not-suc-le-zero, le_of_suc-le-suc}
 use native.Mathlib.Omega.{arith}
-use borrow.Author.Tests.{eqb-false}
+use borrow.Author.Tests.{eqb-true, eqb-false}
 use lib.Dec.{T, eqb}
 use lib.ListN.{length, get_or}
-use Rattle.refusals.specs.Refusals.{Rule, rule, first_of}
+use Rattle.refusals.specs.Refusals.{Rule, rule, first_of, or_else}
 
 -- the rule that never applies
 abbrev pub never : Rule
@@ -33,6 +34,36 @@ numbered_cons r rs t = go (eqb r.number 0) refl t
 abbrev given : Bool → ℕ → ℕ → ℕ
 given b k n = elim b [ true ↦ k | false ↦ n ]
 
+-- ---- a chain of or_else
+
+-- a chain over the rules rs that starts from n comes to m
+pub record Chain (n : ℕ) (rs : List Rule) (m : ℕ) : Type 0 where
+  pub is : T (numbered rs) → m ≡ cond (eqb n 0) (first_of rs) n
+
+-- the chain's end
+pub done : {n : ℕ} → Chain n [] n
+unfolding first_of
+done {n} = record { is = λ t. go (eqb n 0) refl }
+  where
+    go : (z : Bool) → eqb n 0 ≡ z → n ≡ cond z 0 n
+    go true e = eqb-true n 0 e
+    go false e = refl
+
+-- one call of or_else
+pub next : {n x m : ℕ} {r : Rule} {rs : List Rule} → x ≡ or_else n r.bad r.number → Chain x rs m → Chain n (r ∷ rs) m
+unfolding first_of or_else
+next {n} {x} {m} {r} {rs} e w = record { is = λ t. by (eqb n 0) refl r.bad e (numbered_cons r rs t).0 (w.is (numbered_cons r rs t).1) }
+  where
+    by : (z : Bool) → eqb n 0 ≡ z → (b : Bool) → x ≡ cond z (cond b r.number 0) n → eqb r.number 0 ≡ false → m ≡ cond (eqb x 0) (first_of rs) x
+        → m ≡ cond z (given b r.number (first_of rs)) n
+    by true q true e k h = cc
+    by true q false e k h = cc
+    by false q b e k h = cc
+
+-- the whole chain, and one that goes on from what the rules rs gave
+pub chained : {rs : List Rule} {m : ℕ} → Chain 0 rs m → T (numbered rs) → m ≡ first_of rs
+chained w t = w.is t
+
 -- the first of two lists, one after the other
 pub first_of_append : (rs ss : List Rule) → T (numbered rs) → first_of (rs ++ ss) ≡ cond (eqb (first_of rs) 0) (first_of ss) (first_of rs)
 unfolding first_of
@@ -44,6 +75,9 @@ first_of_append (r ∷ rs) ss t = by r.bad (numbered_cons r rs t).0 (first_of_ap
         ≡ cond (eqb (given b r.number (first_of rs)) 0) (first_of ss) (given b r.number (first_of rs))
     by true k h = cc
     by false k h = h
+
+pub chained_on : (rs : List Rule) {n : ℕ} {ss : List Rule} {m : ℕ} → n ≡ first_of rs → Chain n ss m → T (numbered rs) → T (numbered ss) → m ≡ first_of (rs ++ ss)
+chained_on rs {n} {ss} {m} e w t u = w.is u ∙ ap (λ (k : ℕ). cond (eqb k 0) (first_of ss) k) e ∙ sym (first_of_append rs ss t)
 
 -- ---- what the number given back says
 

@@ -81,8 +81,7 @@ pub fn applied(bad: bool, refusal: Refusal) -> Result<(), Refusal>
     if bad { Err(refusal) } else { Ok(()) }
 }
 
-// What an earlier rule found, else this refusal where its rule applies.
-// kept: no call is left, since `?` asks one rule after another; the edit later_rule_wins speaks of it.
+// What an earlier rule found, else this refusal where its rule applies. (Where a rule may be asked only if none before it applies, `?` asks them one after another.)
 #[tactic(auto, using(crate::proofs::Numbers::refusal_ne0), unfolding(crate::specs::Refusals::or_else))]
 pub fn or_else(found: Result<(), Refusal>, bad: bool, refusal: Refusal) -> Result<(), Refusal>
     ensures { number_in result ≡ or_else (number_in found) bad (number_of refusal) }

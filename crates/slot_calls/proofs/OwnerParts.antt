@@ -14,7 +14,8 @@ use Rattle.slots.specs.declared.Head.{Head}
 use Rattle.slots.specs.declared.State.{State}
 use Rattle.slots.specs.State.{head_at}
 use Rattle.slots.specs.Calls.{store_rules, owner_rules}
-use Rattle.slot_calls.specs.Owner.{owner_number, owner_of}
+use Rattle.slot_calls.specs.declared.Owner.{Owner}
+use Rattle.slot_calls.specs.Owner.{owner_number, admitted_by, owner_of}
 
 -- ---- an answer by its number
 
@@ -58,14 +59,23 @@ given_refused {A} y {r} (a ∷ rs) t e = go a.bad (eqb (number_of (refusal_of a.
 -- ---- the owner's
 
 module _ (state : State) (lent slot terminal : ℕ) where
-  pub owned_number : {head : Head} → Ok head ≡ owner_of state lent slot terminal → 0 ≡ first_of (store_rules state lent slot ++ owner_rules state slot terminal)
-  unfolding owner_of owner_number
+  pub owned_number : {head : Head} → Ok head ≡ admitted_by state lent slot terminal → 0 ≡ first_of (store_rules state lent slot ++ owner_rules state slot terminal)
+  unfolding admitted_by owner_number
   owned_number e = given_none (head_at state slot) _ e
 
-  pub owned_head : {head : Head} → Ok head ≡ owner_of state lent slot terminal → head ≡ head_at state slot
-  unfolding owner_of owner_number
+  pub owned_head : {head : Head} → Ok head ≡ admitted_by state lent slot terminal → head ≡ head_at state slot
+  unfolding admitted_by owner_number
   owned_head e = given_is (owner_number state lent slot terminal) e
 
-  pub owner_refused : {r : Refusal} → Err r ≡ owner_of state lent slot terminal → number_of r ≡ first_of (store_rules state lent slot ++ owner_rules state slot terminal)
-  unfolding owner_of owner_number store_rules owner_rules
+  pub owner_refused : {r : Refusal} → Err r ≡ admitted_by state lent slot terminal → number_of r ≡ first_of (store_rules state lent slot ++ owner_rules state slot terminal)
+  unfolding admitted_by owner_number store_rules owner_rules
   owner_refused e = given_refused (head_at state slot) (store_rules state lent slot ++ owner_rules state slot terminal) tt e
+
+  -- of an owner, refused or not
+  pub owner_admitted : {o : Owner} → o ≡ owner_of state lent slot terminal → o.admitted ≡ admitted_by state lent slot terminal
+  unfolding owner_of
+  owner_admitted e = ap (λ (o : Owner). o.admitted) e
+
+  pub owner_head : {o : Owner} → o ≡ owner_of state lent slot terminal → o.head ≡ head_at state slot
+  unfolding owner_of
+  owner_head e = ap (λ (o : Owner). o.head) e

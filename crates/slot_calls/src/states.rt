@@ -6,9 +6,10 @@ ghost use Rattle.segmentation.specs.Sizes.{bad_size};
 ghost use Rattle.codeword.specs.Downlink.{too_short};
 ghost use Rattle.slots.specs.State.{room_length, room_start, head_at, too_many, broken, bad_shape, bad_state};
 ghost use Rattle.slots.specs.Calls.{store_rules, with_head};
-ghost use Rattle.slot_calls.specs.Owner.{owner_of};
+ghost use Rattle.slot_calls.specs.Owner.{admitted_by, owner_of};
 
-use refusals::{Refusal, applied};
+use crate::Owner;
+use refusals::{Refusal, applied, or_else};
 use slots::{Head, State};
 
 // The bytes that a room has for one code block, the largest circle.
@@ -153,13 +154,24 @@ pub(crate) fn stored_head(state: State, lent: usize, slot: usize) -> Result<Head
 pub(crate) fn owned(head: Head, terminal: u16) -> Result<(), Refusal>
     ensures { number_in result ≡ first_of (rule (not head.opened) 8 ∷ rule (not (eqb head.terminal terminal)) 9 ∷ []) }
 {
-    applied(!head.opened, Refusal::Closed)?;
-    applied(head.terminal != terminal, Refusal::OtherTerminal)
+    let opened = applied(!head.opened, Refusal::Closed);
+    or_else(opened, head.terminal != terminal, Refusal::OtherTerminal)
 }
 
 // What Receive, Read and Streams ask first: 13, 5 (store), 6, 8 and 9, then the slot's head.
-pub fn owner(state: State, lent: usize, slot: usize, terminal: u16) -> Result<Head, Refusal>
+#[tactic(auto, unfolding(crate::specs::Owner::owner_of))]
+pub fn owner(state: State, lent: usize, slot: usize, terminal: u16) -> Owner
     ensures { result ≡ owner_of state lent slot terminal }
+{
+    Owner {
+        admitted: admitted(state, lent, slot, terminal),
+        head: head_at(state, slot),
+    }
+}
+
+// The rules of the store, then those of the slot's head.
+fn admitted(state: State, lent: usize, slot: usize, terminal: u16) -> Result<Head, Refusal>
+    ensures { result ≡ admitted_by state lent slot terminal }
 {
     let head = stored_head(state, lent, slot)?;
     owned(head, terminal)?;

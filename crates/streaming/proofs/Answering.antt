@@ -27,7 +27,7 @@ use Rattle.codeword.specs.Build.{output_rule}
 use Rattle.slots.specs.Calls.{code_block_rule, store_rules, owner_rules, size_at_head, streams_number, streams_outcome, streams_output}
 use Rattle.slots.specs.Reading.{three_streams}
 use Rattle.slots.proofs.Accepted.{Fitting, Stored, stored, owned, served}
-use Rattle.slot_calls.specs.Owner.{owner_of}
+use Rattle.slot_calls.specs.Owner.{admitted_by}
 use Rattle.slot_calls.proofs.OwnerParts.{owned_number, owned_head}
 use Rattle.slot_calls.proofs.Rules.{Settled}
 use Rattle.kept_bits.specs.inner.Rows.{Stretch}
@@ -50,7 +50,7 @@ unfolding streams_number store_rules owner_rules
 streams_told_number state room slot terminal r size c d w = rw (c, d, absent (blocks (size_at_head state slot + 24)) r) at w.is
 
 -- the owner's rules found nothing: the segmentation of the slot's block
-module _ (state : State) (room slot terminal r : ℕ) {head : Head} {s : Segments} (served_lem : Ok head ≡ owner_of state room slot terminal) (told : s ≡ segments_for head.size) where
+module _ (state : State) (room slot terminal r : ℕ) {head : Head} {s : Segments} (served_lem : Ok head ≡ admitted_by state room slot terminal) (told : s ≡ segments_for head.size) where
   fits_owner : Fitting state.blocks (size_at_head state slot)
   fits_owner = (served state room slot terminal (owned_number state room slot terminal served_lem) refl).1.size_fits
 

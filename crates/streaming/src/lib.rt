@@ -18,23 +18,33 @@ use slot_calls::states;
 use slot_calls::states::PER_BLOCK;
 use slots::{Answer, Outcome, State};
 
-// Writes the three runs of code block i of a store over the front of `out`, of streams of d places, the first f being filler: from the
-// store, or where it keeps four places a byte from an array, in which its circle is unpacked: 96 places a row, 24 bytes.
+// Writes the three runs of code block i of a store over the front of `out`, of streams of d places, the first f being filler.
 fn runs_of(four: bool, i: usize, d: usize, f: usize, store: &[u8], out: &mut [u8])
     requires { HasCircle four i store.now × (f ≤ d) × (3 * d ≤ length out.old) × Stretch per_block d 2 0 d }
     ensures { out.new ≡ streams_on (circle_at i (places_in four store.now)) d f ++ drop (3 * d) out.old }
 {
+    if four {
+        packed_runs_of(i, d, f, store, out);
+        return;
+    }
     let long = packing::bytes_a_block(four);
     let from = i * long;
-    if four {
-        let mut circle = [0u8; PER_BLOCK];
-        let to = from + 24 * ((d + 31) / 32);
-        packing::unpack_places(&store[from..to], &mut circle);
-        kept_bits::three_streams(&circle, d, f, out);
-    } else {
-        let to = from + long;
-        kept_bits::three_streams(&store[from..to], d, f, out);
-    }
+    let to = from + long;
+    kept_bits::three_streams(&store[from..to], d, f, out);
+}
+
+// The same of a store that keeps four places a byte: the circle is unpacked in an array, 96 places a row, 24 bytes. Never a part of its caller, on whose stack
+// plain Streams would have the array too.
+#[inline(never)]
+fn packed_runs_of(i: usize, d: usize, f: usize, store: &[u8], out: &mut [u8])
+    requires { HasCircle true i store.now × (f ≤ d) × (3 * d ≤ length out.old) × Stretch per_block d 2 0 d }
+    ensures { out.new ≡ streams_on (circle_at i (places_in true store.now)) d f ++ drop (3 * d) out.old }
+{
+    let mut circle = [0u8; PER_BLOCK];
+    let from = i * packing::bytes_a_block(true);
+    let to = from + 24 * ((d + 31) / 32);
+    packing::unpack_places(&store[from..to], &mut circle);
+    kept_bits::three_streams(&circle, d, f, out);
 }
 
 // Writes the three streams of a code block over the front of `out`, for the decoder chip.
@@ -86,7 +96,8 @@ fn streams_form(
     ensures out_after { out.new ≡ streams_output state (places_in four store.now) slot terminal block out.old }
 {
     let asked = packing::places_asked(four, store.len());
-    let head = states::owner(state, asked, slot, terminal)?;
+    let owner = states::owner(state, asked, slot, terminal);
+    let head = owner.admitted?;
     let s = segmentation::segments_for(head.size);
     applied(block >= s.blocks, Refusal::NoCodeBlock)?;
     let d = block::size_of(s, block) + 4;

@@ -1,13 +1,13 @@
 -- `streaming::streams_form` meets its contract: a refusal is that of the first rule that applies, and where none does the code block's circle lies within the store
 -- (`Answering`, `Form`).
 -- Assumes nothing.
-use mathlib.Core.Path.{◌∙◌, refl, ap}
+use mathlib.Core.Path.{◌∙◌, refl, sym, ap}
 use Prim.Native.Nat.{ℕ, ◌+◌, ◌*◌, ◌≤◌}
 use native.Mathlib.Omega.{arith}
 use mir.Syntax.{w64}
 use mir.Val.{Fits}
 use Rattle.refusals.proofs.Numbers.{refusal_ne0}
-use Rattle.slot_calls.proofs.OwnerParts.{owned_head}
+use Rattle.slot_calls.proofs.OwnerParts.{owned_head, owner_admitted}
 use Rattle.slot_calls.proofs.Rules.{failed, last, passed_over}
 use Rattle.packing.specs.Store.{places_in}
 use Rattle.reading.proofs.Thrown.{thrown}
@@ -19,7 +19,7 @@ use Rattle.streaming.proofs.streams_form.Goals as goal
 
 -- no size is above 6,144
 most : (c : After-size_of-d) → c.size_of-d.result ≤ 6144
-most c = let e = c.args in found_most e.state _ e.slot e.terminal e.block c.in_ok-head.ensures c.segments_for-s.ensures c.size_of-d.ensures
+most c = let e = c.args in found_most e.state _ e.slot e.terminal e.block (sym c.in_ok-head.was ∙ owner_admitted e.state _ e.slot e.terminal c.owner-owner.ensures) c.segments_for-s.ensures c.size_of-d.ensures
 
 -- the call comes to the room
 asked : (c : In_ok-applied-2) → let e = c.args in
@@ -30,11 +30,11 @@ asked c =
       number =
           streams_asked e.four e.state e.store.now e.slot e.terminal e.block _ c.places_asked-asked.ensures
           (streams_told_number e.state _ e.slot e.terminal e.block _
-          (found_blocks e.state _ e.slot e.terminal e.block c.in_ok-head.ensures c.segments_for-s.ensures)
-          (ap (λ (k : ℕ). k + 4) (found_size e.state _ e.slot e.terminal e.block c.in_ok-head.ensures c.segments_for-s.ensures c.size_of-d.ensures))
-          (passed_first e.state _ e.slot e.terminal c.in_ok-head.ensures (passed_over refl c.in_ok-applied.ensures (last c.in_ok-applied-2.ensures))));
+          (found_blocks e.state _ e.slot e.terminal e.block (sym c.in_ok-head.was ∙ owner_admitted e.state _ e.slot e.terminal c.owner-owner.ensures) c.segments_for-s.ensures)
+          (ap (λ (k : ℕ). k + 4) (found_size e.state _ e.slot e.terminal e.block (sym c.in_ok-head.was ∙ owner_admitted e.state _ e.slot e.terminal c.owner-owner.ensures) c.segments_for-s.ensures c.size_of-d.ensures))
+          (passed_first e.state _ e.slot e.terminal (sym c.in_ok-head.was ∙ owner_admitted e.state _ e.slot e.terminal c.owner-owner.ensures) (passed_over refl c.in_ok-applied.ensures (last c.in_ok-applied-2.ensures))));
       zero = refl;
-      found = owned_head e.state _ e.slot e.terminal c.in_ok-head.ensures;
+      found = owned_head e.state _ e.slot e.terminal (sym c.in_ok-head.was ∙ owner_admitted e.state _ e.slot e.terminal c.owner-owner.ensures);
       told = c.segments_for-s.ensures;
     }
 
@@ -51,7 +51,7 @@ returns-in_err-head c =
     let refusal = c.in_err-head.field-0.0 in
     let w = streams_refused e.state (places_in e.four e.store.now) e.slot e.terminal e.block e.out.now
     (streams_asked e.four e.state e.store.now e.slot e.terminal e.block _ c.places_asked-asked.ensures
-    (streams_told_number e.state _ e.slot e.terminal e.block _ refl refl (refused_first e.state _ e.slot e.terminal refusal _ c.in_err-head.ensures)))
+    (streams_told_number e.state _ e.slot e.terminal e.block _ refl refl (refused_first e.state _ e.slot e.terminal refusal _ (sym c.in_err-head.was ∙ owner_admitted e.state _ e.slot e.terminal c.owner-owner.ensures))))
     (refusal_ne0 refusal) in
     record { value = thrown _ c.from_residual.result c.from_residual.ensures ∙ w.0; out_after = w.1 }
 
@@ -62,8 +62,8 @@ returns-in_err-applied c =
     let w = streams_refused e.state (places_in e.four e.store.now) e.slot e.terminal e.block e.out.now
     (streams_asked e.four e.state e.store.now e.slot e.terminal e.block _ c.places_asked-asked.ensures
     (streams_told_number e.state _ e.slot e.terminal e.block _
-    (found_blocks e.state _ e.slot e.terminal e.block c.in_ok-head.ensures c.segments_for-s.ensures) refl
-    (passed_first e.state _ e.slot e.terminal c.in_ok-head.ensures (failed refusal c.in_err-applied.ensures))))
+    (found_blocks e.state _ e.slot e.terminal e.block (sym c.in_ok-head.was ∙ owner_admitted e.state _ e.slot e.terminal c.owner-owner.ensures) c.segments_for-s.ensures) refl
+    (passed_first e.state _ e.slot e.terminal (sym c.in_ok-head.was ∙ owner_admitted e.state _ e.slot e.terminal c.owner-owner.ensures) (failed refusal c.in_err-applied.ensures))))
     (refusal_ne0 refusal) in
     record { value = thrown _ c.from_residual-in_err-applied.result c.from_residual-in_err-applied.ensures ∙ w.0; out_after = w.1 }
 
@@ -80,9 +80,9 @@ returns-in_err-applied-2 c =
     let w = streams_refused e.state (places_in e.four e.store.now) e.slot e.terminal e.block e.out.now
     (streams_asked e.four e.state e.store.now e.slot e.terminal e.block _ c.places_asked-asked.ensures
     (streams_told_number e.state _ e.slot e.terminal e.block _
-    (found_blocks e.state _ e.slot e.terminal e.block c.in_ok-head.ensures c.segments_for-s.ensures)
-    (ap (λ (k : ℕ). k + 4) (found_size e.state _ e.slot e.terminal e.block c.in_ok-head.ensures c.segments_for-s.ensures c.size_of-d.ensures))
-    (passed_first e.state _ e.slot e.terminal c.in_ok-head.ensures (passed_over refl c.in_ok-applied.ensures (failed refusal c.in_err-applied-2.ensures)))))
+    (found_blocks e.state _ e.slot e.terminal e.block (sym c.in_ok-head.was ∙ owner_admitted e.state _ e.slot e.terminal c.owner-owner.ensures) c.segments_for-s.ensures)
+    (ap (λ (k : ℕ). k + 4) (found_size e.state _ e.slot e.terminal e.block (sym c.in_ok-head.was ∙ owner_admitted e.state _ e.slot e.terminal c.owner-owner.ensures) c.segments_for-s.ensures c.size_of-d.ensures))
+    (passed_first e.state _ e.slot e.terminal (sym c.in_ok-head.was ∙ owner_admitted e.state _ e.slot e.terminal c.owner-owner.ensures) (passed_over refl c.in_ok-applied.ensures (failed refusal c.in_err-applied-2.ensures)))))
     (refusal_ne0 refusal) in
     record { value = thrown _ c.from_residual-in_err-applied-2.result c.from_residual-in_err-applied-2.ensures ∙ w.0; out_after = w.1 }
 

@@ -1,12 +1,12 @@
 -- `calls::read_form` meets its contract: a refusal is that of the first rule that applies, and where none does the room lies within the store (`Answering`, `Form`).
 -- Assumes nothing.
-use mathlib.Core.Path.{◌∙◌, refl}
+use mathlib.Core.Path.{◌∙◌, refl, sym}
 use Prim.Native.Nat.{◌+◌, ◌*◌, ◌≤◌}
 use native.Mathlib.Omega.{arith}
 use lib.ListN.{length}
 use Rattle.refusals.proofs.Numbers.{refusal_ne0}
 use Rattle.packing.specs.Store.{places_in}
-use Rattle.slot_calls.proofs.OwnerParts.{owned_head}
+use Rattle.slot_calls.proofs.OwnerParts.{owned_head, owner_admitted}
 use Rattle.slot_calls.proofs.Rules.{failed, last}
 use Rattle.reading.proofs.Thrown.{thrown}
 use Rattle.reading.proofs.Form.{room_there, room_places, read_asked}
@@ -19,11 +19,11 @@ asked : (c : After-bytes_a_block) → let e = c.args in
     Reading e.state (places_in e.four e.store.now) e.slot e.terminal e.out.now 0 c.in_ok-head.head
 asked c =
     let e = c.args in
-    let found = owned_head e.state _ e.slot e.terminal c.in_ok-head.ensures in
+    let found = owned_head e.state _ e.slot e.terminal (sym c.in_ok-head.was ∙ owner_admitted e.state _ e.slot e.terminal c.owner-owner.ensures) in
     record {
       number =
           read_asked e.four e.state e.store.now e.slot e.terminal _ c.places_asked-asked.ensures
-          (read_told e.state _ e.slot e.terminal _ found (passed_first e.state _ e.slot e.terminal c.in_ok-head.ensures (last c.in_ok-applied.ensures)));
+          (read_told e.state _ e.slot e.terminal _ found (passed_first e.state _ e.slot e.terminal (sym c.in_ok-head.was ∙ owner_admitted e.state _ e.slot e.terminal c.owner-owner.ensures) (last c.in_ok-applied.ensures)));
       zero = refl;
       found = found;
     }
@@ -40,7 +40,7 @@ returns-in_err-head c =
     let refusal = c.in_err-head.field-0.0 in
     let w = read_refused e.state (places_in e.four e.store.now) e.slot e.terminal e.out.now
     (read_asked e.four e.state e.store.now e.slot e.terminal _ c.places_asked-asked.ensures
-    (read_told e.state _ e.slot e.terminal _ refl (refused_first e.state _ e.slot e.terminal refusal _ c.in_err-head.ensures)))
+    (read_told e.state _ e.slot e.terminal _ refl (refused_first e.state _ e.slot e.terminal refusal _ (sym c.in_err-head.was ∙ owner_admitted e.state _ e.slot e.terminal c.owner-owner.ensures))))
     (refusal_ne0 refusal) in
     record { value = thrown _ c.from_residual.result c.from_residual.ensures ∙ w.0; out_after = w.1 }
 
@@ -48,10 +48,10 @@ pub returns-in_err-applied : goal.returns-in_err-applied
 returns-in_err-applied c =
     let e = c.args in
     let refusal = c.in_err-applied.field-0.0 in
-    let found = owned_head e.state _ e.slot e.terminal c.in_ok-head.ensures in
+    let found = owned_head e.state _ e.slot e.terminal (sym c.in_ok-head.was ∙ owner_admitted e.state _ e.slot e.terminal c.owner-owner.ensures) in
     let w = read_refused e.state (places_in e.four e.store.now) e.slot e.terminal e.out.now
     (read_asked e.four e.state e.store.now e.slot e.terminal _ c.places_asked-asked.ensures
-    (read_told e.state _ e.slot e.terminal _ found (passed_first e.state _ e.slot e.terminal c.in_ok-head.ensures (failed refusal c.in_err-applied.ensures))))
+    (read_told e.state _ e.slot e.terminal _ found (passed_first e.state _ e.slot e.terminal (sym c.in_ok-head.was ∙ owner_admitted e.state _ e.slot e.terminal c.owner-owner.ensures) (failed refusal c.in_err-applied.ensures))))
     (refusal_ne0 refusal) in
     record { value = thrown _ c.from_residual-in_err-applied.result c.from_residual-in_err-applied.ensures ∙ w.0; out_after = w.1 }
 
