@@ -158,7 +158,9 @@ pub(crate) fn owned(head: Head, terminal: u16) -> Result<(), Refusal>
     or_else(opened, head.terminal != terminal, Refusal::OtherTerminal)
 }
 
-// What Receive, Read and Streams ask first: 13, 5 (store), 6, 8 and 9, then the slot's head.
+// What Receive, Read and Streams ask first: 13, 5 (store), 6, 8 and 9, then the slot's head. Always a part of its caller, so that a call that does not look at
+// the head of a refused slot does not read it.
+#[inline(always)]
 #[tactic(auto, unfolding(crate::specs::Owner::owner_of))]
 pub fn owner(state: State, lent: usize, slot: usize, terminal: u16) -> Owner
     ensures { result ≡ owner_of state lent slot terminal }
