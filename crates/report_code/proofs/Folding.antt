@@ -9,8 +9,8 @@ use native.Mathlib.Numerals.{add-one}
 use native.Mathlib.Decide.{dec_lt}
 use native.Mathlib.Omega.{arith}
 use lib.Dec.{eqb, lit<}
-use lib.ListN.{length, get_or, take, drop, set, replicate, length-drop, take-append-drop, drop_of_length-le}
-use lib.Seq.{length-take-le, get_or-take, take-length, take-add}
+use lib.ListN.{length, get_or, take, drop, set, replicate, length-append, length-drop, take-append-drop, drop_of_length-le}
+use lib.Seq.{length-take-le, get_or-take, take-length, take-add, take_at, drop_at, drop-drop}
 use Rattle.laws.specs.Bits.{AreBits, EachBelow}
 use Rattle.laws.specs.Lists.{tab, tab_from}
 use Rattle.laws.proofs.AreBits.{take_below, drop_below}
@@ -234,13 +234,6 @@ turn_bits_lem received at k bits = take_below 2 (lit< tt) k (drop at received) (
 pub turn_long : (received : List ℕ) {at end : ℕ} → at < end → end ≤ length received → length (take (end - at) (drop at received)) ≡ end - at
 turn_long received {at} {end} h l = length-take-le (end - at) (drop at received) (rw (length-drop at received) (omega arith))
 
--- the last turn ends where the run does
-pub last_turn : (at n end : ℕ) → n - at ≤ 32 → at < n → (end < n → end ≡ at + 32) → n ≤ end
-last_turn at n end few more full = elim (dec_lt end n) [
-  | yes l ↦ let e : end ≡ at + 32 = full l in omega arith
-  | no l ↦ omega arith
-]
-
 pub few_counts : (A : List ℕ) {n at : ℕ} → n ≤ 16384 → at ≤ n → EachBelow (suc ((at + 31) / 32)) A → EachBelow 16384 A
 few_counts A {n} {at} l h few i = let less = few i in omega arith
 
@@ -297,3 +290,72 @@ finish {received} {A} {Z} {at} w h = record {
   where
     all : at ≡ length received
     all = omega (arith, w.within)
+
+-- the whole turns before the bits that are left are counted
+pub record Left (received A Z rest : List ℕ) : Type 0 where
+  pub left : rest ≡ drop (length received - length rest) received
+  pub even : (length received - length rest) % 32 ≡ 0
+  pub folding : Folding received A Z (length received - length rest)
+
+pub left_start : {received rest : List ℕ} → rest ≡ received → Left received (replicate {A = ℕ} 32 0) (replicate {A = ℕ} 32 0) rest
+left_start {received} {rest} e = record {
+  left = e ∙ ap (λ (i : ℕ). drop i received) (sym at);
+  even = rw at refl;
+  folding = rw at (start received);
+}
+  where
+    at : length received - length rest ≡ 0
+    at = omega (arith, ap length e)
+
+module _ {received A Z rest : List ℕ} (w : Left received A Z rest) (bits : AreBits received) where
+  abbrev at : ℕ
+  at = length received - length rest
+
+  within : length rest ≤ length received
+  within = omega (arith, ap length w.left, length-drop at received)
+
+  -- a whole turn comes off the front of what is left
+  module _ (turn rest' : List ℕ) (split : rest ≡ turn ++ rest') (size : length turn ≡ 32) where
+    abbrev end : ℕ
+    end = length received - length rest'
+
+    parts : length rest ≡ 32 + length rest'
+    parts = ap length split ∙ length-append turn rest' ∙ ap (λ (n : ℕ). n + length rest') size
+
+    is_turn : turn ≡ take (end - at) (drop at received)
+    is_turn =
+        sym (take_at turn rest' (length turn) refl)
+        ∙ ap (take (length turn)) (sym split ∙ w.left)
+        ∙ ap (λ (k : ℕ). take k (drop at received)) (omega (arith, size, parts, within))
+
+    pub turn_ready : (length turn ≤ 32) × AreBits turn
+    turn_ready = (omega arith, rw is_turn (turn_bits_lem received at (end - at) bits))
+
+    pub left_next : {A' Z' : List ℕ} → A' ≡ plus A turn → Z' ≡ plus Z (inverted turn) → Left received A' Z' rest'
+    left_next {A'} {Z'} a z = record {
+      left =
+          sym (drop_at turn rest' (length turn) refl)
+          ∙ ap (drop (length turn)) (sym split ∙ w.left)
+          ∙ drop-drop (length turn) at received
+          ∙ ap (λ (k : ℕ). drop k received) (omega (arith, size, parts, within));
+      even = omega (arith, parts, within, w.even);
+      folding =
+          next w.folding bits (omega (arith, parts, within)) (omega (arith, parts, within)) (omega arith) (omega (arith, parts, within)) (λ h. omega (arith, parts, within))
+          (a ∙ ap (plus A) is_turn) (z ∙ ap (λ (t : List ℕ). plus Z (inverted t)) is_turn);
+    }
+
+  -- what is left is less than a turn, and comes last
+  module _ (few : length rest < 32) (last : List ℕ) (e : last ≡ drop (length received - length received % 32) received) where
+    last_is : last ≡ drop at received
+    last_is = e ∙ ap (λ (i : ℕ). drop i received) (omega (arith, within, w.even))
+
+    pub left_finish : {A' Z' : List ℕ} → A' ≡ plus A last → Z' ≡ plus Z (inverted last) → Counted received A' Z'
+    unfolding inverted
+    left_finish {A'} {Z'} a z = elim (dec_lt at (length received)) [
+      | yes l ↦
+          let all : last ≡ take (length received - at) (drop at received) = last_is ∙ sym (take_all (length received - at) (drop at received) (omega (arith, length-drop at received))) in
+          finish (next w.folding bits l l (omega arith) (omega (arith, within)) (λ h. absurd (omega arith)) (a ∙ ap (plus A) all) (z ∙ ap (λ (t : List ℕ). plus Z (inverted t)) all)) (omega arith)
+      | no l ↦
+          let none : last ≡ [] = last_is ∙ drop_of_length-le received (omega arith) in
+          rw (a ∙ ap (plus A) none ∙ plus_none A, z ∙ ap (λ (t : List ℕ). plus Z (inverted t)) none ∙ plus_none Z) (finish w.folding (omega arith))
+    ]

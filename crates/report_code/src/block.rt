@@ -10,7 +10,8 @@ pub fn control_bits(message: u32, out: &mut [u8])
 {
     let bits = coded_block(message);
     let length = out.len();
-    for at in (0..length).step_by(32) {
+    for turn in 0..length.div_ceil(32) {
+        let at = 32 * turn;
         let end = turn_end(at, length);
         let some = end - at;
         out[at..end].copy_from_slice(&bits[..some]);
@@ -18,7 +19,7 @@ pub fn control_bits(message: u32, out: &mut [u8])
 }
 
 // The end of the turn of 32 that starts at `at`, in a run of `length`.
-pub(crate) fn turn_end(at: usize, length: usize) -> usize
+fn turn_end(at: usize, length: usize) -> usize
     requires { at < length }
     ensures { (at < result) × (result ≤ length) × (result ≤ at + 32) × (result < length → result ≡ at + 32) }
 {

@@ -6,7 +6,7 @@ ghost use Rattle.laws.specs.Lists.{tab};
 ghost use Rattle.report_code.specs.inner.Counts.{inverted, plus, digits, plane, plane_distance};
 ghost use Rattle.report_code.specs.inner.Counted.{Counted};
 
-use super::block::{packed, turn_end};
+use super::block::packed;
 
 // The counts of a 1 and of a 0 at each of the 32 places.
 // kept: two arrays side by side, not one of pairs: a plane is made of all counts of one kind, which then stand next to one another.
@@ -16,16 +16,19 @@ pub struct Counts {
     pub zeros: [u16; 32],
 }
 
+// The counts over a received run, turn by turn. Whole turns are counted by themselves: the compiler knows their length.
 pub(crate) fn counted(control: &[u8]) -> Counts
     requires { (length control.now ≤ 16384) × AreBits control.now }
     ensures { Counted control.now result.ones result.zeros }
 {
     let mut ones = [0u16; 32];
     let mut zeros = [0u16; 32];
-    for at in (0..control.len()).step_by(32) {
-        let end = turn_end(at, control.len());
-        count_turn(&control[at..end], &mut ones, &mut zeros);
+    let turns = control.chunks_exact(32);
+    let last = turns.remainder();
+    for turn in turns {
+        count_turn(turn, &mut ones, &mut zeros);
     }
+    count_turn(last, &mut ones, &mut zeros);
     Counts { ones, zeros }
 }
 
