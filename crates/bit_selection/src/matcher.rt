@@ -196,7 +196,9 @@ fn repeat_many(ring: &[u8], out: &mut [u8])
     repeat(&turns[..n], out);
 }
 
-// Fills `out` with the ring turn after turn, in the way that is faster.
+// Fills `out` with the ring turn after turn, in the way that is faster. Marked to be a part of its callers: in `match_in`, which made the ring, the
+// compiler then knows that `out` lies elsewhere.
+#[inline(always)]
 fn fill(ring: &[u8], out: &mut [u8])
     requires { 0 < length ring.now }
     ensures { out.new ≡ tab (length out.old) (turn_after_turn ring.now) }
@@ -208,7 +210,8 @@ fn fill(ring: &[u8], out: &mut [u8])
     repeat(ring, out);
 }
 
-// The same for any ring; an empty one leaves `out` as it is.
+// The same for any ring; an empty one leaves `out` as it is. Marked not to be a part of its caller: as one it made a control message up to a sixth slower.
+#[inline(never)]
 pub fn turn_after_turn(ring: &[u8], out: &mut [u8])
     ensures { out.new ≡ repeated_into ring.now out.old }
 {
